@@ -1,0 +1,106 @@
+-- The code's test of an operand's range, turned into what `dekker-is-fused` asks. Assumes nothing.
+use mathlib.Core.Path.{_≡_, refl, sym, ap, subst, _∙_}
+use mathlib.Core.Logic.{_⊎_, inl, inr}
+use mathlib.Core.Bool.{Bool, true, false, cond, false≢true}
+use Prim.Native.Nat.{ℕ, zero, suc, _+_, _*_, _≤_, _<_, zero-le}
+use native.Mathlib.Nat.{le-trans, le-of-eq, zero-mul, mul-one, add-zero, zero-add, lt-irrefl, lt-of-lt-of-le}
+use native.Mathlib.Omega.{arith}
+use lib.IntN.{ℤ, pos}
+use lib.Dec.{T}
+use borrow.Author.Tests.{ltb-true, ltb-false}
+use lib.Ieee.{Float, nan, inf, fin, binary64, up, down, neg, lt, le, eq, fits, ofBits}
+use lib.Ieee.Positive.{num, den}
+use Rattle.float.specs.Number.{zero-float}
+use Rattle.float.specs.ProductError.{most, least, sized, in-range}
+use Rattle.float.specs.Laws.Le.{Le, le→Le}
+use Rattle.float.specs.Laws.Within.{Within, Beyond}
+use Rattle.float.specs.Laws.Zero.{zero-bits, zero-of, no-up}
+use Rattle.float.proofs.product_error.Bitwise.{Ranged, isZero}
+
+is : (x y : Float) → le x y ≡ true → T (le x y)
+is x y h = subst T (sym h) tt
+
+-- one product a side
+plain-le : (a b c d : ℕ) → a + 0 * b ≤ c + 0 * d → a ≤ c
+plain-le a b c d h = let p : 0 * b ≡ 0 = zero-mul b in let q : 0 * d ≡ 0 = zero-mul d in omega arith
+
+under : (m : ℕ) (e : ℤ) → le (fin false m e) most ≡ true → Within most (fin false m e)
+under m e h = record { real = tt; size = plain-le (num (fin false m e) * den most) (down e) (num most * down e) (den most) (le→Le (fin false m e) most tt tt (is (fin false m e) most h) .cross) }
+
+over : (m : ℕ) (e : ℤ) → le least (fin false m e) ≡ true → Beyond least (fin false m e)
+over m e h = record { real = tt; size = plain-le (num least * down e) (den least) (num (fin false m e) * den least) (down e) (le→Le least (fin false m e) tt tt (is least (fin false m e) h) .cross) }
+
+none : (s : Bool) (m : ℕ) (e : ℤ) → m ≡ 0 → T (isZero (fin s m e))
+none s m e h = subst (λ (n : ℕ). T (isZero (fin s n e))) (sym h) tt
+
+abbrev Kind : Float → Type 0
+Kind x = Within most x × (T (isZero x) ⊎ Beyond least x)
+
+sized-is : (m : ℕ) (e : ℤ) → sized (fin false m e) ≡ true → Kind (fin false m e)
+unfolding sized
+sized-is m e h = go (le (fin false m e) most) (le least (fin false m e)) refl refl h
+  where
+    go : (a b : Bool) → le (fin false m e) most ≡ a → le least (fin false m e) ≡ b → cond a (cond b true (eq (fin false m e) zero-float)) false ≡ true → Kind (fin false m e)
+    go false b p q h = absurd (false≢true h)
+    go true true p q h = (under m e p, inr (over m e q))
+    go true false p q h = (under m e p, inl (none false m e (zero-of false m e (ap (eq (fin false m e)) zero-bits ∙ h))))
+
+-- minus a magnitude has the same size
+turned : (m : ℕ) (e : ℤ) → Kind (fin false m e) → Kind (fin true m e)
+turned m e h = (record { real = tt; size = h .0 .size }, side (h .1))
+  where
+    zero-too : (m : ℕ) → T (isZero (fin false m e)) → T (isZero (fin true m e))
+    zero-too zero t = tt
+    zero-too (suc m) t = absurd t
+
+    side : T (isZero (fin false m e)) ⊎ Beyond least (fin false m e) → T (isZero (fin true m e)) ⊎ Beyond least (fin true m e)
+    side (inl t) = inl (zero-too m t)
+    side (inr b) = inr (record { real = tt; size = b .size })
+
+-- a value below zero, and one that is not, by its sign
+below-zero : (m : ℕ) (e : ℤ) → lt (fin false m e) zero-float ≡ true → ⊥
+unfolding lt
+below-zero m e h = lt-irrefl 0 (lt-of-lt-of-le (le-trans-lt (m * up e * 1) (ltb-true (m * up e * 1) (0 * 1 * down e) h)) (le-of-eq (zero-mul (down e))))
+  where
+    le-trans-lt : (a : ℕ) → a < 0 * 1 * down e → 0 < 0 * 1 * down e
+    le-trans-lt a l = omega arith
+
+minus-zero : (m : ℕ) (e : ℤ) → lt (fin true m e) zero-float ≡ false → m ≡ 0
+unfolding lt
+minus-zero m e h = no-up m e (small (m * up e) (0 * 1 * down e) (ltb-false 0 (m * up e * 1 + 0 * 1 * down e) h))
+  where
+    small : (a b : ℕ) → a * 1 + b ≤ 0 → a ≡ 0
+    small a b l = omega arith
+
+kind : (x : Float) → in-range x ≡ true → Kind x
+unfolding in-range
+kind nan h = absurd (false≢true (sym nothing ∙ h))
+  where
+    nothing : cond (lt nan zero-float) (sized (neg nan)) (sized nan) ≡ false
+    nothing = unfold lt le sized neg eq in refl
+kind (inf true) h = absurd (false≢true (sym nothing ∙ h))
+  where
+    nothing : cond (lt (inf true) zero-float) (sized (neg (inf true))) (sized (inf true)) ≡ false
+    nothing = unfold lt le sized neg eq in refl
+kind (inf false) h = absurd (false≢true (sym nothing ∙ h))
+  where
+    nothing : cond (lt (inf false) zero-float) (sized (neg (inf false))) (sized (inf false)) ≡ false
+    nothing = unfold lt le sized neg eq in refl
+kind (fin true m e) h = go (lt (fin true m e) zero-float) refl h
+  where
+    minus : neg (fin true m e) ≡ fin false m e
+    minus = unfold neg in refl
+
+    go : (b : Bool) → lt (fin true m e) zero-float ≡ b → cond b (sized (neg (fin true m e))) (sized (fin true m e)) ≡ true → Kind (fin true m e)
+    go true p h = turned m e (sized-is m e (ap sized (sym minus) ∙ h))
+    go false p h =
+        let z = minus-zero m e p in
+        (record { real = tt; size = subst (λ (n : ℕ). n * up e * den most ≤ num most * down e) (sym z) (le-trans (le-of-eq (ap (λ (n : ℕ). n * den most) (zero-mul (up e)) ∙ zero-mul (den most))) zero-le) }, inl (none true m e z))
+kind (fin false m e) h = go (lt (fin false m e) zero-float) refl h
+  where
+    go : (b : Bool) → lt (fin false m e) zero-float ≡ b → cond b (sized (neg (fin false m e))) (sized (fin false m e)) ≡ true → Kind (fin false m e)
+    go true p h = absurd (below-zero m e p)
+    go false p h = sized-is m e h
+
+pub ranged : (x : Float) → T (fits binary64 x) → in-range x ≡ true → Ranged x
+ranged x t h = let k = kind x h in record { ok = t; size = k .0; kind = k .1 }

@@ -1,0 +1,12 @@
+pub mod Sign
+pub mod Like
+pub mod Le
+pub mod Within
+pub mod Interval
+pub mod Units
+pub mod Near
+pub mod Error
+pub mod MulAdd
+pub mod Total
+pub mod Tests
+pub mod Zero

@@ -1,0 +1,25 @@
+-- The error of a rounded product, which compensated arithmetic lives on. Definitions only.
+use mathlib.Core.Bool.{Bool, true, false, cond}
+use lib.IntN.{pos, negsuc}
+use lib.Ieee.{Float, fin, binary64, neg, mul, lt, le, eq}
+use Rattle.float.specs.Number.{zero-float}
+use Rattle.float.specs.MulAdd.{mul-add}
+
+-- The fused product of a, b and minus their rounded product.
+abbrev pub product-error : Float → Float → Float
+product-error a b = mul-add binary64 a b (neg (mul binary64 a b))
+
+-- 2 ^ 400 and 2 ^ -400
+abbrev pub most : Float
+most = fin false 1 (pos 400)
+
+abbrev pub least : Float
+least = fin false 1 (negsuc 399)
+
+-- Whether Dekker's halves serve an operand: it is zero, or from 2 ^ -400 to 2 ^ 400 in magnitude. `sized` tests a magnitude.
+unfoldable pub sized : Float → Bool
+sized m = cond (le m most) (cond (le least m) true (eq m zero-float)) false
+
+unfoldable pub in-range : Float → Bool
+unfolding sized
+in-range x = cond (lt x zero-float) (sized (neg x)) (sized x)

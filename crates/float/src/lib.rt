@@ -1,0 +1,7 @@
+// The float floor of document 01: its module 1. specs/Lib.antt says which files define what.
+pub mod interface;
+pub mod mul_add;
+pub mod number;
+pub mod product_error;
+pub mod sqrt;
+pub mod wide;

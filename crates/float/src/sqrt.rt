@@ -1,0 +1,118 @@
+// The square root of IEEE 754, in integers: the nearest whole number to the root of the digits.
+ghost use mathlib.Core.Path.{_≡_};
+ghost use Prim.Native.Nat.{_*_, _^_, _≤_, _<_};
+ghost use lib.Dec.{T, ltb};
+ghost use mathlib.Core.Bool.{not, false};
+ghost use lib.Ieee.{binary64, units, isNan};
+ghost use Rattle.float.specs.Sqrt as Sqrt;
+ghost use Rattle.float.specs.Parts.{Roots};
+use crate::mul_add::split;
+use crate::wide::less;
+use crate::wide::product;
+
+// u * v < m * 2^52.
+pub fn below(u: u64, v: u64, m: u64) -> bool
+    ensures { λ r. ⌜ r ≡ ltb (u * v) (m * 2 ^ 52) ⌝ }
+{
+    let p = product(u, v);
+    less(p.hi, p.lo, m >> 12, m << 52)
+}
+
+// The 53 digits of x as a whole number.
+pub fn digits(x: f64) -> u64
+    requires { ⌜ T (not (isNan x)) ⌝ }
+    ensures { λ r. ⌜ (2 ^ 52 ≤ r) × (r ≤ 2 ^ 53) ⌝ }
+{
+    (f64::to_bits(x) & 0xf_ffff_ffff_ffff) + 0x10_0000_0000_0000
+}
+
+// A first guess at the whole number nearest to the square root of m * 2^52: nothing is said of it
+// but its range. The fast inverse square root, and four steps of Newton's method, on m as a float,
+// whose pattern is made from m.
+pub fn guess(m: u64) -> u64
+    requires { ⌜ (2 ^ 52 ≤ m) × (m < 2 ^ 54) ⌝ }
+    ensures { λ r. ⌜ (2 ^ 52 ≤ r) × (r ≤ 2 ^ 53) ⌝ }
+{
+    let bits = if m < 0x20_0000_0000_0000 {
+        m + 0x4320_0000_0000_0000
+    } else {
+        (m >> 1) + 0x4330_0000_0000_0000
+    };
+    let f = f64::from_bits(bits);
+    let h = f * 0.5;
+    let y = f64::from_bits(0x5fe6_eb50_c7b5_37a9 - (bits >> 1));
+    let y = y * (1.5 - h * y * y);
+    let y = y * (1.5 - h * y * y);
+    let y = y * (1.5 - h * y * y);
+    let y = y * (1.5 - h * y * y);
+    // g is between 2^26 and 2^27, and its digits are those of the guess
+    let g = f * y;
+    if g >= 134217728.0 {
+        return 0x20_0000_0000_0000;
+    }
+    if g >= 67108864.0 {
+        return digits(g);
+    }
+    0x10_0000_0000_0000
+}
+
+// The whole number nearest to the square root of m * 2^52, for m from 2^52 to 2^54: that of which
+// the squares of the two middles beside it, less a quarter, have m * 2^52 between them.
+pub fn root(m: u64) -> u64
+    requires { ⌜ (2 ^ 52 ≤ m) × (m < 2 ^ 54) ⌝ }
+    ensures { λ r. ⌜ Roots (m * 2 ^ 52) r ⌝ }
+{
+    let mut q = guess(m);
+    while !below(q, q - 1, m) {
+        q -= 1;
+    }
+    while below(q, q + 1, m) {
+        q += 1;
+    }
+    q
+}
+
+// The shift that gives q all its 53 digits.
+pub fn lift(q: u64) -> u64
+    requires { ⌜ (0 < q) × (q < 2 ^ 53) ⌝ }
+    ensures { λ r. ⌜ (r ≤ 52) × (2 ^ 52 ≤ q * 2 ^ r) × (q * 2 ^ r < 2 ^ 53) ⌝ }
+{
+    u64::leading_zeros(q) as u64 - 11
+}
+
+// q * 2^k units, for a q of 53 digits, or one up.
+pub fn write(q: u64, k: u64) -> f64
+    requires { ⌜ (2 ^ 52 ≤ q) × (q ≤ 2 ^ 53) × (k ≤ 2045) ⌝ }
+    ensures { λ r. ⌜ r ≡ units binary64 false q k ⌝ }
+{
+    f64::from_bits(k * 0x10_0000_0000_0000 + q)
+}
+
+// The square root of x, rounded.
+pub fn sqrt(x: f64) -> f64
+    ensures { λ r. ⌜ r ≡ Sqrt.sqrt binary64 x ⌝ }
+{
+    if x != x {
+        return x;
+    }
+    if x == 0.0 {
+        return x;
+    }
+    if x < 0.0 {
+        return 0.0 / 0.0;
+    }
+    if x - x != 0.0 {
+        return x;
+    }
+    // x is m * 2^52 times 2^-1178 times 2^t, whose root is that of m * 2^52, or of 2 * m * 2^52 where
+    // t is odd, times 2^(t / 2 + 485) units
+    let p = split(x);
+    let i = lift(p.q);
+    let m = p.q << i;
+    let t = p.k + 52 - i;
+    if t % 2 == 0 {
+        write(root(m), t / 2 + 485)
+    } else {
+        write(root(m * 2), t / 2 + 485)
+    }
+}
