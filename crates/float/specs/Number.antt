@@ -60,4 +60,4 @@ floor (fin true m e) = minus (eqb (m * up e % down e) 0) (m * up e / down e)
 
 -- The same as 64 bits with a sign hold it, for every x, as Rust's `x.floor() as i64`: out of range the nearest end, and 0 for a NaN.
 unfoldable pub floor-i64 : Float → ℤ
-floor-i64 x = cond (lt x (neg end-float)) (negℤ (pos (2 ^ 63))) (cond (le end-float x) (pos (2 ^ 63 - 1)) (cond (isNan x) (pos 0) (floor x)))
+floor-i64 x = cond (le (neg end-float) x) (cond (lt x end-float) (floor x) (pos (2 ^ 63 - 1))) (cond (lt x zero-float) (negℤ (pos (2 ^ 63))) (pos 0))

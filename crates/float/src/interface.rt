@@ -81,6 +81,13 @@ pub extern "C" fn float_clamp(x: u64) -> u64
 }
 
 #[no_mangle]
+pub extern "C" fn float_floor(x: u64) -> i64
+    ensures { λ r. ⌜ r ≡ Number.floor-i64 (ofBits binary64 x) ⌝ }
+{
+    crate::number::floor(of_bits(x))
+}
+
+#[no_mangle]
 pub extern "C" fn float_mul_add(a: u64, b: u64, c: u64) -> u64
     ensures { λ r. ⌜ r ≡ toBits binary64 (mul-add binary64 (ofBits binary64 a) (ofBits binary64 b) (ofBits binary64 c)) ⌝ }
 {

@@ -118,3 +118,23 @@ pub fn clamp(x: f64) -> f64
     }
     x
 }
+
+// The greatest whole number not above x, or the nearest that an `i64` holds; 0 for a NaN.
+pub fn floor(x: f64) -> i64
+    ensures { λ r. ⌜ r ≡ Number.floor-i64 x ⌝ }
+{
+    if x >= -9223372036854775808.0 {
+        if x < 9223372036854775808.0 {
+            let whole = std::num::truncating_f64_to_i64(x);
+            if std::num::nearest_i64_to_f64(whole) > x {
+                return whole - 1;
+            }
+            return whole;
+        }
+        return 9223372036854775807;
+    }
+    if x < 0.0 {
+        return -9223372036854775808;
+    }
+    0
+}

@@ -1,0 +1,2 @@
+-- What the proof of `floor` uses.
+mod WholePart
