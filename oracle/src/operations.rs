@@ -1,0 +1,233 @@
+//! Document 01, operations and their refusals. An answer is the count, or
+//! minus the refusal's number.
+
+use crate::constraints::Constraints;
+use crate::float::{self, P};
+use crate::glam::{DQuat, DVec3};
+use crate::kinematics_impl::{ArmBranch, OPWKinematics};
+use crate::observe::{self, Notes};
+use crate::parameters::opw_kinematics::Parameters;
+use crate::pose::{Pose, PoseError};
+use crate::request::{self, Reads, Request};
+use crate::singularity::j1j2free::{self, Compensated};
+use crate::singularity::{j1free, j2free};
+
+/// The bytes of a trailer.
+pub const TRAILER: usize = 16;
+/// The bytes of a sheet beside its angles.
+pub const FRAME: usize = request::SIZE + TRAILER;
+/// The work places that the program lends.
+pub const PROGRAM_WORK: usize = 4096;
+/// The longest input that the program takes.
+pub const PROGRAM_INPUT: usize = 65536;
+
+/// Angles of a request, and what was noted while they were found.
+#[derive(Clone, Debug)]
+pub struct Sampled {
+    pub angles: Vec<f64>,
+    pub notes: Notes,
+}
+
+/// Refusals 2 to 8, or the fields with the normalized pose.
+fn accepted(bytes: &[u8; request::SIZE]) -> Result<(Request, Pose), i64> {
+    if !request::head_is_right(bytes) {
+        return Err(2);
+    }
+    let fields = request::fields(bytes);
+    let reads = Reads::of(bytes[0], bytes[1], bytes[2]);
+    // Whether a float that is read fails the test.
+    let fails = |reads: &[bool], floats: &[f64], test: fn(f64) -> bool| {
+        std::iter::zip(reads, floats).any(|(&read, &float)| read && !test(float))
+    };
+    if std::iter::zip(reads.signs, fields.signs)
+        .any(|(read, sign)| read && sign != 1 && sign != 255)
+    {
+        return Err(3);
+    }
+    let [x, y, z, w] = fields.rotation;
+    let pose = match Pose::try_from_parts(DVec3::ZERO, DQuat::from_xyzw(x, y, z, w)) {
+        Ok(pose) => pose,
+        Err(PoseError::ZeroRotation) => return Err(5),
+        Err(_) => return Err(4),
+    };
+    if fails(&reads.arm, &fields.arm, |angle| {
+        (-8.0..=8.0).contains(&angle)
+    }) {
+        return Err(6);
+    }
+    if fails(&reads.references, &fields.references, f64::is_finite) {
+        return Err(7);
+    }
+    if fails(&reads.signs, &fields.offsets, |offset| {
+        (-2.0 * P..=2.0 * P).contains(&offset)
+    }) {
+        return Err(8);
+    }
+    Ok((fields, pose))
+}
+
+/// The angles of accepted fields, every field as given, and the notes.
+fn angles(fields: &Request, pose: &Pose) -> Sampled {
+    let parameters = Parameters {
+        offsets: fields.offsets,
+        sign_corrections: fields.signs.map(|sign| sign as i8),
+    };
+    let constraints = fields
+        .limits
+        .then(|| Constraints::new(fields.from, fields.to, 0.0));
+    let robot = OPWKinematics::of(parameters, constraints);
+    let [q1, q2, q3] = fields.arm;
+    let arm = ArmBranch { q1, q2, q3 };
+    let reference = &fields.references;
+    let fixed = fields.fixed.then_some(0.0);
+    observe::reset();
+    let angles = match fields.kind {
+        1 => j1free::search(&robot, pose, arm, reference, fixed)
+            .iter()
+            .map(|arm| arm.q1)
+            .collect(),
+        2 => j2free::search(&robot, pose, arm, reference, fixed)
+            .iter()
+            .map(|arm| arm.q2)
+            .collect(),
+        _ => j1j2free::search(&robot, pose, q3, reference, fixed),
+    };
+    Sampled {
+        angles,
+        notes: observe::notes(),
+    }
+}
+
+/// Refusals 2 to 9, or the angles.
+pub fn sampled(bytes: &[u8; request::SIZE]) -> Result<Sampled, i64> {
+    let (fields, pose) = accepted(bytes)?;
+    let sampled = angles(&fields, &pose);
+    if sampled.notes.refused {
+        Err(9)
+    } else {
+        Ok(sampled)
+    }
+}
+
+/// Refusals 1 to 10, or the sheet.
+fn sheet(bytes: &[u8], work: usize) -> Result<Vec<u8>, i64> {
+    let bytes: &[u8; request::SIZE] = bytes.try_into().map_err(|_| 1)?;
+    let sampled = sampled(bytes)?;
+    if work < sampled.notes.cuts {
+        return Err(10);
+    }
+    let count = sampled.angles.len() as u32;
+    let mut sheet = Vec::new();
+    for &angle in &sampled.angles {
+        sheet.extend(float::bits(angle).to_le_bytes());
+    }
+    sheet.extend(request::blanked(bytes));
+    sheet.extend(count.to_le_bytes());
+    sheet.extend((8 * count).to_le_bytes());
+    sheet.extend(1u16.to_le_bytes());
+    sheet.extend([0; 6]);
+    Ok(sheet)
+}
+
+/// Sampling: writes the sheet of a request and returns the number of its angles.
+pub fn sample(request: &[u8], work: &mut [f64], output: &mut [u8]) -> i64 {
+    work.fill(0.0);
+    match sheet(request, work.len()) {
+        Err(refusal) => -refusal,
+        Ok(sheet) if output.len() < sheet.len() => -11,
+        Ok(sheet) => {
+            output[..sheet.len()].copy_from_slice(&sheet);
+            ((sheet.len() - FRAME) / 8) as i64
+        }
+    }
+}
+
+/// Which of 21 to 23 refuses these coefficients and bounds.
+pub fn roots_refusal(coefficients: &[f64], lower: f64, upper: f64) -> Option<i64> {
+    let bound = |bound: f64| (-4.0..=4.0).contains(&bound);
+    let most = f64::from_bits((1023 + 400) << 52);
+    if !coefficients.len().is_multiple_of(2) || coefficients.len() > 18 {
+        Some(21)
+    } else if !bound(lower) || !bound(upper) || lower > upper {
+        Some(22)
+    } else if coefficients
+        .iter()
+        .any(|part| !(-most..=most).contains(part))
+    {
+        Some(23)
+    } else {
+        None
+    }
+}
+
+/// Roots: writes the roots of a polynomial and returns their number.
+pub fn roots_op(coefficients: &[f64], lower: f64, upper: f64, result: &mut [f64]) -> i64 {
+    if let Some(refusal) = roots_refusal(coefficients, lower, upper) {
+        return -refusal;
+    }
+    let polynomial = coefficients
+        .chunks_exact(2)
+        .map(|pair| Compensated {
+            high: pair[0],
+            low: pair[1],
+        })
+        .collect();
+    let roots = j1j2free::roots(polynomial, lower, upper);
+    if result.len() < roots.len() {
+        return -24;
+    }
+    result[..roots.len()].copy_from_slice(&roots);
+    roots.len() as i64
+}
+
+/// The trailer's n, if length and trailer are right.
+fn trailed(sheet: &[u8]) -> Option<usize> {
+    let trailer = &sheet[sheet.len() - TRAILER..];
+    let word = |at: usize| u32::from_le_bytes(std::array::from_fn(|index| trailer[at + index]));
+    let (count, position) = (u64::from(word(0)), u64::from(word(4)));
+    let right = sheet.len() as u64 == 8 * count + FRAME as u64
+        && position == 8 * count
+        && trailer[8..] == [1, 0, 0, 0, 0, 0, 0, 0];
+    right.then_some(count as usize)
+}
+
+/// Check: whether a sheet is the one written for the request inside it.
+pub fn check(sheet: &[u8], work: &mut [f64]) -> i64 {
+    work.fill(0.0);
+    if sheet.len() < FRAME {
+        return -31;
+    }
+    let Some(count) = trailed(sheet) else {
+        return -32;
+    };
+    let bytes: [u8; request::SIZE] = std::array::from_fn(|index| sheet[8 * count + index]);
+    let Ok(sampled) = sampled(&bytes) else {
+        return -33;
+    };
+    if request::blanked(&bytes) != bytes {
+        return -34;
+    }
+    if work.len() < sampled.notes.cuts {
+        return -35;
+    }
+    let same = sampled.angles.len() == count
+        && (0..count)
+            .all(|index| float::bits(sampled.angles[index]) == request::word_at(sheet, 8 * index));
+    if same { count as i64 } else { -36 }
+}
+
+/// What the program prints for this standard input.
+pub fn program_output(input: &[u8]) -> String {
+    if input.len() > PROGRAM_INPUT {
+        return "too long\n".to_string();
+    }
+    let answer = check(input, &mut vec![0.0; PROGRAM_WORK]);
+    if answer < 0 {
+        return format!("refused {}\n", -answer);
+    }
+    let mut printed = format!("accepted {answer}\n");
+    for index in 0..answer as usize {
+        printed += &format!("{:016X}\n", request::word_at(input, 8 * index));
+    }
+    printed
+}

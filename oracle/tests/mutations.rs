@@ -1,0 +1,276 @@
+//! Document 01, 'Slips to rule out': each is built into a copy of the package,
+//! which must then answer the corpus otherwise than the package itself.
+//!
+//! The cases are generated once, by the package; a copy only answers them. To
+//! see which parts of the corpus catch a slip, add `-- --nocapture`.
+
+use lemongully_oracle::corpus;
+use std::collections::{BTreeMap, BTreeSet};
+use std::path::{Path, PathBuf};
+use std::process::Command;
+use std::sync::OnceLock;
+
+/// For each part, how many cases and the digest of their answers.
+type Digests = BTreeMap<String, (usize, u64)>;
+
+/// An edit of one file: the text must stand there exactly once.
+struct Slip {
+    name: &'static str,
+    file: &'static str,
+    text: &'static str,
+    slip: &'static str,
+}
+
+/// The file of cases, generated and kept, and the package's own digests.
+fn cases() -> &'static (PathBuf, Digests) {
+    static CASES: OnceLock<(PathBuf, Digests)> = OnceLock::new();
+    CASES.get_or_init(|| {
+        let kept = include_str!("cases/kept.txt");
+        let text = kept.to_string() + &corpus::text(&corpus::generated(1, 400));
+        let file = Path::new(env!("CARGO_TARGET_TMPDIR")).join("cases.txt");
+        std::fs::write(&file, &text).expect("cases are written");
+        let corpus = corpus::parse(&text).expect("a text of cases");
+        (file, corpus::digests(&corpus))
+    })
+}
+
+/// Copies a folder with all that is in it.
+fn copy(from: &Path, to: &Path) {
+    std::fs::create_dir_all(to).expect("a folder is made");
+    for entry in std::fs::read_dir(from).expect("a folder is read") {
+        let entry = entry.expect("an entry is read");
+        let target = to.join(entry.file_name());
+        if entry.path().is_dir() {
+            copy(&entry.path(), &target);
+        } else {
+            std::fs::copy(entry.path(), target).expect("a file is copied");
+        }
+    }
+}
+
+/// A fresh copy of the package without its tests.
+fn fresh(name: &str) -> PathBuf {
+    let package = Path::new(env!("CARGO_MANIFEST_DIR"));
+    let folder = Path::new(env!("CARGO_TARGET_TMPDIR")).join(name);
+    let _ = std::fs::remove_dir_all(&folder);
+    copy(&package.join("src"), &folder.join("src"));
+    copy(&package.join(".cargo"), &folder.join(".cargo"));
+    for file in ["Cargo.toml", "Cargo.lock"] {
+        std::fs::copy(package.join(file), folder.join(file)).expect("a file is copied");
+    }
+    folder
+}
+
+/// The digests that the copy in a folder gives.
+fn digests(folder: &Path) -> Digests {
+    let cargo = std::env::var_os("CARGO").unwrap_or("cargo".into());
+    let built = Command::new(cargo)
+        .args([
+            "build",
+            "--release",
+            "--offline",
+            "--quiet",
+            "--bin",
+            "corpus",
+        ])
+        .arg("--target-dir")
+        .arg(folder.join("target"))
+        .current_dir(folder)
+        .output()
+        .expect("cargo runs");
+    let errors = String::from_utf8_lossy(&built.stderr);
+    assert!(built.status.success(), "the copy does not build: {errors}");
+    let ran = Command::new(folder.join("target/release/corpus"))
+        .arg(&cases().0)
+        .output()
+        .expect("the copy runs");
+    assert!(ran.status.success(), "the copy fails");
+    let lines = String::from_utf8(ran.stdout).expect("text");
+    let digest = |line: &str| {
+        let words: Vec<&str> = line.split(' ').collect();
+        let digest = u64::from_str_radix(words[2], 16).expect("a digest");
+        (
+            words[0].to_string(),
+            (words[1].parse().expect("a count"), digest),
+        )
+    };
+    lines.lines().map(digest).collect()
+}
+
+/// The parts of the corpus that a slip's copy answers otherwise.
+fn caught(slip: Slip) -> BTreeSet<&'static str> {
+    let folder = fresh(slip.name);
+    let file = folder.join("src").join(slip.file);
+    let text = std::fs::read_to_string(&file).expect("the file is read");
+    assert_eq!(
+        text.matches(slip.text).count(),
+        1,
+        "the text must stand once"
+    );
+    std::fs::write(&file, text.replace(slip.text, slip.slip)).expect("the file is written");
+    let (own, found) = (&cases().1, digests(&folder));
+    let parts: BTreeSet<&str> = own
+        .keys()
+        .filter(|part| own[*part] != found[*part])
+        .map(String::as_str)
+        .collect();
+    println!("{} is caught by {parts:?}", slip.name);
+    std::fs::remove_dir_all(folder).expect("the copy is removed");
+    parts
+}
+
+/// Fails unless the slip is caught by each of these parts.
+fn is_caught(slip: Slip, by: &[&str]) {
+    let name = slip.name;
+    let parts = caught(slip);
+    for part in by {
+        assert!(parts.contains(part), "{part} does not catch {name}");
+    }
+}
+
+#[test]
+fn an_unedited_copy_answers_alike() {
+    let folder = fresh("unedited");
+    assert_eq!(digests(&folder), cases().1);
+    std::fs::remove_dir_all(folder).expect("the copy is removed");
+}
+
+#[test]
+fn sorting_each_interval() {
+    let slip = Slip {
+        name: "sorting-each-interval",
+        file: "singularity/continuum.rs",
+        text: "        result.extend(samples);\n",
+        slip: "        samples.sort_by(f64::total_cmp);\n        result.extend(samples);\n",
+    };
+    is_caught(slip, &["generated-one-free", "kept-order"]);
+}
+
+#[test]
+fn sorting_all_samples() {
+    let slip = Slip {
+        name: "sorting-all-samples",
+        file: "singularity/continuum.rs",
+        text: "    // with the ordinary arm branches in the caller.\n",
+        slip: "    result.sort_by(f64::total_cmp);\n",
+    };
+    is_caught(slip, &["generated-one-free", "kept-order"]);
+}
+
+#[test]
+fn dropping_an_end_beside_its_equal() {
+    let slip = Slip {
+        name: "dropping-an-end-beside-its-equal",
+        file: "singularity/continuum.rs",
+        text: "    // with the ordinary arm branches in the caller.\n",
+        slip: "    result.dedup();\n",
+    };
+    is_caught(slip, &["generated-one-free", "kept-end-twice"]);
+}
+
+#[test]
+fn dropping_every_second_end() {
+    let slip = Slip {
+        name: "dropping-every-second-end",
+        file: "singularity/continuum.rs",
+        text: "        result.extend(samples);\n",
+        slip: "        samples.retain(|angle| !result.contains(angle));\n        result.extend(samples);\n",
+    };
+    is_caught(slip, &["generated-one-free", "kept-end-twice"]);
+}
+
+#[test]
+fn leaving_out_an_interval_of_one_angle() {
+    let slip = Slip {
+        name: "leaving-out-an-interval-of-one-angle",
+        file: "kinematics_impl.rs",
+        text: "tolerance >= 0.0 && lower <= upper)",
+        slip: "tolerance >= 0.0 && (lower < upper || tolerance == 0.0))",
+    };
+    is_caught(slip, &["generated-one-free", "kept-end-twice"]);
+}
+
+#[test]
+fn moving_cuts_into_their_half() {
+    let slip = Slip {
+        name: "moving-cuts-into-their-half",
+        file: "singularity/j1j2free.rs",
+        text: ".map(|root| origin + 2.0 * trig::atan(root)),",
+        slip: ".map(|root| (origin + 2.0 * trig::atan(root)).max(lower).min(upper)),",
+    };
+    is_caught(slip, &["kept-half"]);
+}
+
+#[test]
+fn dropping_cuts_beyond_their_half() {
+    let slip = Slip {
+        name: "dropping-cuts-beyond-their-half",
+        file: "singularity/j1j2free.rs",
+        text: "        let mut cuts = critical_slices(&curves, lo, hi);\n",
+        slip: "        let mut cuts = critical_slices(&curves, lo, hi);\n        \
+               cuts.retain(|&angle| lo <= angle && angle <= hi);\n",
+    };
+    is_caught(slip, &["kept-half"]);
+}
+
+/// No sheet shows this one: it shows in Roots alone, where a bound is a zero.
+#[test]
+fn keeping_plus_zero_beside_minus_zero() {
+    let slip = Slip {
+        name: "keeping-plus-zero-beside-minus-zero",
+        file: "singularity/j1j2free.rs",
+        text: "    partitions.dedup();\n",
+        slip: "    partitions.reverse();\n    partitions.dedup();\n    partitions.reverse();\n",
+    };
+    let parts = caught(slip);
+    assert!(parts.contains("kept-zero") && parts.contains("generated-roots"));
+    assert_eq!(parts.len(), 2);
+}
+
+#[test]
+fn an_unfused_product() {
+    let slip = Slip {
+        name: "an-unfused-product",
+        file: "singularity/j1j2free.rs",
+        text: "self.high.mul_add(other.high, -product)",
+        slip: "(self.high * other.high - product)",
+    };
+    is_caught(
+        slip,
+        &["generated-roots", "generated-two-free", "kept-product"],
+    );
+}
+
+#[test]
+fn leaving_out_a_reference_of_kind_3() {
+    let slip = Slip {
+        name: "leaving-out-a-reference-of-kind-3",
+        file: "singularity/j1j2free.rs",
+        text: "    let mut slices = vec![model_reference, lower, upper];\n",
+        slip: "    let mut slices = vec![model_reference, lower, upper];\n    \
+               slices.retain(|&angle| lower <= angle && angle <= upper);\n",
+    };
+    is_caught(slip, &["generated-two-free", "kept-reference"]);
+}
+
+#[test]
+fn keeping_a_reference_of_kinds_1_and_2() {
+    let slip = Slip {
+        name: "keeping-a-reference-of-kinds-1-and-2",
+        file: "singularity/continuum.rs",
+        text: "    // with the ordinary arm branches in the caller.\n",
+        slip: "    if !result.contains(&near) {\n        result.push(near);\n    }\n",
+    };
+    is_caught(slip, &["generated-one-free", "kept-reference"]);
+}
+
+#[test]
+fn cutting_every_interval_at_the_reference() {
+    let slip = Slip {
+        name: "cutting-every-interval-at-the-reference",
+        file: "singularity/continuum.rs",
+        text: "        let mut cuts = vec![lower, upper];\n",
+        slip: "        let mut cuts = vec![lower, upper, near];\n",
+    };
+    is_caught(slip, &["generated-one-free", "kept-reference"]);
+}

@@ -1,0 +1,232 @@
+//! What holds of every call, tried over generated ones.
+
+use lemongully_oracle::corpus::{self, Answer, Case};
+use lemongully_oracle::generate::requests::{self, Draft};
+use lemongully_oracle::generate::{Random, roots, sheets};
+use lemongully_oracle::operations::{self, FRAME};
+use lemongully_oracle::request::{self, SIZE};
+use std::collections::BTreeSet;
+
+const SEED: u64 = 20;
+const ONE_FREE: u64 = 20_000;
+const TWO_FREE: u64 = 250;
+
+/// Requests of 264 bytes, accepted or not.
+fn requests() -> impl Iterator<Item = [u8; SIZE]> {
+    let one = (0..ONE_FREE).map(|index| requests::request(SEED, index, &[1, 2]));
+    let two = (0..TWO_FREE).map(|index| requests::request(SEED, index, &[3]));
+    one.chain(two).filter_map(|bytes| bytes.try_into().ok())
+}
+
+/// Sampling with room enough: the answer and the output.
+fn sampled(bytes: &[u8]) -> (i64, Vec<u8>) {
+    let (mut work, mut output) = (vec![f64::NAN; 8192], vec![0x5A; 32768]);
+    let answer = operations::sample(bytes, &mut work, &mut output);
+    assert!(work.iter().all(|place| place.to_bits() == 0));
+    (answer, output)
+}
+
+/// Calls of sampling with lent lengths of all sorts.
+fn sample_calls() -> impl Iterator<Item = requests::Call> {
+    let one = (0..ONE_FREE).map(|index| requests::call(SEED, index, &[1, 2]));
+    one.chain((0..TWO_FREE / 4).map(|index| requests::call(SEED, index, &[3])))
+}
+
+#[test]
+fn refused_sampling_leaves_the_output_and_clears_work() {
+    let mut refusals = BTreeSet::new();
+    for call in sample_calls() {
+        let places = call.work;
+        let before: Vec<u64> = {
+            let untouched: Vec<u8> = (0..call.output).map(|at| (at % 251) as u8).collect();
+            untouched.chunks(8).map(little).collect()
+        };
+        let Answer { number, words } = Case::Sample(call).answer();
+        assert!(words[..places].iter().all(|&place| place == 0));
+        if number < 0 {
+            assert_eq!(words[places..], before);
+            refusals.insert(-number);
+        } else {
+            let size = number as usize + FRAME / 8;
+            assert!(words.len() - places >= size);
+            assert_eq!(words[places + size..], before[size..]);
+        }
+    }
+    let expected = [1, 2, 3, 4, 5, 6, 7, 8, 10, 11];
+    assert_eq!(refusals.into_iter().collect::<Vec<_>>(), expected);
+}
+
+/// Up to eight bytes as a number, the first lowest.
+fn little(bytes: &[u8]) -> u64 {
+    bytes
+        .iter()
+        .rev()
+        .fold(0, |word, &byte| word << 8 | u64::from(byte))
+}
+
+#[test]
+fn exactly_the_counted_room_suffices() {
+    for bytes in requests().step_by(7) {
+        let Ok(found) = operations::sampled(&bytes) else {
+            continue;
+        };
+        let (cuts, size) = (found.notes.cuts, 8 * found.angles.len() + FRAME);
+        let mut output = vec![0; size];
+        let mut work = vec![1.0; cuts];
+        let count = operations::sample(&bytes, &mut work, &mut output);
+        assert_eq!(count, found.angles.len() as i64);
+        assert_eq!(operations::check(&output, &mut work), count);
+        assert_eq!(
+            operations::sample(&bytes, &mut work, &mut vec![0; size - 1]),
+            -11
+        );
+        if cuts > 0 {
+            let short = &mut work[..cuts - 1];
+            assert_eq!(operations::sample(&bytes, short, &mut output), -10);
+            assert_eq!(operations::check(&output, short), -35);
+        }
+    }
+}
+
+#[test]
+fn check_accepts_what_sampling_writes() {
+    for bytes in requests() {
+        let (answer, output) = sampled(&bytes);
+        if answer >= 0 {
+            let sheet = &output[..8 * answer as usize + FRAME];
+            assert_eq!(operations::check(sheet, &mut vec![0.5; 8192]), answer);
+        }
+    }
+}
+
+#[test]
+fn unread_fields_do_not_matter() {
+    for (index, bytes) in requests().enumerate() {
+        let mut other = Draft { bytes };
+        other.scramble_unread(&mut Random::new(SEED, index as u64));
+        assert_eq!(request::blanked(&other.bytes), request::blanked(&bytes));
+        assert_eq!(sampled(&other.bytes), sampled(&bytes));
+    }
+}
+
+#[test]
+fn read_fields_are_in_the_sheet() {
+    for (index, bytes) in requests().filter(|bytes| bytes[0] < 3).enumerate() {
+        let (answer, output) = sampled(&bytes);
+        if answer < 0 {
+            continue;
+        }
+        let random = &mut Random::new(SEED + 1, index as u64);
+        let read = request::read_bytes(&bytes);
+        let position = random.below(SIZE);
+        let mut other = bytes;
+        other[position] ^= 1 << random.below(8);
+        let (changed, sheet) = sampled(&other);
+        if changed >= 0 {
+            assert_eq!(sheet == output, !read[position]);
+        }
+    }
+}
+
+#[test]
+fn angles_are_finite_and_within_two_turns() {
+    for bytes in requests() {
+        if let Ok(found) = operations::sampled(&bytes) {
+            let bound = 2.0 * std::f64::consts::PI;
+            assert!(found.angles.iter().all(|angle| angle.abs() <= bound));
+            assert!(found.angles.iter().all(|angle| angle.to_bits() != 1 << 63));
+            if bytes[0] == 3 {
+                assert!(found.angles.windows(2).all(|pair| pair[0] < pair[1]));
+            }
+        }
+    }
+}
+
+#[test]
+fn roots_answers_are_in_order_and_between_the_bounds() {
+    let mut refusals = BTreeSet::new();
+    for call in roots::calls(SEED, 6000) {
+        let answer = Case::Roots(call.clone()).answer();
+        let untouched = 7.5f64.to_bits();
+        if answer.number < 0 {
+            refusals.insert(-answer.number);
+            assert!(answer.words.iter().all(|&word| word == untouched));
+            continue;
+        }
+        let (roots, rest) = answer.words.split_at(answer.number as usize);
+        assert!(rest.iter().all(|&word| word == untouched));
+        let roots: Vec<f64> = roots.iter().map(|&root| f64::from_bits(root)).collect();
+        assert!(
+            roots
+                .iter()
+                .all(|&root| call.lower <= root && root <= call.upper)
+        );
+        assert!(roots.windows(2).all(|pair| pair[0] < pair[1]));
+        let most = degree(&call.coefficients).map_or(0, |degree| (2 << degree) - 3);
+        assert!(roots.len() <= most);
+    }
+    assert_eq!(refusals.into_iter().collect::<Vec<_>>(), [21, 22, 23, 24]);
+}
+
+/// The degree after trimming, if it is at least 1.
+fn degree(coefficients: &[f64]) -> Option<usize> {
+    coefficients
+        .chunks_exact(2)
+        .rposition(|pair| pair[0] != 0.0 || pair[1] != 0.0)
+        .filter(|&degree| degree > 0)
+}
+
+#[test]
+fn check_of_damaged_sheets() {
+    let mut refusals = BTreeSet::new();
+    let calls = sheets::calls(SEED, 4000, &[1, 2]);
+    for call in calls.into_iter().chain(sheets::calls(SEED, 60, &[3])) {
+        let sheet = call.sheet.clone();
+        let Answer { number, words } = Case::Check(call).answer();
+        assert!(words.iter().all(|&place| place == 0));
+        if number < 0 {
+            refusals.insert(-number);
+            continue;
+        }
+        // Accepted is exactly the sheet written for the request inside.
+        let inside = &sheet[sheet.len() - FRAME..][..SIZE];
+        let (answer, output) = sampled(inside);
+        assert_eq!(answer, number);
+        assert_eq!(output[..sheet.len()], sheet[..]);
+    }
+    let expected = [31, 32, 33, 34, 35, 36];
+    assert_eq!(refusals.into_iter().collect::<Vec<_>>(), expected);
+}
+
+#[test]
+fn any_bytes_are_answered() {
+    let random = &mut Random::new(SEED, 0);
+    let work = &mut [0.0; 64];
+    for _ in 0..20_000 {
+        let mut bytes: Vec<u8> = (0..SIZE).map(|_| random.bits() as u8).collect();
+        bytes[..4].copy_from_slice(&[1 + random.below(2) as u8, 1, random.below(2) as u8, 0]);
+        bytes[4..10].fill(1);
+        bytes[10..16].fill(0);
+        // Exponents near 1, so that the rotation is accepted.
+        for part in 0..4 {
+            bytes[request::ROTATION + 8 * part + 7] &= 0xBF;
+        }
+        operations::sample(&bytes, work, &mut [0; 64]);
+        let words: Vec<f64> = (0..random.below(20))
+            .map(|_| f64::from_bits(random.bits()))
+            .collect();
+        let bounds = [random.within(4.5), f64::from_bits(random.bits())];
+        operations::roots_op(&words, bounds[0], bounds[1], work);
+        operations::roots_op(&words, bounds[0], 4.0, work);
+        operations::check(&bytes, work);
+        corpus::floor_and_trigonometry([(); 3].map(|()| random.bits()));
+    }
+}
+
+#[test]
+fn cases_keep_their_meaning_as_text() {
+    let corpus = corpus::generated(SEED, 3);
+    let again = corpus::parse(&corpus::text(&corpus)).expect("a text of cases");
+    assert_eq!(corpus::digests(&again), corpus::digests(&corpus));
+    assert_eq!(corpus::text(&again), corpus::text(&corpus));
+}
