@@ -1,0 +1,137 @@
+// Replays stored samples of the float floor: reads lines of text from standard input, works each
+// sample out anew, and prints a line for each function: its name, its samples, and how many differ.
+// The last line is the number of bytes from the first line on that is no sample.
+//
+// A line is the function's letter, its operands and the expected result, each of the words a space
+// and 16 capital hexadecimal digits: a float by its bits, a test by 1 for yes and 0 for no, and
+// floor's whole number in two's complement.
+//
+//     B bits                A abs           N minimum    L floor
+//     F is_finite           T total_le      X maximum    M mul_add
+//     P is_sign_positive    R rem_euclid    C clamp      S sqrt
+//                                                        E product_error
+//
+// The lines are written by `cargo run --release --offline --bin samples` in oracle/: the same
+// samples every time, with the results of Rust's own f64.
+mod functions;
+mod text;
+
+use crate::functions::one;
+use crate::functions::three;
+use crate::functions::two;
+use crate::text::line;
+use crate::text::word;
+use libc::STDIN_FILENO;
+use libc::STDOUT_FILENO;
+ghost use mathlib.Core.Path.{_≡_};
+ghost use Prim.Native.Nat.{_+_, _*_, _≤_};
+ghost use lib.ListN.{length};
+
+// How many samples there are of a function, and how many differ.
+pub struct Tally {
+    pub samples: u64,
+    pub differing: u64,
+}
+
+// Whether the sample of k operands at `at` has the result that the library gives. Its line has
+// 17 * k + 19 bytes: the letter, k + 1 times a space and a word, and the end.
+fn agrees(s: &[u8], at: usize, k: usize) -> bool
+    requires { ⌜ at + 17 * k + 19 ≤ length (now s) ⌝ }
+{
+    let letter = s[at];
+    let expected = word(s, at + 17 * k + 2);
+    if k < 1 {
+        return false;
+    }
+    let a = word(s, at + 2);
+    if k < 2 {
+        return one(letter, a) == expected;
+    }
+    let b = word(s, at + 19);
+    if k < 3 {
+        return two(letter, a, b) == expected;
+    }
+    three(a, b, word(s, at + 36)) == expected
+}
+
+// 1 for a sample whose result is another, else 0.
+fn differs(s: &[u8], at: usize, k: usize) -> u64
+    requires { ⌜ at + 17 * k + 19 ≤ length (now s) ⌝ }
+    ensures { λ r. ⌜ r ≤ 1 ⌝ }
+{
+    if agrees(s, at, k) { 0 } else { 1 }
+}
+
+// The samples of a letter.
+fn counted(s: &[u8], letter: u8) -> Tally {
+    let mut samples = 0u64;
+    let mut differing = 0u64;
+    let mut at = 0usize;
+    while at < s.len() {
+        let k = line(s, at);
+        if k < 1 {
+            break;
+        }
+        if s[at] == letter {
+            samples += 1;
+            differing += differs(s, at, k);
+        }
+        at += 17 * k + 19;
+    }
+    Tally { samples, differing }
+}
+
+// The bytes from the first line on that is no sample.
+fn unread(s: &[u8]) -> usize {
+    let mut at = 0usize;
+    while at < s.len() {
+        let k = line(s, at);
+        if k < 1 {
+            return s.len() - at;
+        }
+        at += 17 * k + 19;
+    }
+    0
+}
+
+fn report(s: &[u8], letter: u8, name: &[u8]) {
+    let t = counted(s, letter);
+    io::write_all(STDOUT_FILENO, name);
+    io::write_all(STDOUT_FILENO, &[b' ']);
+    io::print_decimal(STDOUT_FILENO, t.samples);
+    io::write_all(STDOUT_FILENO, &[b' ']);
+    io::print_decimal(STDOUT_FILENO, t.differing);
+    io::write_all(STDOUT_FILENO, &[b'\n']);
+}
+
+fn replay(s: &[u8]) {
+    report(s, b'B', b"bits");
+    report(s, b'F', b"is_finite");
+    report(s, b'P', b"is_sign_positive");
+    report(s, b'A', b"abs");
+    report(s, b'T', b"total_le");
+    report(s, b'R', b"rem_euclid");
+    report(s, b'N', b"minimum");
+    report(s, b'X', b"maximum");
+    report(s, b'C', b"clamp");
+    report(s, b'L', b"floor");
+    report(s, b'M', b"mul_add");
+    report(s, b'S', b"sqrt");
+    report(s, b'E', b"product_error");
+    io::write_all(STDOUT_FILENO, b"unread ");
+    io::print_decimal(STDOUT_FILENO, unread(s) as u64);
+    io::write_all(STDOUT_FILENO, &[b'\n']);
+}
+
+// Room for the text, 2 MiB.
+fn room() -> [u8; 2097152]
+    ensures { λ r. ⌜ 2097152 ≡ length r ⌝ }
+{
+    [0; 2097152]
+}
+
+fn main() {
+    let mut text = room();
+    let n = io::read_full(STDIN_FILENO, &mut text);
+    replay(&text[..n]);
+}
