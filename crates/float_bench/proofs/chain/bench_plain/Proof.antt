@@ -1,0 +1,36 @@
+-- `float_bench::chain::bench_plain` meets its contract: h is i steps from the start. Assumes nothing.
+use Prim.Native.Nat.{_≤_, _-_}
+use native.Mathlib.Numerals.{add-one}
+use native.Mathlib.Omega.{arith}
+use mathlib.Core.Path.{_≡_, refl}
+use borrow.Author.Needs.{needs}
+use Rattle.float_bench.specs.Steps.{plain, iterate}
+use Rattle.float_bench.proofs.chain.bench_plain.Statement.{statement}
+use Rattle.float_bench.proofs.chain.bench_plain.Tie as tie
+
+abbrev Inv-loop : tie.InvT-loop
+Inv-loop start x c n h₀ i₀ h i = (i ≤ n) × (h ≡ iterate (plain x c) i start)
+
+abbrev μ-loop : tie.MeasureT-loop
+μ-loop start x c n h₀ i₀ h i = n - i
+
+loop-holds : tie.Need-loop-holds Inv-loop μ-loop
+unfolding iterate
+loop-holds c = (search needs, refl)
+
+add-i : tie.Need-add-i Inv-loop μ-loop
+add-i c = search needs
+
+loop-less : tie.Need-loop-less Inv-loop μ-loop
+loop-less c = search needs
+
+loop-again : tie.Need-loop-again Inv-loop μ-loop
+unfolding iterate
+loop-again c = (search needs, rw (add-one, c .before .loop .inv .1))
+
+returns : tie.Need-returns Inv-loop μ-loop
+returns c = let e : c .before .loop .i ≡ c .before .before .args .n = omega arith in rw e at (c .before .loop .inv .1)
+
+pub bench-plain-spec : {M : Type 1} → statement M
+bench-plain-spec =
+    tie.close (tie.spec Inv-loop μ-loop loop-holds add-i loop-less loop-again returns)
