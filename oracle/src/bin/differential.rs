@@ -1,0 +1,97 @@
+//! Differential runs: the proved library, linked, against the oracle, on the
+//! same inputs. `differential SECTION COUNT [SEED]` prints, for each function
+//! of the section, its name, the inputs and how many answers differ, with the
+//! first such input; its exit status is 1 if any do.
+
+use lemongully_oracle::functions::operands::Operands;
+use lemongully_oracle::functions::{FUNCTIONS, Function};
+use lemongully_oracle::generate::Random;
+use lemongully_oracle::linked;
+use std::process::ExitCode;
+
+/// What a run of one function found.
+struct Run {
+    name: &'static str,
+    inputs: u64,
+    differences: u64,
+    /// The first input that differs, with both answers.
+    first: Option<String>,
+}
+
+/// The linked function of a name, on words.
+fn float(name: &str) -> fn(Operands) -> u64 {
+    match name {
+        "bits" => |[x, _, _]| linked::float::bits(x),
+        "is_finite" => |[x, _, _]| linked::float::is_finite(x),
+        "is_sign_positive" => |[x, _, _]| linked::float::is_sign_positive(x),
+        "abs" => |[x, _, _]| linked::float::abs(x),
+        "total_le" => |[x, y, _]| linked::float::total_le(x, y),
+        "rem_euclid" => |[x, m, _]| linked::float::rem_euclid(x, m),
+        "minimum" => |[x, y, _]| linked::float::minimum(x, y),
+        "maximum" => |[x, y, _]| linked::float::maximum(x, y),
+        "clamp" => |[x, _, _]| linked::float::clamp(x),
+        "floor" => |[x, _, _]| linked::float::floor(x) as u64,
+        "mul_add" => |[a, b, c]| linked::float::mul_add(a, b, c),
+        "sqrt" => |[x, _, _]| linked::float::sqrt(x),
+        "product_error" => |[a, b, _]| linked::float::product_error(a, b),
+        _ => unreachable!("{name} is not linked"),
+    }
+}
+
+/// The section `float`: every function of the float floor.
+fn float_runs(count: u64, seed: u64) -> Vec<Run> {
+    let run = |function: &Function| {
+        let library = float(function.name);
+        let mut random = Random::new(seed, u64::from(function.letter));
+        let (mut differences, mut first) = (0, None);
+        for _ in 0..count {
+            let operands = function.draw(&mut random);
+            let (expected, found) = ((function.answer)(operands), library(operands));
+            if expected != found {
+                differences += 1;
+                first.get_or_insert_with(|| {
+                    let words = &operands[..function.count];
+                    format!("{words:016X?}: {expected:016X}, linked {found:016X}")
+                });
+            }
+        }
+        Run {
+            name: function.name,
+            inputs: count,
+            differences,
+            first,
+        }
+    };
+    FUNCTIONS.iter().map(run).collect()
+}
+
+fn section(arguments: &[String]) -> Option<Vec<Run>> {
+    let [section, count, rest @ ..] = arguments else {
+        return None;
+    };
+    let count = count.parse().ok()?;
+    let seed = match rest {
+        [] => 1,
+        [seed] => seed.parse().ok()?,
+        _ => return None,
+    };
+    match section.as_str() {
+        "float" => Some(float_runs(count, seed)),
+        _ => None,
+    }
+}
+
+fn main() -> ExitCode {
+    let arguments: Vec<String> = std::env::args().skip(1).collect();
+    let Some(runs) = section(&arguments) else {
+        eprintln!("differential float COUNT [SEED]");
+        return ExitCode::FAILURE;
+    };
+    for run in &runs {
+        println!("{} {} {}", run.name, run.inputs, run.differences);
+        if let Some(first) = &run.first {
+            println!("    first {first}");
+        }
+    }
+    ExitCode::from(u8::from(runs.iter().any(|run| run.differences > 0)))
+}

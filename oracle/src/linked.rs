@@ -1,0 +1,126 @@
+//! The proved library, linked: a module for each crate, over the archives that
+//! `rt staticlib` makes. Nothing is asked of a caller unless a function says so.
+
+/// The float floor, by bits.
+pub mod float {
+    unsafe extern "C" {
+        fn float_bits(x: u64) -> u64;
+        fn float_is_finite(x: u64) -> u64;
+        fn float_is_sign_positive(x: u64) -> u64;
+        fn float_abs(x: u64) -> u64;
+        fn float_total_le(x: u64, y: u64) -> u64;
+        fn float_rem_euclid(x: u64, m: u64) -> u64;
+        fn float_minimum(x: u64, y: u64) -> u64;
+        fn float_maximum(x: u64, y: u64) -> u64;
+        fn float_clamp(x: u64) -> u64;
+        fn float_floor(x: u64) -> i64;
+        fn float_mul_add(a: u64, b: u64, c: u64) -> u64;
+        fn float_sqrt(x: u64) -> u64;
+        fn float_product_error(a: u64, b: u64) -> u64;
+    }
+
+    // SAFETY, for every call: the function is proved safe at all words, and
+    // takes and gives numbers alone.
+
+    pub fn bits(x: u64) -> u64 {
+        unsafe { float_bits(x) }
+    }
+
+    pub fn is_finite(x: u64) -> u64 {
+        unsafe { float_is_finite(x) }
+    }
+
+    pub fn is_sign_positive(x: u64) -> u64 {
+        unsafe { float_is_sign_positive(x) }
+    }
+
+    pub fn abs(x: u64) -> u64 {
+        unsafe { float_abs(x) }
+    }
+
+    pub fn total_le(x: u64, y: u64) -> u64 {
+        unsafe { float_total_le(x, y) }
+    }
+
+    pub fn rem_euclid(x: u64, m: u64) -> u64 {
+        unsafe { float_rem_euclid(x, m) }
+    }
+
+    pub fn minimum(x: u64, y: u64) -> u64 {
+        unsafe { float_minimum(x, y) }
+    }
+
+    pub fn maximum(x: u64, y: u64) -> u64 {
+        unsafe { float_maximum(x, y) }
+    }
+
+    pub fn clamp(x: u64) -> u64 {
+        unsafe { float_clamp(x) }
+    }
+
+    pub fn floor(x: u64) -> i64 {
+        unsafe { float_floor(x) }
+    }
+
+    pub fn mul_add(a: u64, b: u64, c: u64) -> u64 {
+        unsafe { float_mul_add(a, b, c) }
+    }
+
+    pub fn sqrt(x: u64) -> u64 {
+        unsafe { float_sqrt(x) }
+    }
+
+    pub fn product_error(a: u64, b: u64) -> u64 {
+        unsafe { float_product_error(a, b) }
+    }
+}
+
+/// Loops over the float floor's functions, for timing: n steps from a start,
+/// each from the result of the one before, or one step at each place.
+pub mod float_bench {
+    unsafe extern "C" {
+        fn bench_plain(start: f64, x: f64, c: f64, n: u64) -> f64;
+        fn bench_mul_add(start: f64, x: f64, c: f64, n: u64) -> f64;
+        fn bench_sqrt(start: f64, c: f64, n: u64) -> f64;
+        fn bench_product_error(start: f64, x: f64, c: f64, n: u64) -> f64;
+        fn bench_each_plain(hs: *mut f64, length: usize, x: f64, c: f64);
+        fn bench_each_mul_add(hs: *mut f64, length: usize, x: f64, c: f64);
+        fn bench_each_sqrt(hs: *mut f64, length: usize, c: f64);
+        fn bench_each_product_error(hs: *mut f64, length: usize, x: f64, c: f64);
+    }
+
+    // SAFETY, for every call: the function is proved safe at all floats, and
+    // reads and writes the lent slice alone.
+
+    pub fn plain(start: f64, x: f64, c: f64, n: u64) -> f64 {
+        unsafe { bench_plain(start, x, c, n) }
+    }
+
+    pub fn mul_add(start: f64, x: f64, c: f64, n: u64) -> f64 {
+        unsafe { bench_mul_add(start, x, c, n) }
+    }
+
+    pub fn sqrt(start: f64, _: f64, c: f64, n: u64) -> f64 {
+        unsafe { bench_sqrt(start, c, n) }
+    }
+
+    pub fn product_error(start: f64, x: f64, c: f64, n: u64) -> f64 {
+        unsafe { bench_product_error(start, x, c, n) }
+    }
+
+    pub fn each_plain(hs: &mut [f64], x: f64, c: f64) {
+        unsafe { bench_each_plain(hs.as_mut_ptr(), hs.len(), x, c) }
+    }
+
+    pub fn each_mul_add(hs: &mut [f64], x: f64, c: f64) {
+        unsafe { bench_each_mul_add(hs.as_mut_ptr(), hs.len(), x, c) }
+    }
+
+    pub fn each_sqrt(hs: &mut [f64], _: f64, c: f64) {
+        unsafe { bench_each_sqrt(hs.as_mut_ptr(), hs.len(), c) }
+    }
+
+    pub fn each_product_error(hs: &mut [f64], x: f64, c: f64) {
+        unsafe { bench_each_product_error(hs.as_mut_ptr(), hs.len(), x, c) }
+    }
+}
