@@ -6,10 +6,13 @@
 pub mod constraints;
 pub mod corpus;
 pub mod float;
+pub mod functions;
 pub mod generate;
 pub mod glam;
 pub mod kinematic_traits;
 pub mod kinematics_impl;
+#[cfg(feature = "linked")]
+pub mod linked;
 pub mod observe;
 pub mod operations;
 pub mod parameters;
