@@ -10,3 +10,6 @@ pub mod MulAdd
 pub mod Total
 pub mod Tests
 pub mod Zero
+pub mod Range
+pub mod Floor
+pub mod Reduce

@@ -3,7 +3,24 @@ use mathlib.Core.Bool.{Bool, true, false, not, _||_, cond}
 use Prim.Native.Nat.{ℕ, _*_, _/_, _%_, _-_, _^_}
 use lib.IntN.{ℤ, pos, negsuc, negℤ}
 use lib.Dec.{eqb}
-use lib.Ieee.{Float, nan, inf, fin, binary64, up, down, neg, add, rem, lt, le, eq, isNan, ofInt}
+use lib.Ieee.{Float, nan, inf, fin, binary64, up, down, neg, add, sub, mul, div, rem, lt, le, eq, isNan}
+
+-- Rust's operators on `f64`: each works out the exact value and rounds it once.
+infixl 6 _⊕_
+abbrev pub _⊕_ : Float → Float → Float
+x ⊕ y = add binary64 x y
+
+infixl 6 _⊖_
+abbrev pub _⊖_ : Float → Float → Float
+x ⊖ y = sub binary64 x y
+
+infixl 7 _⊗_
+abbrev pub _⊗_ : Float → Float → Float
+x ⊗ y = mul binary64 x y
+
+infixl 7 _⊘_
+abbrev pub _⊘_ : Float → Float → Float
+x ⊘ y = div binary64 x y
 
 -- 0, 1 and 2 ^ 63 as floats
 abbrev pub zero-float : Float
@@ -33,7 +50,7 @@ total-le x y = cond (eq x y) (negative x || not (negative y)) (lt x y || isNan y
 
 -- The remainder x % m, plus |m| if it is below zero.
 unfoldable pub rem-euclid : Float → Float → Float
-rem-euclid x m = let r = rem binary64 x m in cond (lt r zero-float) (add binary64 r (abs m)) r
+rem-euclid x m = let r = rem binary64 x m in cond (lt r zero-float) (r ⊕ abs m) r
 
 -- Minimum and maximum: beside a NaN, the other operand; of equals, the first.
 unfoldable pub minimum : Float → Float → Float

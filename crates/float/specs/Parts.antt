@@ -1,4 +1,4 @@
--- What the inner functions of `mul_add` and `sqrt` say of their results, as records with named parts. Assumes nothing.
+-- What the inner functions of `mul_add` and `sqrt` promise of their results, as records with named parts. Nothing that a public contract says.
 use mathlib.Core.Path.{_≡_}
 use mathlib.Core.Bool.{Bool, true, false, Bool·beq}
 use Prim.Native.Nat.{ℕ, _+_, _-_, _*_, _^_, _≤_, _<_}
@@ -6,7 +6,6 @@ use lib.IntN.{pos}
 use lib.Ieee.{Float, fin, binary64, units}
 use lib.Ieee.Exact.{HasValue}
 use lib.Ieee.Nearest.{closest}
-use Rattle.float.specs.MulAdd.{mul-add}
 use Rattle.float.specs.Jam.{jam}
 
 -- x is q * 2 ^ k units, negative where `neg`: q has 53 digits at most, and all of them where k is above 0
@@ -35,14 +34,6 @@ pub record Combines (neg : Bool) (X : ℕ) (other : Bool) (Y y : ℕ) (r : Float
   pub more : Bool·beq neg other ≡ false → Y < X → Finishes neg (X - Y) y r
   pub less : Bool·beq neg other ≡ false → X < Y → Finishes other (Y - X) y r
   pub none : Bool·beq neg other ≡ false → X ≡ Y → r ≡ fin false 0 (pos 0)
-
--- whatever is ±X ± Y, with Y cut to the place of X, is a * b + c
-pub record Orders (a b c : Float) (s : Bool) (X : ℕ) (t : Bool) (Y d y : ℕ) : Type 0 where
-  pub some : 0 < X + jam Y d
-  pub first : X < 2 ^ 62 * 2 ^ 64
-  pub second : Y < 2 ^ 62 * 2 ^ 64
-  pub place : 0 < y
-  pub ends : (W : ℕ) → W ≡ jam Y d → (r : Float) → Combines s X t W y r → r ≡ mul-add binary64 a b c
 
 -- q is the whole number nearest to the square root of n: n lies between the squares of q - 1 / 2 and q + 1 / 2, which are q * (q - 1) and q * (q + 1) with a quarter more
 pub record Roots (n q : ℕ) : Type 0 where

@@ -1,7 +1,9 @@
 // The float floor of document 01: its module 1. specs/Lib.antt says which files define what.
+pub mod arc;
 pub mod interface;
 pub mod mul_add;
 pub mod number;
 pub mod product_error;
 pub mod sqrt;
+pub mod trig;
 pub mod wide;

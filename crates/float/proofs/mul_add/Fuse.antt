@@ -12,10 +12,18 @@ use lib.Ieee.{Float, binary64, unlike, sum}
 use Rattle.float.specs.MulAdd.{mul-add}
 use Rattle.float.specs.Jam.{jam}
 use Rattle.float.proofs.Compare.{lt-or-le}
-use Rattle.float.specs.Parts.{Splits, Combines, Orders}
+use Rattle.float.specs.Parts.{Splits, Combines}
 use Rattle.float.proofs.mul_add.Aligned.{jam-some, jam-below}
 use Rattle.float.proofs.mul_add.Sums.{sum-comm, combined}
 use Rattle.float.proofs.mul_add.Special.{mul-add-at}
+
+-- whatever is ±X ± Y, with Y cut to the place of X, is a * b + c
+pub record Orders (a b c : Float) (s : Bool) (X : ℕ) (t : Bool) (Y d y : ℕ) : Type 0 where
+  pub some : 0 < X + jam Y d
+  pub first : X < 2 ^ 62 * 2 ^ 64
+  pub second : Y < 2 ^ 62 * 2 ^ 64
+  pub place : 0 < y
+  pub ends : (W : ℕ) → W ≡ jam Y d → (r : Float) → Combines s X t W y r → r ≡ mul-add binary64 a b c
 
 -- ---- numbers
 -- a multiple of 2 ^ j is one of 2 ^ suc d for a d below j

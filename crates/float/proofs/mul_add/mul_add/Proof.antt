@@ -7,11 +7,11 @@ use lib.Dec.{T}
 use lib.Ieee.{unlike}
 use lib.Ieee.Scale.{finite}
 use borrow.Author.Needs.{needs}
-use Rattle.float.specs.Parts.{Splits, Orders}
+use Rattle.float.specs.Parts.{Splits}
 use Rattle.float.proofs.mul_add.Aligned.{jam-le}
 use Rattle.float.proofs.mul_add.Special.{at-first, at-second, at-third, some-digits, first-zero, second-zero}
 use Rattle.float.specs.Laws.Zero.{not-finite, is-finite}
-use Rattle.float.proofs.mul_add.Fuse.{upper, high-orders, low-orders}
+use Rattle.float.proofs.mul_add.Fuse.{Orders, upper, high-orders, low-orders}
 use Rattle.float.proofs.mul_add.mul_add.Statement.{statement}
 use Rattle.float.proofs.mul_add.mul_add.Tie as tie
 

@@ -1,0 +1,18 @@
+-- `float::arc::halved` meets its contract. Assumes nothing.
+use mathlib.Core.Path.{_≡_, refl, ap}
+use lib.Ieee.{Float, ofBits}
+use borrow.Author.Needs.{needs}
+use Rattle.float.specs.Number.{_⊕_, _⊘_, one-float}
+use Rattle.float.specs.Trig.{halved}
+use Rattle.float.proofs.arc.halved.Statement.{statement}
+use Rattle.float.proofs.arc.halved.Tie as tie
+
+sqrt-requires : tie.Need-sqrt-requires
+sqrt-requires c κs = search needs
+
+returns : tie.Need-returns
+unfolding halved ofBits
+returns c = ap (λ (s : Float). c .before .args .a ⊘ (one-float ⊕ s)) (c .sqrt .ensures)
+
+pub halved-spec : {M : Type 1} → statement M
+halved-spec = tie.close (tie.spec sqrt-requires returns)
