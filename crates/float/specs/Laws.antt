@@ -1,15 +1,21 @@
+-- Laws of the float floor's definitions and of `lib.Ieee`, for upper crates to cite.
+-- Negation: `Sign` (minus goes through each operation), `Like` (equal as numbers; `Opp`, opposite), `MulAdd` (the same of the fused product).
+-- Order: `Total` (the order of `total_cmp` is total, transitive and antisymmetric up to bits), `Tests` (the code's tests), `Le` (one linear inequality; rounding is monotone).
+-- Ranges: `Within` and `Beyond` (bounds by closed tests), `Interval` (with signs), `Range` (from the code's tests), `Zero` (what is zero, what is finite).
+-- Exactness: `Units` (values as whole numbers of units), `Near` (half a unit), `Error` (rounding errors in units).
+-- Module 2: `Floor`, `Reduce` (the whole number of quarter turns and the reduced argument).
 pub mod Sign
 pub mod Like
-pub mod Le
-pub mod Within
-pub mod Interval
-pub mod Units
-pub mod Near
-pub mod Error
 pub mod MulAdd
 pub mod Total
 pub mod Tests
-pub mod Zero
+pub mod Le
+pub mod Within
+pub mod Interval
 pub mod Range
+pub mod Zero
+pub mod Units
+pub mod Near
+pub mod Error
 pub mod Floor
 pub mod Reduce

@@ -8,6 +8,7 @@ ghost use Rattle.float.specs.Number as Number;
 ghost use Rattle.float.specs.MulAdd.{mul-add};
 ghost use Rattle.float.specs.Sqrt as Sqrt;
 ghost use Rattle.float.specs.ProductError as ProductError;
+ghost use Rattle.float.specs.Trig as Trig;
 use crate::number::bits;
 use crate::number::of_bits;
 
@@ -106,4 +107,60 @@ pub extern "C" fn float_product_error(a: u64, b: u64) -> u64
     ensures { λ r. ⌜ r ≡ toBits binary64 (ProductError.product-error (ofBits binary64 a) (ofBits binary64 b)) ⌝ }
 {
     bits(crate::product_error::product_error(of_bits(a), of_bits(b)))
+}
+
+#[no_mangle]
+pub extern "C" fn float_sin(x: u64) -> u64
+    ensures { λ r. ⌜ r ≡ toBits binary64 (Trig.sin (ofBits binary64 x)) ⌝ }
+{
+    bits(crate::trig::sin(of_bits(x)))
+}
+
+#[no_mangle]
+pub extern "C" fn float_cos(x: u64) -> u64
+    ensures { λ r. ⌜ r ≡ toBits binary64 (Trig.cos (ofBits binary64 x)) ⌝ }
+{
+    bits(crate::trig::cos(of_bits(x)))
+}
+
+#[no_mangle]
+pub extern "C" fn float_tan(x: u64) -> u64
+    ensures { λ r. ⌜ r ≡ toBits binary64 (Trig.tan (ofBits binary64 x)) ⌝ }
+{
+    bits(crate::trig::tan(of_bits(x)))
+}
+
+#[no_mangle]
+pub extern "C" fn float_atan(x: u64) -> u64
+    ensures { λ r. ⌜ r ≡ toBits binary64 (Trig.atan (ofBits binary64 x)) ⌝ }
+{
+    bits(crate::arc::atan(of_bits(x)))
+}
+
+#[no_mangle]
+pub extern "C" fn float_acos(x: u64) -> u64
+    ensures { λ r. ⌜ r ≡ toBits binary64 (Trig.acos (ofBits binary64 x)) ⌝ }
+{
+    bits(crate::arc::acos(of_bits(x)))
+}
+
+#[no_mangle]
+pub extern "C" fn float_asin(x: u64) -> u64
+    ensures { λ r. ⌜ r ≡ toBits binary64 (Trig.asin (ofBits binary64 x)) ⌝ }
+{
+    bits(crate::arc::asin(of_bits(x)))
+}
+
+#[no_mangle]
+pub extern "C" fn float_hypot(x: u64, y: u64) -> u64
+    ensures { λ r. ⌜ r ≡ toBits binary64 (Trig.hypot (ofBits binary64 x) (ofBits binary64 y)) ⌝ }
+{
+    bits(crate::trig::hypot(of_bits(x), of_bits(y)))
+}
+
+#[no_mangle]
+pub extern "C" fn float_atan2(y: u64, x: u64) -> u64
+    ensures { λ r. ⌜ r ≡ toBits binary64 (Trig.atan2 (ofBits binary64 y) (ofBits binary64 x)) ⌝ }
+{
+    bits(crate::arc::atan2(of_bits(y), of_bits(x)))
 }
