@@ -2,7 +2,8 @@
 -- Negation: `Sign` (minus goes through each operation), `Like` (equal as numbers; `Opp`, opposite), `MulAdd` (the same of the fused product).
 -- Order: `Total` (the order of `total_cmp` is total, transitive and antisymmetric up to bits), `Tests` (the code's tests), `Le` (one linear inequality; rounding is monotone).
 -- Ranges: `Within` and `Beyond` (bounds by closed tests), `Interval` (with signs), `Range` (from the code's tests), `Zero` (what is zero, what is finite).
--- Exactness: `Units` (values as whole numbers of units), `Near` (half a unit), `Error` (rounding errors in units).
+-- Exactness: `Units` (values as whole numbers of units), `Near` (half a unit), `Error` (rounding errors in units), `Whole` (the counts of units as functions).
+-- Halving: `Middle` (the middle of an interval lies in it, and each half is narrower).
 -- Module 2: `Floor`, `Reduce` (the whole number of quarter turns and the reduced argument).
 pub mod Sign
 pub mod Like
@@ -17,5 +18,7 @@ pub mod Zero
 pub mod Units
 pub mod Near
 pub mod Error
+pub mod Whole
+pub mod Middle
 pub mod Floor
 pub mod Reduce

@@ -22,12 +22,15 @@ infixl 7 _⊘_
 abbrev pub _⊘_ : Float → Float → Float
 x ⊘ y = div binary64 x y
 
--- 0, 1 and 2 ^ 63 as floats
+-- 0, 1, 2 and 2 ^ 63 as floats
 abbrev pub zero-float : Float
 zero-float = fin false 0 (pos 0)
 
 abbrev pub one-float : Float
 one-float = fin false 1 (pos 0)
+
+abbrev pub two-float : Float
+two-float = fin false 1 (pos 1)
 
 abbrev pub end-float : Float
 end-float = fin false 1 (pos 63)
@@ -62,6 +65,10 @@ maximum x y = cond (isNan x) y (cond (lt x y) y x)
 -- Clamp to -1 and 1: below gives -1, above 1, else the operand itself.
 unfoldable pub clamp : Float → Float
 clamp x = cond (lt x (neg one-float)) (neg one-float) (cond (lt one-float x) one-float x)
+
+-- The middle of an interval, as the Rust works it out: lo + (hi - lo) / 2.
+unfoldable pub middle : Float → Float → Float
+middle lo hi = lo ⊕ (hi ⊖ lo) ⊘ two-float
 
 -- Minus q and a remainder, rounded down: -q where the remainder is zero, one less otherwise.
 abbrev pub minus : Bool → ℕ → ℤ

@@ -4,7 +4,7 @@ use mathlib.Core.List.{List, [], _∷_}
 use Prim.Native.Nat.{ℕ, zero, suc, _-_, _*_, _%_}
 use lib.IntN.{ℤ, pos, negsuc}
 use lib.Ieee.{Float, nan, fin, binary64, round, neg, lt, le, isNan, ofInt}
-use Rattle.float.specs.Number.{_⊕_, _⊖_, _⊗_, _⊘_, abs, negative, floor, zero-float, one-float}
+use Rattle.float.specs.Number.{_⊕_, _⊖_, _⊗_, _⊘_, abs, negative, floor, zero-float, one-float, two-float}
 use Rattle.float.specs.Sqrt.{sqrt}
 use Rattle.float.specs.declared.trig.SinCos.{SinCos}
 
@@ -20,12 +20,9 @@ L = fin false 4701928774853425 (negsuc 85)
 abbrev pub P : Float
 P = fin false 884279719003555 (negsuc 47)
 
--- 1/2, 2, 4 and 32
+-- 1/2, 4 and 32
 abbrev pub half : Float
 half = fin false 1 (negsuc 0)
-
-abbrev pub two-float : Float
-two-float = fin false 1 (pos 1)
 
 abbrev pub four-float : Float
 four-float = fin false 1 (pos 2)

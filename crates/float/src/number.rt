@@ -119,6 +119,13 @@ pub fn clamp(x: f64) -> f64
     x
 }
 
+// The middle of an interval.
+pub fn middle(lo: f64, hi: f64) -> f64
+    ensures { λ r. ⌜ r ≡ Number.middle lo hi ⌝ }
+{
+    lo + (hi - lo) / 2.0
+}
+
 // The greatest whole number not above x, or the nearest that an `i64` holds; 0 for a NaN.
 pub fn floor(x: f64) -> i64
     ensures { λ r. ⌜ r ≡ Number.floor-i64 x ⌝ }

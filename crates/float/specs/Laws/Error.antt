@@ -178,7 +178,7 @@ units-le u dx dy px nx py ny a b a' b' U h k l =
         let c2 : (a' * dx + b * dy) * u ≡ a' * dx * u + b * dy * u = add-mul (a' * dx) (b * dy) u in
         omega arith
 
-flat : (f : Format) (x : Float) (p n : ℕ) → Is f x p n 0 → pl x * 2 ^ low f + n * den x ≡ p * den x + mi x * 2 ^ low f
+pub flat : (f : Format) (x : Float) (p n : ℕ) → Is f x p n 0 → pl x * 2 ^ low f + n * den x ≡ p * den x + mi x * 2 ^ low f
 flat f x p n k = ap (λ (z : ℕ). pl x * 2 ^ low f + z * den x) (sym (mul-one n)) ∙ k .value ∙ ap (λ (z : ℕ). z * den x + mi x * 2 ^ low f) (mul-one p)
 
 -- x ≤ y where the units say so

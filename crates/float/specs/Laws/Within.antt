@@ -60,7 +60,7 @@ held-finite f (inf s) t = t
 held-finite f (fin s m e) t = tt
 
 -- an exponent as a shift from the format's smallest value: 2 ^ low * up e = 2 ^ j * down e
-drop-pow : (k l : ℕ) → 2 ^ k ≤ 2 ^ l → k ≤ l
+pub drop-pow : (k l : ℕ) → 2 ^ k ≤ 2 ^ l → k ≤ l
 drop-pow k l h = go (leb k l) (leb→le k l) (nleb→lt k l)
   where
     go : (b : Bool) → (T b → k ≤ l) → (T (not b) → l < k) → k ≤ l

@@ -3,8 +3,8 @@ use mathlib.Core.Path.{_≡_, refl, sym, ap, _∙_}
 use mathlib.Core.Bool.{Bool, true, false, cond}
 use lib.Ieee.{Float, binary64, div, lt, ofBits}
 use borrow.Author.Needs.{needs}
-use Rattle.float.specs.Number.{abs, one-float, _⊖_, _⊘_}
-use Rattle.float.specs.Trig.{atan, atan-value, halved, copysign, P, two-float}
+use Rattle.float.specs.Number.{abs, one-float, two-float, _⊖_, _⊘_}
+use Rattle.float.specs.Trig.{atan, atan-value, halved, copysign, P}
 use Rattle.float.proofs.arc.atan.Statement.{statement}
 use Rattle.float.proofs.arc.atan.Tie as tie
 

@@ -3,8 +3,8 @@ use mathlib.Core.Path.{_≡_, refl, sym, ap, _∙_}
 use mathlib.Core.Bool.{Bool, true, false, _||_, cond}
 use lib.Ieee.{Float, nan, binary64, neg, lt, le, ne, ofBits, isNan}
 use borrow.Author.Needs.{needs}
-use Rattle.float.specs.Number.{_⊕_, _⊖_, _⊘_, zero-float}
-use Rattle.float.specs.Trig.{atan2, atan, P, two-float}
+use Rattle.float.specs.Number.{_⊕_, _⊖_, _⊘_, zero-float, two-float}
+use Rattle.float.specs.Trig.{atan2, atan, P}
 use Rattle.float.specs.Laws.Tests.{ne-self, nan-of}
 use Rattle.float.specs.Laws.Zero.{zero-bits}
 use Rattle.float.proofs.arc.atan2.Statement.{statement}
