@@ -4,7 +4,8 @@
 -- Ranges: `Within` and `Beyond` (bounds by closed tests), `Interval` (with signs), `Range` (from the code's tests), `Zero` (what is zero, what is finite).
 -- Exactness: `Units` (values as whole numbers of units), `Near` (half a unit), `Error` (rounding errors in units), `Whole` (the counts of units as functions).
 -- Halving: `Middle` (the middle of an interval lies in it, and each half is narrower).
--- Module 2: `Floor`, `Reduce` (the whole number of quarter turns and the reduced argument).
+-- Roots: `Grow` (what is not negative: squares, sums that do not go down), `Root` (bounds through the square root; normalized parts are within 2).
+-- Module 2: `Floor`, `Reduce` (the whole number of quarter turns and the reduced argument), `Sine`, `Trigonometry`, `Arctangent` (bounds on the results).
 pub mod Sign
 pub mod Like
 pub mod MulAdd
@@ -20,5 +21,10 @@ pub mod Near
 pub mod Error
 pub mod Whole
 pub mod Middle
+pub mod Grow
+pub mod Root
 pub mod Floor
 pub mod Reduce
+pub mod Sine
+pub mod Trigonometry
+pub mod Arctangent

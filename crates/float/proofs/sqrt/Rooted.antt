@@ -1,14 +1,14 @@
--- `sqrt` at binary64: `root` is the whole part of the square root (`root-is`), and the whole number nearest to the root of n, an n of 105 or 106 digits, is what `sqrt` keeps of n * 4 ^ K.
+-- `sqrt` at binary64: the whole number nearest to the root of n, an n of 105 or 106 digits, is what `sqrt` keeps of n * 4 ^ K.
 -- Assumes nothing.
 use mathlib.Core.Path.{_≡_, refl, sym, ap, _∙_, subst}
 use mathlib.Core.Logic.{_⊎_, inl, inr}
-use mathlib.Core.Bool.{Bool, true, false, not, cond, true≢false, false≢true}
+use mathlib.Core.Bool.{Bool, true, false, not, true≢false, false≢true}
 use Prim.Native.Nat.{ℕ, zero, suc, _+_, _-_, _*_, _/_, _^_, _≤_, _<_, compare, Ordering, Ordering·lt, Ordering·gt}
-use native.Mathlib.Nat.{le-trans, le-of-eq, le-of-lt, lt-of-lt-of-le, lt-of-le-of-lt, lt-of-not-le, not-le-of-lt, le-of-suc-le-suc, lt-irrefl, zero-lt-suc, zero-mul, mul-assoc, mul-right-comm, mul-pos, mul-le-mul, mul-le-mul-right, mul-le-mul-left, mul-lt-mul-of-pos-right, mul-div-cancel, div-eq-of-lt-le, div-lt-iff-lt-mul, le-mul-of-pos-right, pow-succ'}
+use native.Mathlib.Nat.{le-trans, le-of-eq, le-of-lt, lt-of-lt-of-le, lt-of-le-of-lt, lt-of-not-le, not-le-of-lt, le-of-suc-le-suc, lt-irrefl, zero-mul, mul-assoc, mul-right-comm, mul-pos, mul-le-mul, mul-le-mul-right, mul-le-mul-left, mul-lt-mul-of-pos-right, mul-div-cancel, div-eq-of-lt-le, le-mul-of-pos-right}
 use native.Mathlib.Numerals.{add-one}
 use native.Mathlib.Omega.{arith}
 use lib.IntN.{ℤ, pos}
-use lib.Dec.{T, leb, leb→le, nleb→lt}
+use lib.Dec.{T}
 use borrow.Author.Tests.{ltb-true, lt-ltb}
 use lib.Pow.{pow-pos, pow-add}
 use lib.Ieee.{Float, nan, inf, fin, binary64, up, down, size, nearest, units, lt, eq, ne, div, below, ofBits}
@@ -21,30 +21,12 @@ use Rattle.float.specs.Sqrt.{root, rootOf, sqrt}
 use Rattle.float.proofs.Compare.{cmp-is, lt-or-le}
 use Rattle.float.proofs.Rounded.{size-is}
 use Rattle.float.specs.Parts.{Splits, Roots}
+use Rattle.float.specs.Laws.Root.{root-is}
 use Rattle.float.specs.Laws.Zero.{zero-of}
 
 -- r is the whole part of the square root of n
 abbrev pub Floor : ℕ → ℕ → Type 0
 Floor n r = (r * r ≤ n) × (n < suc r * suc r)
-
--- ---- `root` is it
-pub root-is : (k n : ℕ) → n < 2 ^ k * 2 ^ k → Floor n (root k n)
-unfolding root
-root-is zero n h = (omega arith, omega arith)
-root-is (suc k) n h = go (leb (suc (2 * r) * suc (2 * r)) n) (leb→le (suc (2 * r) * suc (2 * r)) n) (nleb→lt (suc (2 * r) * suc (2 * r)) n) (root-is k (n / 4) (div-lt-iff-lt-mul (zero-lt-suc 3) .1 (lt-of-lt-of-le h (le-of-eq four))))
-  where
-    r : ℕ
-    r = root k (n / 4)
-
-    four : 2 ^ suc k * 2 ^ suc k ≡ 2 ^ k * 2 ^ k * 4
-    four = (λ i. pow-succ' 2 k i * pow-succ' 2 k i) ∙ shape (2 ^ k)
-      where
-        shape : (p : ℕ) → 2 * p * (2 * p) ≡ p * p * 4
-        shape p = omega arith
-
-    go : (t : Bool) → (T t → suc (2 * r) * suc (2 * r) ≤ n) → (T (not t) → n < suc (2 * r) * suc (2 * r)) → Floor (n / 4) r → Floor n (cond t (suc (2 * r)) (2 * r))
-    go true a b f = (a tt, let x : n / 4 < suc r * suc r = f .1 in omega arith)
-    go false a b f = (let x : r * r ≤ n / 4 = f .0 in omega arith, b tt)
 
 -- ---- n * 4 ^ K, for the n of 105 or 106 digits whose root has the whole part r
 module _ (n K r : ℕ) (lo : 2 ^ 104 ≤ n) (hi : n < 2 ^ 106) (F : Floor n r) where

@@ -167,7 +167,7 @@ unfolding odd
 odd-plain d zero k l = tt
 odd-plain d (suc q) k l = tt
 
-units-plain : (f : Format) (q k : ℕ) → T (plain (units f false q k))
+pub units-plain : (f : Format) (q k : ℕ) → T (plain (units f false q k))
 unfolding units
 units-plain f q k = go (ltb (q * 2 ^ k) (2 ^ (lib.Ieee.low f + suc (lib.Ieee.emax f))))
   where

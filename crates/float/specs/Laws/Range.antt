@@ -44,6 +44,12 @@ abs-within (inf t) (inf s) p q h = absurd p
 abs-within (fin t n d) (inf s) p q h = absurd (false≢true h)
 abs-within B (fin s m e) p q h = let w = under B m e p q h in record { real = tt; size = w .size }
 
+pub within-abs : {B x : Float} → Within B x → Within B (abs x)
+unfolding abs
+within-abs {x = nan} h = absurd (h .real)
+within-abs {x = inf s} h = absurd (h .real)
+within-abs {x = fin s m e} h = record { real = tt; size = h .size }
+
 -- ---- the two ways of a test x < y
 or-l : (a b : Bool) → T a → T (a || b)
 or-l true b t = tt

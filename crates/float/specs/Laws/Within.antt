@@ -14,10 +14,10 @@ use lib.Ieee.{Float, nan, inf, fin, Format, binary32, binary64, prec, emax, low,
 use lib.Ieee.Fits.{up-pos, down-pos, and-l, and-r, and-i, eq→eqb}
 use lib.Ieee.Exact.{HasValue, round-exact}
 use lib.Ieee.Order.{round-mono}
-use lib.Ieee.Scale.{round-same, finite}
+use lib.Ieee.Scale.{finite, overflow}
 use lib.Ieee.Positive.{num, den, den-pos, through}
-use Rattle.float.specs.Laws.Sign.{round-neg, strip, Alike}
-use Rattle.float.specs.Laws.Le.{pl, mi, Le, le→Le, Le→le, plain, round-plain, neg-finite}
+use Rattle.float.specs.Laws.Sign.{round-neg, neg-neg, strip, Alike}
+use Rattle.float.specs.Laws.Le.{pl, mi, Le, le→Le, Le→le, neg-Le, plain, round-plain, neg-finite}
 
 pub record Within (B x : Float) : Type 0 where
   pub real : T (finite x)
@@ -76,23 +76,34 @@ shift (negsuc k) l h =
     let q : suc k ≤ l = drop-pow (suc k) l h in
     (l - suc k, one-mul (2 ^ l) ∙ sym (ap (λ (z : ℕ). 2 ^ z) (gap (suc k) l q)) ∙ pow-add 2 (l - suc k) (suc k))
 
-pub exact-self : (f : Format) (s : Bool) (x : Float) → T (held f x) → HasValue (round f s (num x) (den x)) s (num x) (den x)
-exact-self f s nan t = absurd t
-exact-self f s (inf r) t = absurd t
-exact-self f s (fin r m e) t =
+-- such a value as a number of units, β * 2 ^ j
+pub record Held (f : Format) (x : Float) : Type 0 where
+  pub β : ℕ
+  pub j : ℕ
+  pub short : β < 2 ^ prec f
+  pub is : num x * 2 ^ low f ≡ β * 2 ^ j * den x
+  pub top : β * 2 ^ j < overflow f
+
+pub held-units : (f : Format) (x : Float) → T (held f x) → Held f x
+held-units f nan t = absurd t
+held-units f (inf s) t = absurd t
+held-units f (fin s m e) t =
     let b = ltb m (2 ^ prec f) in
     let c = leb (down e) (2 ^ low f) in
     let d = ltb (m * up e) (2 ^ suc (emax f) * down e) in
-    let j = shift e (low f) (leb→le (down e) (2 ^ low f) (and-l c d (and-r b (c && d) t))) in
-    let v : m * up e * 2 ^ low f ≡ m * 2 ^ (j .0) * down e = mul-assoc m (up e) (2 ^ low f) ∙ ap (λ (z : ℕ). m * z) (j .1) ∙ sym (mul-assoc m (2 ^ (j .0)) (down e)) in
-    round-exact f s (m * up e) (down e) m (j .0) (down-pos e) (ltb→lt m (2 ^ prec f) (and-l b (c && d) t)) (under (j .0) v (ltb→lt (m * up e) (2 ^ suc (emax f) * down e) (and-r c d (and-r b (c && d) t)))) v
+    let i = shift e (low f) (leb→le (down e) (2 ^ low f) (and-l c d (and-r b (c && d) t))) in
+    let v : m * up e * 2 ^ low f ≡ m * 2 ^ (i .0) * down e = mul-assoc m (up e) (2 ^ low f) ∙ ap (λ (z : ℕ). m * z) (i .1) ∙ sym (mul-assoc m (2 ^ (i .0)) (down e)) in
+    record { β = m; j = i .0; short = ltb→lt m (2 ^ prec f) (and-l b (c && d) t); is = v; top = under (i .0) v (ltb→lt (m * up e) (2 ^ suc (emax f) * down e) (and-r c d (and-r b (c && d) t))) }
   where
-    under : (j : ℕ) → m * up e * 2 ^ low f ≡ m * 2 ^ j * down e → m * up e < 2 ^ suc (emax f) * down e → m * 2 ^ j < 2 ^ (low f + suc (emax f))
+    under : (j : ℕ) → m * up e * 2 ^ low f ≡ m * 2 ^ j * down e → m * up e < 2 ^ suc (emax f) * down e → m * 2 ^ j < overflow f
     under j v h =
         lt-of-mul-lt-mul-right (down e)
-        (subst (λ (z : ℕ). z < 2 ^ (low f + suc (emax f)) * down e) v
+        (subst (λ (z : ℕ). z < overflow f * down e) v
         (lt-of-lt-of-le (mul-lt-mul-of-pos-right h (pow-pos (low f)))
         (le-of-eq (mul-right-comm (2 ^ suc (emax f)) (down e) (2 ^ low f) ∙ ap (λ (z : ℕ). z * down e) (mul-comm (2 ^ suc (emax f)) (2 ^ low f) ∙ sym (pow-add 2 (low f) (suc (emax f))))))))
+
+pub exact-self : (f : Format) (s : Bool) (x : Float) → T (held f x) → HasValue (round f s (num x) (den x)) s (num x) (den x)
+exact-self f s x t = let h = held-units f x t in round-exact f s (num x) (den x) (h .β) (h .j) (den-pos x) (h .short) (h .top) (h .is)
 
 -- ---- the size of a rounded fraction does not see its sign
 neg-num : (x : Float) → num (neg x) ≡ num x
@@ -137,7 +148,7 @@ plain-finite (inf false) (inf t) p q h = absurd q
 plain-finite (inf false) (fin t n d) p q h = absurd h
 plain-finite (fin s m e) y p q h = tt
 
-value-finite : (x : Float) (s : Bool) (a c : ℕ) → HasValue x s a c → T (finite x)
+pub value-finite : (x : Float) (s : Bool) (a c : ℕ) → HasValue x s a c → T (finite x)
 value-finite nan s a c h = absurd h
 value-finite (inf t) s a c h = absurd h
 value-finite (fin t m e) s a c h = tt
@@ -302,42 +313,38 @@ div-bound x p y q X P L R B D pp ll h k l =
     e2 = simp (mul-assoc, mul-comm, mul-left-comm)
 
 -- L / R ≤ y / q with L above 0: y is above 0
-pos-of : (L R y q : ℕ) → 0 < L → 0 < q → L * q ≤ y * R → 0 < y
+pub pos-of : (L R y q : ℕ) → 0 < L → 0 < q → L * q ≤ y * R → 0 < y
 pos-of L R y q l Q h = go y h
   where
     go : (y : ℕ) → L * q ≤ y * R → 0 < y
     go zero h = absurd (lt-irrefl 0 (lt-of-lt-of-le (mul-pos l Q) (le-trans h (le-of-eq (zero-mul R)))))
     go (suc y) h = zero-lt-suc y
 
-pub div-within : (f : Format) (B : Float) {X L x y : Float} → T (divTest f X L B) → Within X x → Beyond L y → Within B (div f x y)
+-- a quotient, from the exact sizes
+pub div-exact : (f : Format) (B x y : Float) → T (held f B) → T (finite x) → T (finite y) → 0 < num y → num x * den y * den B ≤ num B * (num y * den x) → Within B (div f x y)
 unfolding div
-div-within f B {x = nan} {y} t h k = absurd (h .real)
-div-within f B {x = inf s} {y} t h k = absurd (h .real)
-div-within f B {x = fin s m e} {y = nan} t h k = absurd (k .real)
-div-within f B {x = fin s m e} {y = inf r} t h k = absurd (k .real)
-div-within f B {X} {L} {x = fin s m e} {y = fin r n d} t h k = go (eqb n 0) (eqb→eq n 0)
+div-exact f B nan y t p q z h = absurd p
+div-exact f B (inf s) y t p q z h = absurd p
+div-exact f B (fin s m e) nan t p q z h = absurd q
+div-exact f B (fin s m e) (inf r) t p q z h = absurd q
+div-exact f B (fin s m e) (fin r n d) t p q z h = go (eqb n 0) (eqb→eq n 0)
   where
-    u : Bool
-    u = leb (num X * den L * den B) (num B * (den X * num L))
-
-    lp : 0 < num L
-    lp = ltb→lt 0 (num L) (and-l (ltb 0 (num L)) (leb (num X * den L * den B) (num B * (den X * num L))) (and-r (held f B) (ltb 0 (num L) && leb (num X * den L * den B) (num B * (den X * num L))) t))
-
-    yp : 0 < n * up d
-    yp = pos-of (num L) (den L) (n * up d) (down d) lp (down-pos d) (k .size)
-
     gone : n ≡ 0 → ⊥
-    gone z = lt-irrefl 0 (subst (λ (v : ℕ). 0 < v) (ap (λ (v : ℕ). v * up d) z ∙ zero-mul (up d)) yp)
-
-    bound : m * up e * down d * den B ≤ num B * (down e * (n * up d))
-    bound = div-bound (m * up e) (down e) (n * up d) (down d) (num X) (den X) (num L) (den L) (num B) (den B) (den-pos X) lp (h .size) (k .size)
-        (leb→le (num X * den L * den B) (num B * (den X * num L)) (and-r (ltb 0 (num L)) (leb (num X * den L * den B) (num B * (den X * num L))) (and-r (held f B) (ltb 0 (num L) && leb (num X * den L * den B) (num B * (den X * num L))) t)))
+    gone k = lt-irrefl 0 (subst (λ (v : ℕ). 0 < v) (ap (λ (v : ℕ). v * up d) k ∙ zero-mul (up d)) z)
 
     go : (b : Bool) → (T b → n ≡ 0) → Within B (cond b (cond (eqb m 0) nan (inf (unlike s r))) (round f (unlike s r) (m * up e * down d) (n * up d * down e)))
-    go true z = absurd (gone (z tt))
-    go false z =
-        round-within f (unlike s r) (m * up e * down d) (n * up d * down e) B (mul-pos yp (down-pos e)) (and-l (held f B) (ltb 0 (num L) && leb (num X * den L * den B) (num B * (den X * num L))) t)
-        (le-trans bound (le-of-eq (ap (λ (v : ℕ). num B * v) (mul-comm (down e) (n * up d)))))
+    go true k = absurd (gone (k tt))
+    go false k = round-within f (unlike s r) (m * up e * down d) (n * up d * down e) B (mul-pos z (down-pos e)) t h
+
+pub div-within : (f : Format) (B : Float) {X L x y : Float} → T (divTest f X L B) → Within X x → Beyond L y → Within B (div f x y)
+div-within f B {X} {L} {x} {y} t h k =
+    let a = ltb 0 (num L) in
+    let b = leb (num X * den L * den B) (num B * (den X * num L)) in
+    let u = and-r (held f B) (a && b) t in
+    let l : 0 < num L = ltb→lt 0 (num L) (and-l a b u) in
+    div-exact f B x y (and-l (held f B) (a && b) t) (h .real) (k .real) (pos-of (num L) (den L) (num y) (den y) l (den-pos y) (k .size))
+    (le-trans (div-bound (num x) (den x) (num y) (den y) (num X) (den X) (num L) (den L) (num B) (den B) (den-pos X) l (h .size) (k .size) (leb→le (num X * den L * den B) (num B * (den X * num L)) (and-r a b u)))
+    (le-of-eq (ap (λ (v : ℕ). num B * v) (mul-comm (den x) (num y)))))
 
 -- ---- a sum from below: |x| ≥ L and |y| ≤ Y give |x + y| ≥ B, for B + Y ≤ L
 abbrev pub awayTest : Format → Float → Float → Float → Bool
@@ -427,6 +434,27 @@ Le→within {B = fin false m e} {x = nan} q h k = absurd (h .first)
 Le→within {B = fin false m e} {x = inf s} q h k = absurd (h .first)
 Le→within {B = fin false m e} {x = fin true n d} q h k = record { real = tt; size = let l = k .cross in omega arith }
 Le→within {B = fin false m e} {x = fin false n d} q h k = record { real = tt; size = let l = h .cross in omega arith }
+
+pub Le→beyond : {B x : Float} → T (plain B) → Le B x → Beyond B x
+Le→beyond {B = nan} p h = absurd p
+Le→beyond {B = inf s} p h = absurd (h .first)
+Le→beyond {B = fin true m e} p h = absurd p
+Le→beyond {B = fin false m e} {x = nan} p h = absurd (h .second)
+Le→beyond {B = fin false m e} {x = inf s} p h = absurd (h .second)
+Le→beyond {B = fin false m e} {x = fin true n d} p h = record { real = tt; size = let l = h .cross in omega arith }
+Le→beyond {B = fin false m e} {x = fin false n d} p h = record { real = tt; size = let l = h .cross in omega arith }
+
+pub Le→beyond-neg : {B x : Float} → T (plain B) → Le x (neg B) → Beyond B x
+Le→beyond-neg {B} {x} p h = subst (λ (z : Float). Beyond B z) (neg-neg x) (neg-beyond (Le→beyond p (subst (λ (z : Float). Le z (neg x)) (neg-neg B) (neg-Le h))))
+
+pub beyond→Le : {B x : Float} → T (finite B) → T (plain B) → T (plain x) → Beyond B x → Le B x
+beyond→Le {B = nan} p q r h = absurd p
+beyond→Le {B = inf s} p q r h = absurd p
+beyond→Le {B = fin true m e} p q r h = absurd q
+beyond→Le {B = fin false m e} {x = nan} p q r h = absurd r
+beyond→Le {B = fin false m e} {x = inf s} p q r h = absurd (h .real)
+beyond→Le {B = fin false m e} {x = fin true n d} p q r h = absurd r
+beyond→Le {B = fin false m e} {x = fin false n d} p q r h = record { first = tt; second = tt; cross = let k = h .size in omega arith }
 
 -- ---- the sign of a zero does not matter
 strip-within : (B x : Float) → Within B x → Within B (strip x)
