@@ -12,9 +12,9 @@ use lib.Ieee.Bits.{is-true}
 use lib.Ieee.Fits.{add-fits}
 use lib.Ieee.Scale.{finite}
 use lib.Ieee.Positive.{num}
-use Rattle.float.specs.Number.{_⊕_, _⊖_, _⊗_, _⊘_, abs, negative, zero-float, one-float}
+use Rattle.float.specs.Number.{_⊕_, _⊖_, _⊗_, _⊘_, abs, negative, zero-float, one-float, two-float}
 use Rattle.float.specs.Sqrt.{sqrt}
-use Rattle.float.specs.Trig.{P, two-float, four-float, halved, atan-start, atan-series, atan-value, copysign, atan, atan2, other-side, acos, asin}
+use Rattle.float.specs.Trig.{P, four-float, halved, atan-start, atan-series, atan-value, copysign, atan, atan2, other-side, acos, asin}
 use Rattle.float.specs.Laws.Sign.{round-neg}
 use Rattle.float.specs.Laws.Le.{Le, le→Le, Le→le, plain, round-plain, add-mono}
 use Rattle.float.specs.Laws.Within.{Within, Beyond, divTest, add-within, sub-within, mul-within, div-within, neg-within, numeral, numeral-beyond, weaken, Le→beyond}
