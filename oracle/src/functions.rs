@@ -1,16 +1,19 @@
-//! The functions of the float floor (document 01, module 1) by name: on words,
-//! a float by its bits, a test by 1 or 0, a whole number in two's complement.
+//! The functions of the float floor and the trigonometry (document 01, modules 1
+//! and 2) by name: on words, a float by its bits, a test by 1 or 0, a whole
+//! number in two's complement.
 
+mod angles;
 pub mod operands;
 
-use crate::float;
 use crate::generate::Random;
+use crate::{float, trig};
 use operands::Operands;
 
-/// A function of the float floor, as samples and differential runs see it.
+/// A function of either module, as samples and differential runs see it.
 pub struct Function {
     pub name: &'static str,
-    /// What a stored sample begins with.
+    /// What a stored sample begins with: a capital in module 1, a small letter
+    /// in module 2.
     pub letter: char,
     /// How many operands it has; the others are 0.
     pub count: usize,
@@ -36,7 +39,7 @@ fn of(bits: u64) -> f64 {
 }
 
 /// All of them, in the order in which they are reported.
-pub const FUNCTIONS: [Function; 13] = [
+pub const FUNCTIONS: [Function; 21] = [
     Function {
         name: "bits",
         letter: 'B',
@@ -128,5 +131,61 @@ pub const FUNCTIONS: [Function; 13] = [
         count: 2,
         operands: operands::product_error,
         answer: |[a, b, _]| float::bits(float::product_error(of(a), of(b))),
+    },
+    Function {
+        name: "sin",
+        letter: 's',
+        count: 1,
+        operands: angles::angle,
+        answer: |[x, _, _]| float::bits(trig::sin(of(x))),
+    },
+    Function {
+        name: "cos",
+        letter: 'c',
+        count: 1,
+        operands: angles::angle,
+        answer: |[x, _, _]| float::bits(trig::cos(of(x))),
+    },
+    Function {
+        name: "tan",
+        letter: 't',
+        count: 1,
+        operands: angles::angle,
+        answer: |[x, _, _]| float::bits(trig::tan(of(x))),
+    },
+    Function {
+        name: "hypot",
+        letter: 'h',
+        count: 2,
+        operands: angles::sides,
+        answer: |[x, y, _]| float::bits(trig::hypot(of(x), of(y))),
+    },
+    Function {
+        name: "atan",
+        letter: 'a',
+        count: 1,
+        operands: angles::tangent,
+        answer: |[x, _, _]| float::bits(trig::atan(of(x))),
+    },
+    Function {
+        name: "atan2",
+        letter: 'q',
+        count: 2,
+        operands: angles::point,
+        answer: |[y, x, _]| float::bits(trig::atan2(of(y), of(x))),
+    },
+    Function {
+        name: "acos",
+        letter: 'o',
+        count: 1,
+        operands: angles::cosine,
+        answer: |[x, _, _]| float::bits(trig::acos(of(x))),
+    },
+    Function {
+        name: "asin",
+        letter: 'i',
+        count: 1,
+        operands: angles::cosine,
+        answer: |[x, _, _]| float::bits(trig::asin(of(x))),
     },
 ];

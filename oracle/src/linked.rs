@@ -1,7 +1,7 @@
 //! The proved library, linked: a module for each crate, over the archives that
 //! `rt staticlib` makes. Nothing is asked of a caller unless a function says so.
 
-/// The float floor, by bits.
+/// The float floor and the trigonometry, by bits.
 pub mod float {
     unsafe extern "C" {
         fn float_bits(x: u64) -> u64;
@@ -17,6 +17,14 @@ pub mod float {
         fn float_mul_add(a: u64, b: u64, c: u64) -> u64;
         fn float_sqrt(x: u64) -> u64;
         fn float_product_error(a: u64, b: u64) -> u64;
+        fn float_sin(x: u64) -> u64;
+        fn float_cos(x: u64) -> u64;
+        fn float_tan(x: u64) -> u64;
+        fn float_hypot(x: u64, y: u64) -> u64;
+        fn float_atan(x: u64) -> u64;
+        fn float_atan2(y: u64, x: u64) -> u64;
+        fn float_acos(x: u64) -> u64;
+        fn float_asin(x: u64) -> u64;
     }
 
     // SAFETY, for every call: the function is proved safe at all words, and
@@ -72,6 +80,38 @@ pub mod float {
 
     pub fn product_error(a: u64, b: u64) -> u64 {
         unsafe { float_product_error(a, b) }
+    }
+
+    pub fn sin(x: u64) -> u64 {
+        unsafe { float_sin(x) }
+    }
+
+    pub fn cos(x: u64) -> u64 {
+        unsafe { float_cos(x) }
+    }
+
+    pub fn tan(x: u64) -> u64 {
+        unsafe { float_tan(x) }
+    }
+
+    pub fn hypot(x: u64, y: u64) -> u64 {
+        unsafe { float_hypot(x, y) }
+    }
+
+    pub fn atan(x: u64) -> u64 {
+        unsafe { float_atan(x) }
+    }
+
+    pub fn atan2(y: u64, x: u64) -> u64 {
+        unsafe { float_atan2(y, x) }
+    }
+
+    pub fn acos(x: u64) -> u64 {
+        unsafe { float_acos(x) }
+    }
+
+    pub fn asin(x: u64) -> u64 {
+        unsafe { float_asin(x) }
     }
 }
 

@@ -1,5 +1,5 @@
-// The library's functions by their letters, on words: a float by its bits, a test by 1 or 0, and
-// floor's whole number in two's complement.
+// The float floor's functions by their letters, on words: a float by its bits, a test by 1 or 0,
+// and floor's whole number in two's complement.
 use float::number::bits;
 use float::number::of_bits;
 

@@ -1,6 +1,6 @@
-// Replays stored samples of the float floor: reads lines of text from standard input, works each
-// sample out anew, and prints a line for each function: its name, its samples, and how many differ.
-// The last line is the number of bytes from the first line on that is no sample.
+// Replays stored samples of the float floor and the trigonometry: reads lines of text from standard
+// input, works each sample out anew, and prints a line for each function: its name, its samples, and
+// how many differ. The last line is the number of bytes from the first line on that is no sample.
 //
 // A line is the function's letter, its operands and the expected result, each of the words a space
 // and 16 capital hexadecimal digits: a float by its bits, a test by 1 for yes and 0 for no, and
@@ -11,14 +11,16 @@
 //     P is_sign_positive    R rem_euclid    C clamp      S sqrt
 //                                                        E product_error
 //
+//     s sin    t tan      a atan            o acos
+//     c cos    h hypot    q atan2 (y, x)    i asin
+//
 // The lines are written by `cargo run --release --offline --bin samples` in oracle/: the same
-// samples every time, with the results of Rust's own f64.
+// samples every time, with the results of Rust's own f64 and of document 01's steps on it.
+mod angles;
 mod functions;
 mod text;
 
-use crate::functions::one;
 use crate::functions::three;
-use crate::functions::two;
 use crate::text::line;
 use crate::text::word;
 use libc::STDIN_FILENO;
@@ -31,6 +33,22 @@ ghost use lib.ListN.{length};
 pub struct Tally {
     pub samples: u64,
     pub differing: u64,
+}
+
+// The function of one operand that a letter names: the trigonometry has the small letters.
+fn one(letter: u8, a: u64) -> u64 {
+    if letter < b'a' {
+        return functions::one(letter, a);
+    }
+    angles::one(letter, a)
+}
+
+// The function of two operands that a letter names.
+fn two(letter: u8, a: u64, b: u64) -> u64 {
+    if letter < b'a' {
+        return functions::two(letter, a, b);
+    }
+    angles::two(letter, a, b)
 }
 
 // Whether the sample of k operands at `at` has the result that the library gives. Its line has
@@ -104,7 +122,7 @@ fn report(s: &[u8], letter: u8, name: &[u8]) {
     io::write_all(STDOUT_FILENO, &[b'\n']);
 }
 
-fn replay(s: &[u8]) {
+fn report_floor(s: &[u8]) {
     report(s, b'B', b"bits");
     report(s, b'F', b"is_finite");
     report(s, b'P', b"is_sign_positive");
@@ -118,6 +136,22 @@ fn replay(s: &[u8]) {
     report(s, b'M', b"mul_add");
     report(s, b'S', b"sqrt");
     report(s, b'E', b"product_error");
+}
+
+fn report_angles(s: &[u8]) {
+    report(s, b's', b"sin");
+    report(s, b'c', b"cos");
+    report(s, b't', b"tan");
+    report(s, b'h', b"hypot");
+    report(s, b'a', b"atan");
+    report(s, b'q', b"atan2");
+    report(s, b'o', b"acos");
+    report(s, b'i', b"asin");
+}
+
+fn replay(s: &[u8]) {
+    report_floor(s);
+    report_angles(s);
     io::write_all(STDOUT_FILENO, b"unread ");
     io::print_decimal(STDOUT_FILENO, unread(s) as u64);
     io::write_all(STDOUT_FILENO, &[b'\n']);

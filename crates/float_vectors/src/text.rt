@@ -85,6 +85,8 @@ fn operands(letter: u8) -> usize
         b'B' | b'F' | b'P' | b'A' | b'C' | b'L' | b'S' => 1,
         b'T' | b'R' | b'N' | b'X' | b'E' => 2,
         b'M' => 3,
+        b's' | b'c' | b't' | b'a' | b'o' | b'i' => 1,
+        b'h' | b'q' => 2,
         _ => 0,
     }
 }

@@ -34,11 +34,19 @@ fn float(name: &str) -> fn(Operands) -> u64 {
         "mul_add" => |[a, b, c]| linked::float::mul_add(a, b, c),
         "sqrt" => |[x, _, _]| linked::float::sqrt(x),
         "product_error" => |[a, b, _]| linked::float::product_error(a, b),
+        "sin" => |[x, _, _]| linked::float::sin(x),
+        "cos" => |[x, _, _]| linked::float::cos(x),
+        "tan" => |[x, _, _]| linked::float::tan(x),
+        "hypot" => |[x, y, _]| linked::float::hypot(x, y),
+        "atan" => |[x, _, _]| linked::float::atan(x),
+        "atan2" => |[y, x, _]| linked::float::atan2(y, x),
+        "acos" => |[x, _, _]| linked::float::acos(x),
+        "asin" => |[x, _, _]| linked::float::asin(x),
         _ => unreachable!("{name} is not linked"),
     }
 }
 
-/// The section `float`: every function of the float floor.
+/// The section `float`: every function of the float floor and the trigonometry.
 fn float_runs(count: u64, seed: u64) -> Vec<Run> {
     let run = |function: &Function| {
         let library = float(function.name);

@@ -1,6 +1,7 @@
-//! Writes the stored samples of the float floor, a line each: the function's
-//! letter, its operands and its result, as 16 capital hexadecimal digits. The
-//! same lines every time: `samples > ../crates/float_vectors/stdin`.
+//! Writes the stored samples of the float floor and the trigonometry, a line
+//! each: the function's letter, its operands and its result, as 16 capital
+//! hexadecimal digits. The same lines every time:
+//! `samples > ../crates/float_vectors/stdin`.
 
 use lemongully_oracle::functions::{FUNCTIONS, Function};
 use lemongully_oracle::generate::Random;
@@ -12,6 +13,7 @@ const SEED: u64 = 754;
 fn stored(function: &Function) -> u64 {
     match function.name {
         "mul_add" | "sqrt" => 4096,
+        _ if function.letter.is_ascii_lowercase() => 3072,
         _ => 512,
     }
 }

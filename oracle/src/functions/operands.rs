@@ -7,9 +7,9 @@ use crate::generate::Random;
 /// Up to three operands; the unused ones are 0.
 pub type Operands = [u64; 3];
 
-const SIGN: u64 = 1 << 63;
+pub(super) const SIGN: u64 = 1 << 63;
 const DIGITS: u64 = (1 << 52) - 1;
-const ONE: u64 = 1023 << 52;
+pub(super) const ONE: u64 = 1023 << 52;
 
 /// Magnitudes at which something changes.
 const EDGES: [u64; 24] = [
@@ -49,17 +49,17 @@ const NANS: [u64; 6] = [
     0xFFF4DEADBEEF0123,
 ];
 
-fn sign(random: &mut Random) -> u64 {
+pub(super) fn sign(random: &mut Random) -> u64 {
     random.bits() & SIGN
 }
 
 /// A whole number from minus to plus the radius.
-fn within(random: &mut Random, radius: i64) -> i64 {
+pub(super) fn within(random: &mut Random, radius: i64) -> i64 {
     (random.bits() % (2 * radius as u64 + 1)) as i64 - radius
 }
 
 /// The float of these bits, or one a few places beside it.
-fn beside(random: &mut Random, bits: u64) -> u64 {
+pub(super) fn beside(random: &mut Random, bits: u64) -> u64 {
     bits.wrapping_add_signed(within(random, 3))
 }
 
@@ -78,7 +78,7 @@ fn digits(random: &mut Random) -> u64 {
 }
 
 /// A float of either sign, its exponent within a radius of the middle.
-fn sized(random: &mut Random, middle: i64, radius: i64) -> u64 {
+pub(super) fn sized(random: &mut Random, middle: i64, radius: i64) -> u64 {
     let exponent = (middle + within(random, radius) + 1023).clamp(0, 2046) as u64;
     sign(random) | exponent << 52 | digits(random)
 }
@@ -96,7 +96,7 @@ pub fn edge(random: &mut Random) -> u64 {
 }
 
 /// Any float.
-fn any(random: &mut Random) -> u64 {
+pub(super) fn any(random: &mut Random) -> u64 {
     match random.below(10) {
         0 | 1 => random.bits(),
         2 | 3 => edge(random),
