@@ -1,4 +1,4 @@
-// The float floor of document 01: its module 1. specs/Lib.antt says which files define what.
+// The float floor of document 01: its modules 1 and 2. specs/Lib.antt says which files define what.
 pub mod arc;
 pub mod interface;
 pub mod mul_add;
