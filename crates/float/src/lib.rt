@@ -6,4 +6,4 @@ pub mod number;
 pub mod product_error;
 pub mod sqrt;
 pub mod trig;
-pub mod wide;
+mod wide;

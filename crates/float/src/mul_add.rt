@@ -26,7 +26,7 @@ pub struct Parts {
 }
 
 // The sign, the digits and the place of a finite x.
-pub fn split(x: f64) -> Parts
+pub(crate) fn split(x: f64) -> Parts
     requires { ⌜ T (finite x) ⌝ }
     ensures { λ r. ⌜ Splits x (r .neg) (r .q) (r .k) ⌝ }
 {
@@ -47,7 +47,7 @@ pub fn split(x: f64) -> Parts
 
 // w * 2^(k - 11) units, rounded: w's upper 53 digits, moved up by one where the lower 11 say so. The
 // sum of the place and the digits is the pattern, and the leading digit adds one to the field.
-pub fn pack(neg: bool, w: u64, k: u64) -> f64
+fn pack(neg: bool, w: u64, k: u64) -> f64
     requires { ⌜ (0 < k → 2 ^ 63 ≤ w) ⌝ }
     ensures { λ r. ⌜ r ≡ units binary64 neg (closest w (2 ^ 11)) k ⌝ }
 {
@@ -62,7 +62,7 @@ pub fn pack(neg: bool, w: u64, k: u64) -> f64
 
 // The shift to the left that brings the highest digit of hi * 2^64 + lo to the top, or less where
 // that passes the format's smallest value, which lies y above.
-pub fn shift(hi: u64, lo: u64, y: u64) -> u64
+fn shift(hi: u64, lo: u64, y: u64) -> u64
     requires { ⌜ 0 < hi * 2 ^ 64 + lo ⌝ }
     ensures { λ r. ⌜ Shifts (hi * 2 ^ 64 + lo) y r ⌝ }
 {
@@ -75,7 +75,7 @@ pub fn shift(hi: u64, lo: u64, y: u64) -> u64
 }
 
 // (hi * 2^64 + lo) * 2^(y - 75) units, rounded.
-pub fn finish(neg: bool, hi: u64, lo: u64, y: u64) -> f64
+fn finish(neg: bool, hi: u64, lo: u64, y: u64) -> f64
     requires { ⌜ (0 < hi * 2 ^ 64 + lo) × (hi < 2 ^ 63) × (0 < y) ⌝ }
     ensures { λ r. ⌜ Finishes neg (hi * 2 ^ 64 + lo) y r ⌝ }
 {
@@ -89,7 +89,7 @@ pub fn finish(neg: bool, hi: u64, lo: u64, y: u64) -> f64
 }
 
 // ±x ± v, two numbers at one place, rounded: it has x's sign where both have it or x is the larger.
-pub fn combine(neg: bool, xh: u64, xl: u64, other: bool, vh: u64, vl: u64, y: u64) -> f64
+fn combine(neg: bool, xh: u64, xl: u64, other: bool, vh: u64, vl: u64, y: u64) -> f64
     requires { ⌜ (0 < xh * 2 ^ 64 + xl + (vh * 2 ^ 64 + vl)) × (xh < 2 ^ 62) × (vh < 2 ^ 62) × (0 < y) ⌝ }
     ensures { λ r. ⌜ Combines neg (xh * 2 ^ 64 + xl) other (vh * 2 ^ 64 + vl) y r ⌝ }
 {

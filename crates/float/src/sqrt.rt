@@ -11,7 +11,7 @@ use crate::wide::less;
 use crate::wide::product;
 
 // u * v < m * 2^52.
-pub fn below(u: u64, v: u64, m: u64) -> bool
+fn below(u: u64, v: u64, m: u64) -> bool
     ensures { λ r. ⌜ r ≡ ltb (u * v) (m * 2 ^ 52) ⌝ }
 {
     let p = product(u, v);
@@ -19,7 +19,7 @@ pub fn below(u: u64, v: u64, m: u64) -> bool
 }
 
 // The 53 digits of x as a whole number.
-pub fn digits(x: f64) -> u64
+fn digits(x: f64) -> u64
     requires { ⌜ T (not (isNan x)) ⌝ }
     ensures { λ r. ⌜ (2 ^ 52 ≤ r) × (r ≤ 2 ^ 53) ⌝ }
 {
@@ -29,7 +29,7 @@ pub fn digits(x: f64) -> u64
 // A first guess at the whole number nearest to the square root of m * 2^52: nothing is said of it
 // but its range. The fast inverse square root, and four steps of Newton's method, on m as a float,
 // whose pattern is made from m.
-pub fn guess(m: u64) -> u64
+fn guess(m: u64) -> u64
     requires { ⌜ (2 ^ 52 ≤ m) × (m < 2 ^ 54) ⌝ }
     ensures { λ r. ⌜ (2 ^ 52 ≤ r) × (r ≤ 2 ^ 53) ⌝ }
 {
@@ -58,7 +58,7 @@ pub fn guess(m: u64) -> u64
 
 // The whole number nearest to the square root of m * 2^52, for m from 2^52 to 2^54: that of which
 // the squares of the two middles beside it, less a quarter, have m * 2^52 between them.
-pub fn root(m: u64) -> u64
+fn root(m: u64) -> u64
     requires { ⌜ (2 ^ 52 ≤ m) × (m < 2 ^ 54) ⌝ }
     ensures { λ r. ⌜ Roots (m * 2 ^ 52) r ⌝ }
 {
@@ -73,7 +73,7 @@ pub fn root(m: u64) -> u64
 }
 
 // The shift that gives q all its 53 digits.
-pub fn lift(q: u64) -> u64
+fn lift(q: u64) -> u64
     requires { ⌜ (0 < q) × (q < 2 ^ 53) ⌝ }
     ensures { λ r. ⌜ (r ≤ 52) × (2 ^ 52 ≤ q * 2 ^ r) × (q * 2 ^ r < 2 ^ 53) ⌝ }
 {
@@ -81,7 +81,7 @@ pub fn lift(q: u64) -> u64
 }
 
 // q * 2^k units, for a q of 53 digits, or one up.
-pub fn write(q: u64, k: u64) -> f64
+fn write(q: u64, k: u64) -> f64
     requires { ⌜ (2 ^ 52 ≤ q) × (q ≤ 2 ^ 53) × (k ≤ 2045) ⌝ }
     ensures { λ r. ⌜ r ≡ units binary64 false q k ⌝ }
 {
