@@ -164,3 +164,33 @@ pub mod float_bench {
         unsafe { bench_each_product_error(hs.as_mut_ptr(), hs.len(), x, c) }
     }
 }
+
+/// The root finder.
+pub mod polynomial {
+    unsafe extern "C" {
+        fn polynomial_roots(
+            coefficients: *const f64,
+            count: usize,
+            lower: f64,
+            upper: f64,
+            result: *mut f64,
+            places: usize,
+        ) -> i64;
+    }
+
+    /// The operation Roots.
+    pub fn roots(coefficients: &[f64], lower: f64, upper: f64, result: &mut [f64]) -> i64 {
+        // SAFETY: both slices are lent with their own lengths, and the function
+        // is proved to stay inside them.
+        unsafe {
+            polynomial_roots(
+                coefficients.as_ptr(),
+                coefficients.len(),
+                lower,
+                upper,
+                result.as_mut_ptr(),
+                result.len(),
+            )
+        }
+    }
+}

@@ -5,8 +5,9 @@
 
 use lemongully_oracle::functions::operands::Operands;
 use lemongully_oracle::functions::{FUNCTIONS, Function};
-use lemongully_oracle::generate::Random;
+use lemongully_oracle::generate::{Random, roots};
 use lemongully_oracle::linked;
+use lemongully_oracle::operations::roots_op;
 use std::process::ExitCode;
 
 /// What a run of one function found.
@@ -73,6 +74,35 @@ fn float_runs(count: u64, seed: u64) -> Vec<Run> {
     FUNCTIONS.iter().map(run).collect()
 }
 
+/// The section `polynomial`: the operation Roots, its answer and every place of
+/// the result slice, which holds rubbish beforehand.
+fn polynomial_runs(count: u64, seed: u64) -> Vec<Run> {
+    let (mut differences, mut first) = (0, None);
+    for index in 0..count {
+        let call = roots::call(seed, index);
+        let rubbish = |place: usize| f64::from_bits(seed ^ (place as u64 * 0x9E37_79B9_7F4A_7C15));
+        let before: Vec<f64> = (0..call.result).map(rubbish).collect();
+        let (mut expected, mut found) = (before.clone(), before);
+        let answer = roots_op(&call.coefficients, call.lower, call.upper, &mut expected);
+        let linked =
+            linked::polynomial::roots(&call.coefficients, call.lower, call.upper, &mut found);
+        let same = expected
+            .iter()
+            .zip(&found)
+            .all(|(a, b)| a.to_bits() == b.to_bits());
+        if answer != linked || !same {
+            differences += 1;
+            first.get_or_insert_with(|| format!("{call:?}: {answer}, linked {linked}"));
+        }
+    }
+    vec![Run {
+        name: "roots",
+        inputs: count,
+        differences,
+        first,
+    }]
+}
+
 fn section(arguments: &[String]) -> Option<Vec<Run>> {
     let [section, count, rest @ ..] = arguments else {
         return None;
@@ -85,6 +115,7 @@ fn section(arguments: &[String]) -> Option<Vec<Run>> {
     };
     match section.as_str() {
         "float" => Some(float_runs(count, seed)),
+        "polynomial" => Some(polynomial_runs(count, seed)),
         _ => None,
     }
 }
@@ -92,7 +123,7 @@ fn section(arguments: &[String]) -> Option<Vec<Run>> {
 fn main() -> ExitCode {
     let arguments: Vec<String> = std::env::args().skip(1).collect();
     let Some(runs) = section(&arguments) else {
-        eprintln!("differential float COUNT [SEED]");
+        eprintln!("differential float|polynomial COUNT [SEED]");
         return ExitCode::FAILURE;
     };
     for run in &runs {

@@ -1,0 +1,12 @@
+-- `Compensated::from` meets its contract. Assumes nothing.
+use mathlib.Core.Path.{_≡_, refl}
+use lib.Ieee.{ofBits}
+use Rattle.polynomial.proofs.compensated.Compensated.from.Statement.{statement}
+use Rattle.polynomial.proofs.compensated.Compensated.from.Tie as tie
+
+returns : tie.Need-returns
+unfolding ofBits
+returns c = refl
+
+pub from-spec : {M : Type 1} → statement M
+from-spec = tie.close (tie.spec returns)

@@ -1,0 +1,12 @@
+-- `Compensated::plus` meets its contract. Assumes nothing.
+use mathlib.Core.Path.{_≡_, refl}
+use Rattle.polynomial.specs.Compensated.{plus}
+use Rattle.polynomial.proofs.compensated.Compensated.plus.Statement.{statement}
+use Rattle.polynomial.proofs.compensated.Compensated.plus.Tie as tie
+
+returns : tie.Need-returns
+unfolding plus
+returns c = refl
+
+pub plus-spec : {M : Type 1} → statement M
+plus-spec = tie.close (tie.spec returns)

@@ -1,0 +1,2 @@
+mod Harmonics
+mod Squares

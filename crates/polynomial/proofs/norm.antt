@@ -1,0 +1,3 @@
+mod Charted
+mod Bounded
+mod Halves

@@ -1,0 +1,4 @@
+mod Horner
+mod Trim
+pub mod Every
+mod Powers

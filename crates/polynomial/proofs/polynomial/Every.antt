@@ -1,0 +1,33 @@
+-- Whether every part of the coefficients from i on passes a test, by the parts of the first of them. Assumes nothing.
+use Prim.Native.Nat.{ℕ, suc, _+_, _≤_, _<_}
+use native.Mathlib.Numerals.{add-one}
+use native.Mathlib.Omega.{arith}
+use mathlib.Core.Path.{_≡_, refl, sym, ap, ap₂, _∙_}
+use mathlib.Core.Bool.{Bool, true, false, _&&_}
+use mathlib.Core.List.{List, [], _∷_}
+use lib.ListN.{length, getD}
+use lib.Seq.{slice, slice-cons, slice-empty}
+use lib.Ieee.{Float}
+use Rattle.polynomial.specs.declared.compensated.Compensated.{Compensated}
+
+-- `all` says it of a list, and `passes` of a part
+pub record Every (passes : Float → Bool) (all : List Compensated → Bool) : Type 0 where
+  pub none : all [] ≡ true
+  pub more : (c : Compensated) (cs : List Compensated) → all (c ∷ cs) ≡ (passes (c .high) && passes (c .low) && all cs)
+
+module _ {passes : Float → Bool} {all : List Compensated → Bool} (e : Every passes all) where
+  module _ (p : List Compensated) (n i : ℕ) (d : Compensated) (I : i < n) (h : n ≤ length p) where
+    parts : (a b : Bool) → passes (getD p i d .high) ≡ a → passes (getD p i d .low) ≡ b → all (slice i n p) ≡ (a && b && all (slice (suc i) n p))
+    parts a b ea eb = ap all (slice-cons i n p d I h) ∙ e .more (getD p i d) (slice (suc i) n p) ∙ ap₂ (λ (x y : Bool). x && y && all (slice (suc i) n p)) ea eb
+
+    pub every-on : passes (getD p i d .high) ≡ true → passes (getD p i d .low) ≡ true → all (slice i n p) ≡ all (slice (i + 1) n p)
+    every-on a b = parts true true a b ∙ ap (λ (j : ℕ). all (slice j n p)) (sym (add-one i))
+
+    pub bad-high : passes (getD p i d .high) ≡ false → all (slice i n p) ≡ false
+    bad-high a = parts false (passes (getD p i d .low)) a refl
+
+    pub bad-low : passes (getD p i d .high) ≡ true → passes (getD p i d .low) ≡ false → all (slice i n p) ≡ false
+    bad-low a b = parts true false a b
+
+  pub every-end : (p : List Compensated) (n i : ℕ) → n ≤ i → i ≤ n → all (slice i n p) ≡ true
+  every-end p n i a b = let s : i ≡ n = omega arith in ap all (ap (λ (j : ℕ). slice j n p) s ∙ slice-empty n p) ∙ e .none

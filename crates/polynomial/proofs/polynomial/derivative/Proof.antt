@@ -1,0 +1,91 @@
+-- `polynomial::polynomial::derivative` meets its contract. The loop's invariant: what is stored, and then the coefficients from i on times their powers.
+use Prim.Native.Nat.{_-_, _≤_, _<_, _^_}
+use native.Mathlib.Omega.{arith}
+use mathlib.Core.Path.{_≡_, refl, sym, _∙_}
+use mathlib.Core.List.{_++_}
+use lib.ListN.{length, take, length-set}
+use lib.Seq.{slice}
+use lib.Dec.{le→leb}
+use lib.Ieee.{inFloat}
+use borrow.Author.Needs.{needs}
+use Rattle.polynomial.specs.Polynomial.{powered, derivative}
+use Rattle.polynomial.proofs.polynomial.Powers.{derivative-start, derivative-more, derivative-end}
+use Rattle.polynomial.proofs.polynomial.derivative.Statement.{statement}
+use Rattle.polynomial.proofs.polynomial.derivative.Tie as tie
+
+abbrev Inv-loop : tie.InvT-loop
+Inv-loop n p d₀ i₀ d i = (0 < i) × (i ≤ n) × (length p ≡ 9) × (length d ≡ 9) × (derivative (take n p) ≡ take (i - 1) d ++ powered i (slice i n p))
+
+abbrev μ-loop : tie.MeasureT-loop
+μ-loop n p d₀ i₀ d i = n - i
+
+loop-holds : tie.Need-loop-holds Inv-loop μ-loop
+loop-holds c = (search needs, search needs, search needs, refl, derivative-start (take (c .args .n) (c .args .t1)))
+
+mul-c : tie.Need-mul-c Inv-loop μ-loop
+mul-c c = search needs
+
+array-copy-out-c : tie.Need-array-copy-out-c Inv-loop μ-loop
+array-copy-out-c c = search needs
+
+int-to-float-from : tie.Need-int-to-float-from Inv-loop μ-loop
+unfolding inFloat
+int-to-float-from c = le→leb (c .before .before .before .loop .i) (2 ^ 53) (omega arith)
+
+from-requires : tie.Need-from-requires Inv-loop μ-loop
+from-requires c κs = search needs
+
+times-requires : tie.Need-times-requires Inv-loop μ-loop
+times-requires c κs = search needs
+
+sub-d : tie.Need-sub-d Inv-loop μ-loop
+sub-d c = search needs
+
+mul-d : tie.Need-mul-d Inv-loop μ-loop
+mul-d c = search needs
+
+array-set-from-d : tie.Need-array-set-from-d Inv-loop μ-loop
+array-set-from-d c = search needs
+
+add-i : tie.Need-add-i Inv-loop μ-loop
+add-i c = search needs
+
+loop-less : tie.Need-loop-less Inv-loop μ-loop
+loop-less c = search needs
+
+loop-again : tie.Need-loop-again Inv-loop μ-loop
+loop-again c =
+    let l = c .before .before .before .before .before in
+    let a = l .before .args in (
+      search needs,
+      search needs,
+      l .loop .inv .2,
+      simp length-set (l .loop .inv .3),
+      l .loop .inv .4 ∙ derivative-more (a .t1) (l .loop .d) (a .n) (l .loop .i) _ (c .before .from .result) (c .times .result) (search needs) (search needs) (omega arith) (omega arith) (c .before .from .ensures) (c .times .ensures),
+    )
+
+returns : tie.Need-returns Inv-loop μ-loop
+returns c =
+    let l = c .before in
+    let a = l .before .args in
+    sym (l .loop .inv .4 ∙ derivative-end (a .t1) (l .loop .d) (a .n) (l .loop .i) (search needs) (search needs))
+
+pub derivative-spec : {M : Type 1} → statement M
+derivative-spec =
+    tie.close
+    (tie.spec
+    Inv-loop
+    μ-loop
+    loop-holds
+    mul-c
+    array-copy-out-c
+    int-to-float-from
+    from-requires
+    times-requires
+    sub-d
+    mul-d
+    array-set-from-d
+    add-i
+    loop-less
+    loop-again
+    returns)

@@ -1,0 +1,87 @@
+-- `polynomial::polynomial::evaluate` meets its contract. The loop's invariant: the sum is the value of the coefficients from i on.
+use Prim.Native.Nat.{_≤_}
+use native.Mathlib.Omega.{arith}
+use mathlib.Core.Path.{_≡_, ap, _∙_}
+use lib.ListN.{length}
+use lib.Seq.{slice}
+use borrow.Author.Needs.{needs}
+use Rattle.float.specs.Laws.Zero.{zero-bits}
+use Rattle.polynomial.specs.Compensated.{from, value}
+use Rattle.polynomial.specs.Polynomial.{horner, evaluate}
+use Rattle.polynomial.proofs.polynomial.Horner.{horner-none, horner-more, horner-all}
+use Rattle.polynomial.proofs.polynomial.evaluate.Statement.{statement}
+use Rattle.polynomial.proofs.polynomial.evaluate.Tie as tie
+
+abbrev Inv-loop : tie.InvT-loop
+Inv-loop n x p point sum₀ i₀ sum i = (i ≤ n) × (length p ≡ 9) × (sum ≡ horner (slice i n p) x)
+
+abbrev μ-loop : tie.MeasureT-loop
+μ-loop n x p point sum₀ i₀ sum i = i
+
+from-requires : tie.Need-from-requires Inv-loop μ-loop
+from-requires c κs = search needs
+
+from-requires-2 : tie.Need-from-requires-2 Inv-loop μ-loop
+from-requires-2 c κs = search needs
+
+loop-holds : tie.Need-loop-holds Inv-loop μ-loop
+loop-holds c =
+    let a = c .before .before .args in
+    (search needs, search needs, c .from2 .ensures ∙ ap from zero-bits ∙ horner-none (a .t1) (a .n) (a .x))
+
+sub-i : tie.Need-sub-i Inv-loop μ-loop
+sub-i c = search needs
+
+mul-c : tie.Need-mul-c Inv-loop μ-loop
+mul-c c = search needs
+
+array-copy-out-c : tie.Need-array-copy-out-c Inv-loop μ-loop
+array-copy-out-c c = search needs
+
+times-requires : tie.Need-times-requires Inv-loop μ-loop
+times-requires c κs = search needs
+
+plus-requires : tie.Need-plus-requires Inv-loop μ-loop
+plus-requires c κs = search needs
+
+loop-less : tie.Need-loop-less Inv-loop μ-loop
+loop-less c = search needs
+
+loop-again : tie.Need-loop-again Inv-loop μ-loop
+loop-again c =
+    let l = c .before .before .before .before in
+    let o = l .before .before in
+    let a = o .before .args in (
+      search needs,
+      l .loop .inv .1,
+      horner-more (a .t1) (a .n) (a .x) (l .loop .i) _ (search needs) (search needs) (omega arith) (l .loop .sum) (o .from .result) (c .before .times .result) (c .plus .result) (l .loop .inv .2) (o .from .ensures) (c .before .times .ensures) (c .plus .ensures),
+    )
+
+value-requires : tie.Need-value-requires Inv-loop μ-loop
+value-requires c κs = search needs
+
+returns : tie.Need-returns Inv-loop μ-loop
+unfolding evaluate
+returns c =
+    let l = c .before .before in
+    let a = l .before .before .before .args in
+    c .value .ensures ∙ ap value (l .loop .inv .2 ∙ horner-all (a .t1) (a .n) (a .x) (l .loop .i) (c .before .loop-test .left))
+
+pub evaluate-spec : {M : Type 1} → statement M
+evaluate-spec =
+    tie.close
+    (tie.spec
+    Inv-loop
+    μ-loop
+    from-requires
+    from-requires-2
+    loop-holds
+    sub-i
+    mul-c
+    array-copy-out-c
+    times-requires
+    plus-requires
+    loop-less
+    loop-again
+    value-requires
+    returns)

@@ -1,0 +1,278 @@
+-- `polynomial::roots`' `partitions` and `roots`, which call each other, meet their contracts. The measures are twice the number of coefficients, and one more for `roots`. Assumes nothing.
+use Prim.Native.Nat.{ℕ, _+_, _-_, _^_, _<_, _≤_}
+use native.Mathlib.Omega.{arith}
+use native.Mathlib.Nat.{le-refl, le-of-eq}
+use mathlib.Core.Path.{_≡_, refl, sym, ap, _∙_, subst}
+use mathlib.Core.Bool.{Bool, cond}
+use mathlib.Core.List.{List, []}
+use lib.Arith.{lt-of-le-ne}
+use lib.Pow.{pow-pos, pow-mono}
+use lib.ListN.{length, take}
+use lib.Seq.{length-take-le}
+use lib.Ieee.{Float}
+use borrow.Author.Needs.{needs}
+use borrow.Author.Tests.{not-true, not-false}
+use borrow.Fn.Kinds.{In}
+use borrow.Fn.PlainCycle.{Measures, is, falls, and}
+use denote.Ref.{now}
+use Rattle.polynomial.specs.Polynomial.{derivative}
+use Rattle.polynomial.specs.Inside.{Ready}
+use Rattle.polynomial.specs.declared.compensated.Compensated.{Compensated}
+use Rattle.polynomial.specs.Laws.Degree.{counted, counted-short, found, none-left, two-left, more-left}
+use Rattle.polynomial.specs.Laws.Enclosed.{roots-in, points-ready, points-some}
+use Rattle.polynomial.specs.Roots as Of
+use Rattle.polynomial.proofs.roots.Cycle.{front, said, line-of, bounded, put-room, inner-room, points-room}
+use Rattle.polynomial.proofs.roots.+partitions+roots.{statement}
+use Rattle.polynomial.proofs.roots.+partitions+roots.Tie.{close}
+use Rattle.polynomial.proofs.roots.partitions.Reads as partitions
+use Rattle.polynomial.proofs.roots.partitions.Kinds as partitions-kinds
+use Rattle.polynomial.proofs.roots.+partitions+roots.Lts-partitions as partitions-lts
+use Rattle.polynomial.proofs.roots.roots.Reads as roots
+use Rattle.polynomial.proofs.roots.roots.Kinds as roots-kinds
+use Rattle.polynomial.proofs.roots.+partitions+roots.Lts-roots as roots-lts
+use Rattle.polynomial.proofs.polynomial.all_finite.Reads as all-finite-reads
+use Rattle.polynomial.proofs.polynomial.derivative.Reads as derivative-reads
+use Rattle.polynomial.proofs.polynomial.trimmed.Reads as trimmed-reads
+use Rattle.polynomial.proofs.roots.keep.Reads as keep-reads
+use Rattle.polynomial.proofs.roots.quotient.Reads as quotient-reads
+use Rattle.polynomial.proofs.roots.scan.Reads as scan-reads
+
+abbrev μ-partitions : Measures 1 partitions-kinds.ps ℕ
+μ-partitions κs a = a .1 .0 + a .1 .0
+
+abbrev μ-roots : Measures 1 roots-kinds.ps ℕ
+μ-roots κs a = a .1 .0 + a .1 .0 + 1
+
+abbrev partitions-at : ℕ → In 1 partitions-kinds.ps
+partitions-at t = and 1 partitions-kinds.ps (is 1 partitions-kinds.ps μ-partitions t) partitions.Pre
+
+abbrev partitions-below : ℕ → In 1 partitions-kinds.ps
+partitions-below t = and 1 partitions-kinds.ps (falls 1 partitions-kinds.ps _<_ μ-partitions t) partitions.Pre
+
+abbrev roots-at : ℕ → In 1 roots-kinds.ps
+roots-at t = and 1 roots-kinds.ps (is 1 roots-kinds.ps μ-roots t) roots.Pre
+
+abbrev roots-below : ℕ → In 1 roots-kinds.ps
+roots-below t = and 1 roots-kinds.ps (falls 1 roots-kinds.ps _<_ μ-roots t) roots.Pre
+
+-- what is known of the functions that each calls
+abbrev inner : ℕ → partitions-lts.Claims
+inner t = (derivative-reads.Asked, derivative-reads.Learnt, roots-below t, roots.Post, keep-reads.Asked, keep-reads.Learnt)
+
+abbrev outer : ℕ → roots-lts.Claims
+outer t = (
+  trimmed-reads.Asked,
+  trimmed-reads.Learnt,
+  all-finite-reads.Asked,
+  all-finite-reads.Learnt,
+  quotient-reads.Asked,
+  quotient-reads.Learnt,
+  partitions-below t,
+  partitions.Post,
+  scan-reads.Asked,
+  scan-reads.Learnt,
+)
+
+module _ (t : ℕ) where
+  -- ---- partitions
+
+  partitions-derivative-requires : partitions-lts.Need-derivative-requires (inner t) (partitions-at t) partitions.Post
+  partitions-derivative-requires c κs = search needs
+
+  partitions-sub-roots : partitions-lts.Need-sub-roots (inner t) (partitions-at t) partitions.Post
+  partitions-sub-roots c = search needs
+
+  partitions-roots-requires : partitions-lts.Need-roots-requires (inner t) (partitions-at t) partitions.Post
+  partitions-roots-requires c κs =
+      let s = c .before .before .before in
+      let a = s .args in
+      let r = inner-room (a .n) (a .p) (a .lower) (a .upper) (s .pre .1 .0) (length (now (a .points))) _ (s .pre .1 .2) refl in
+      (omega arith, (omega arith, r .0, s .pre .1 .3))
+
+  -- the derivative's roots, and their number, after the call
+  abbrev Roots : partitions-lts.After-roots (inner t) (partitions-at t) partitions.Post → List Float
+  Roots c = let a = c .before .before .before .before .args in Of.roots-at (a .n - 1) (derivative (take (a .n) (a .p))) (a .lower) (a .upper)
+
+  called : (c : partitions-lts.After-roots (inner t) (partitions-at t) partitions.Post)
+      → (c .roots .result ≡ length (Roots c)) × (take (c .roots .result) (c .roots .last .1 .1 .1 .1 .0) ≡ Roots c) × (c .roots .result + 2 ≤ length (c .roots .last .1 .1 .1 .1 .0))
+  called c =
+      let s = c .before .before .before .before in
+      let a = s .args in
+      let e = ap (λ (q : List Compensated). Of.roots-at (a .n - 1) q (a .lower) (a .upper)) (c .before .before .derivative .ensures) in
+      let n = c .roots .ensures .0 ∙ ap length e in
+      let l = c .roots .kept .1 .1 .1 .1 .0 in
+      let r = inner-room (a .n) (a .p) (a .lower) (a .upper) (s .pre .1 .0) (length (now (a .points))) (c .roots .result) (s .pre .1 .2) n in
+      (n, c .roots .ensures .1 ∙ e, omega arith)
+
+  partitions-keep-requires : partitions-lts.Need-keep-requires (inner t) (partitions-at t) partitions.Post
+  partitions-keep-requires c κs = let r = called (c .before .before .before) .2 in omega arith
+
+  partitions-keep-requires-2 : partitions-lts.Need-keep-requires-2 (inner t) (partitions-at t) partitions.Post
+  partitions-keep-requires-2 c κs =
+      let k = c .before .before .before in
+      let r = k .before .before .before .before in
+      let a = r .before .before .before .before .args in
+      let m = called r .2 in
+      let l = k .keep .kept .0 in
+      let b = put-room (a .lower) (r .roots .result) (r .roots .last .1 .1 .1 .1 .0) (k .keep .result) (k .keep .ensures .0) in
+      omega arith
+
+  partitions-same-length : partitions-lts.Need-same-length (inner t) (partitions-at t) partitions.Post
+  partitions-same-length c = search needs
+
+  partitions-returns : partitions-lts.Need-returns (inner t) (partitions-at t) partitions.Post
+  partitions-returns c =
+      let d = c .before .before in
+      let k = d .before .before .before .before in
+      let r = k .before .before .before .before in
+      let s = r .before .before .before .before in
+      let a = s .args in
+      bounded (a .n - 1) (derivative (take (a .n) (a .p))) (a .lower) (a .upper) (s .pre .1 .3) (r .roots .last .1 .1 .1 .1 .0) (k .keep .last .0) (d .keep2 .last .0) (r .roots .result) (k .keep .result) (d .keep2 .result)
+      (called r .1) (k .keep .ensures .0) (k .keep .ensures .1) (d .keep2 .ensures .0) (d .keep2 .ensures .1)
+
+  -- ---- roots
+
+  roots-trimmed-requires : roots-lts.Need-trimmed-requires (outer t) (roots-at t) roots.Post
+  roots-trimmed-requires c κs = search needs
+
+  -- the coefficients that are left: as many as the result says, and no more than there were
+  abbrev Q : roots-lts.After-trimmed (outer t) (roots-at t) roots.Post → List Compensated
+  Q c = take (c .trimmed .result) (c .before .before .args .t1)
+
+  size : (c : roots-lts.After-trimmed (outer t) (roots-at t) roots.Post)
+      → (length (Q c) ≡ c .trimmed .result) × (length (take (c .before .before .args .n) (c .before .before .args .t1)) ≤ c .before .before .args .n)
+  size c =
+      let a = c .before .before .args in
+      let nine : length (a .t1) ≡ 9 = search needs in
+      (length-take-le (c .trimmed .result) (a .t1) (omega arith), le-of-eq (length-take-le (a .n) (a .t1) (omega arith)))
+
+  -- no coefficient counts, or one
+  none : (c : roots-lts.After-trimmed (outer t) (roots-at t) roots.Post) → counted (Q c) < 2
+      → Of.roots-at (c .before .before .args .n) (take (c .before .before .args .n) (c .before .before .args .t1)) (c .before .before .args .lower) (c .before .before .args .upper) ≡ []
+  none c h =
+      let a = c .before .before .args in
+      none-left (a .n) (counted (Q c)) (take (a .n) (a .t1)) (Q c) (a .lower) (a .upper) (c .trimmed .ensures .1) refl (size c .1) h
+
+  roots-returns : roots-lts.Need-returns (outer t) (roots-at t) roots.Post
+  roots-returns c =
+      let m = c .before in
+      let k = counted-short (Q m) in
+      let l = size m .0 in
+      said _ [] 0 (now (m .before .before .args .out)) (none m (omega arith)) refl refl
+
+  roots-all-finite-requires : roots-lts.Need-all-finite-requires (outer t) (roots-at t) roots.Post
+  roots-all-finite-requires c κs = search needs
+
+  roots-returns-2 : roots-lts.Need-returns-2 (outer t) (roots-at t) roots.Post
+  roots-returns-2 c =
+      let m = c .before .before .before in
+      let e : counted (Q m) ≡ 0 = ap (λ (b : Bool). cond b (length (Q m)) 0) (sym (c .before .all-finite .ensures) ∙ not-true _ (c .if2 .taken)) in
+      said _ [] 0 (now (m .before .before .args .out)) (none m (omega arith)) refl refl
+
+  -- past the test of finite parts, each coefficient counts
+  counts : (c : roots-lts.Else2 (outer t) (roots-at t) roots.Post) → counted (Q (c .before .before .before)) ≡ c .before .before .before .trimmed .result
+  counts c =
+      let m = c .before .before .before in
+      ap (λ (b : Bool). cond b (length (Q m)) 0) (sym (c .before .all-finite .ensures) ∙ not-false _ (c .if2 .left)) ∙ size m .0
+
+  roots-array-copy-out-a : roots-lts.Need-array-copy-out-a (outer t) (roots-at t) roots.Post
+  roots-array-copy-out-a c = search needs
+
+  roots-array-copy-out-b : roots-lts.Need-array-copy-out-b (outer t) (roots-at t) roots.Post
+  roots-array-copy-out-b c = search needs
+
+  roots-quotient-requires : roots-lts.Need-quotient-requires (outer t) (roots-at t) roots.Post
+  roots-quotient-requires c κs = omega (arith, pow-pos (c .before .before .before .before .before .before .before .before .before .args .n))
+
+  roots-same-length : roots-lts.Need-same-length (outer t) (roots-at t) roots.Post
+  roots-same-length c = search needs
+
+  roots-returns-3 : roots-lts.Need-returns-3 (outer t) (roots-at t) roots.Post
+  roots-returns-3 c =
+      let z = c .before .before in
+      let i = z .before .before .before .before in
+      let m = i .before .before .before .before in
+      let a = m .before .before .args in
+      let nine : length (a .t1) ≡ 9 = search needs in
+      let e = two-left (a .n) (m .trimmed .result) (take (a .n) (a .t1)) (Q m) (a .lower) (a .upper) (m .trimmed .ensures .1) (counts (i .before)) (size m .1) (i .if3 .taken) in
+      said _ _ (z .quotient .result) (z .quotient .last .1 .1 .1 .1 .0) (e ∙ line-of (a .t1) (m .trimmed .result) _ (a .lower) (a .upper) (i .if3 .taken) (omega arith)) (z .quotient .ensures .0) (front _ _ _ _ (z .quotient .ensures .0) (z .quotient .ensures .1))
+
+  roots-slice-aggregate-partitions : roots-lts.Need-slice-aggregate-partitions (outer t) (roots-at t) roots.Post
+  roots-slice-aggregate-partitions c = search needs
+
+  three : (c : roots-lts.Else3 (outer t) (roots-at t) roots.Post) → 2 < c .before .before .before .before .trimmed .result
+  three c = lt-of-le-ne (c .before .before .before .if1 .left) (λ e. c .if3 .left (sym e))
+
+  roots-partitions-requires : roots-lts.Need-partitions-requires (outer t) (roots-at t) roots.Post
+  roots-partitions-requires c κs =
+      let w = c .before in
+      let m = w .before .before .before .before in
+      let s = m .before .before in
+      let p : 2 ^ m .trimmed .result ≤ 2 ^ 9 = pow-mono {i = m .trimmed .result} {j = 9} (omega arith) in
+      (omega arith, (three w, omega arith, omega arith, s .pre .1 .2))
+
+  roots-slice-aggregate-scan : roots-lts.Need-slice-aggregate-scan (outer t) (roots-at t) roots.Post
+  roots-slice-aggregate-scan c = search needs
+
+  roots-scan-requires : roots-lts.Need-scan-requires (outer t) (roots-at t) roots.Post
+  roots-scan-requires c κs =
+      let q = c .before .before .before in
+      let w = q .before .before in
+      let m = w .before .before .before .before in
+      let s = m .before .before in
+      let a = s .args in
+      let R = Of.roots-at (m .trimmed .result - 1) (derivative (Q m)) (a .lower) (a .upper) in
+      let z = points-some (a .lower) (a .upper) R in
+      let n = q .partitions .ensures .0 in
+      let l = q .partitions .kept .1 .1 .1 .1 .0 in
+      let f = points-room (m .trimmed .result) (a .t1) (a .lower) (a .upper) (three w) 9 512 (q .partitions .result) (omega arith) (le-refl 512) n in
+      let g = points-room (m .trimmed .result) (a .t1) (a .lower) (a .upper) (three w) (a .n) (length (now (a .out))) (q .partitions .result) (m .trimmed .ensures .0) (s .pre .1 .1) n in (
+        omega arith,
+        omega arith,
+        omega arith,
+        omega arith,
+        subst Ready (sym (q .partitions .ensures .1)) (points-ready (a .lower) (a .upper) (s .pre .1 .2) R (roots-in (a .lower) (a .upper) (s .pre .1 .2) (m .trimmed .result - 1) (derivative (Q m)))),
+      )
+
+  roots-same-length-2 : roots-lts.Need-same-length-2 (outer t) (roots-at t) roots.Post
+  roots-same-length-2 c = search needs
+
+  roots-returns-4 : roots-lts.Need-returns-4 (outer t) (roots-at t) roots.Post
+  roots-returns-4 c =
+      let x = c .before .before in
+      let q = x .before .before .before .before in
+      let w = q .before .before in
+      let m = w .before .before .before .before in
+      let a = m .before .before .args in
+      let e = more-left (a .n) (m .trimmed .result) (take (a .n) (a .t1)) (Q m) (a .lower) (a .upper) (m .trimmed .ensures .1) (counts (w .before)) (size m .1) (size m .0) (three w) in
+      said _ _ (x .scan .result) (x .scan .last .1 .1 .1 .1 .0) (e ∙ ap (λ (l : List Float). found (Q m) l) (sym (q .partitions .ensures .1))) (x .scan .ensures .0) (x .scan .ensures .1)
+
+pub +partitions+roots-spec : {M : Type 1} → statement M
++partitions+roots-spec = close μ-partitions μ-roots (λ t. partitions-lts.spec (inner t)
+    (partitions-at t)
+    partitions.Post
+    (partitions-derivative-requires t)
+    (partitions-sub-roots t)
+    (partitions-roots-requires t)
+    (partitions-keep-requires t)
+    (partitions-keep-requires-2 t)
+    (partitions-same-length t)
+    (partitions-returns t))
+    λ t. roots-lts.spec (outer t)
+    (roots-at t)
+    roots.Post
+    (roots-trimmed-requires t)
+    (roots-returns t)
+    (roots-all-finite-requires t)
+    (roots-returns-2 t)
+    (roots-array-copy-out-a t)
+    (roots-array-copy-out-b t)
+    (roots-quotient-requires t)
+    (roots-same-length t)
+    (roots-returns-3 t)
+    (roots-slice-aggregate-partitions t)
+    (roots-partitions-requires t)
+    (roots-slice-aggregate-scan t)
+    (roots-scan-requires t)
+    (roots-same-length-2 t)
+    (roots-returns-4 t)

@@ -1,0 +1,48 @@
+-- `polynomial::roots::quotient` meets its contract.
+use borrow.Author.Needs.{needs}
+use denote.Ref.{now}
+use Rattle.polynomial.proofs.roots.Linear.{one, above, below}
+use Rattle.polynomial.proofs.roots.quotient.Statement.{statement}
+use Rattle.polynomial.proofs.roots.quotient.Tie as tie
+
+value-requires : tie.Need-value-requires
+value-requires c κs = search needs
+
+value-requires-2 : tie.Need-value-requires-2
+value-requires-2 c κs = search needs
+
+slice-write-out : tie.Need-slice-write-out
+slice-write-out c = search needs
+
+same-length : tie.Need-same-length
+same-length c = search needs
+
+returns : tie.Need-returns
+returns c =
+    let v = c .before .before in
+    let a = v .before .before .before .args in
+    one (a .a) (a .b) (a .lower) (a .upper) (v .before .value .result) (v .value2 .result) (v .before .value .ensures) (v .value2 .ensures) (now (a .out)) (search needs) (c .before .if1 .taken) (c .if2 .taken)
+
+returns-2 : tie.Need-returns-2
+returns-2 c =
+    let v = c .before .before in
+    let a = v .before .before .before .args in
+    above (a .a) (a .b) (a .lower) (a .upper) (v .before .value .result) (v .value2 .result) (v .before .value .ensures) (v .value2 .ensures) (now (a .out)) (c .before .if1 .taken) (c .if2 .left)
+
+returns-3 : tie.Need-returns-3
+returns-3 c =
+    let v = c .before in
+    let a = v .before .before .before .args in
+    below (a .a) (a .b) (a .lower) (a .upper) (v .before .value .result) (v .value2 .result) (v .before .value .ensures) (v .value2 .ensures) (now (a .out)) (c .if1 .left)
+
+pub quotient-spec : {M : Type 1} → statement M
+quotient-spec =
+    tie.close
+    (tie.spec
+    value-requires
+    value-requires-2
+    slice-write-out
+    same-length
+    returns
+    returns-2
+    returns-3)

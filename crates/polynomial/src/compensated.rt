@@ -1,0 +1,66 @@
+// Compensated numbers, from src/singularity/j1j2free.rs: a rounded value and its residual rounding
+// error, by value.
+ghost use mathlib.Core.Path.{_≡_};
+ghost use Rattle.polynomial.specs.Compensated as Of;
+use float::product_error::product_error;
+
+pub struct Compensated {
+    pub high: f64,
+    pub low: f64,
+}
+
+impl Compensated {
+    // A float with a residual of zero.
+    pub fn from(high: f64) -> Self
+        ensures { λ r. ⌜ r ≡ Of.from high ⌝ }
+    {
+        Self { high, low: 0.0 }
+    }
+
+    // Adds both components and retains the rounding error.
+    pub fn plus(self, other: Compensated) -> Self
+        ensures { λ r. ⌜ r ≡ Of.plus self other ⌝ }
+    {
+        let sum = self.high + other.high;
+        let virtual_other = sum - self.high;
+        let error = (self.high - (sum - virtual_other))
+            + (other.high - virtual_other)
+            + self.low
+            + other.low;
+        let high = sum + error;
+        Self {
+            high,
+            low: error - (high - sum),
+        }
+    }
+
+    // Multiplies both components and retains the rounding error.
+    pub fn times(self, other: Compensated) -> Self
+        ensures { λ r. ⌜ r ≡ Of.times self other ⌝ }
+    {
+        let product = self.high * other.high;
+        let error = product_error(self.high, other.high)
+            + self.high * other.low
+            + self.low * other.high
+            + self.low * other.low;
+        let high = product + error;
+        Self {
+            high,
+            low: error - (high - product),
+        }
+    }
+
+    // Both components rounded to one float.
+    pub fn value(self) -> f64
+        ensures { λ r. ⌜ r ≡ Of.value self ⌝ }
+    {
+        self.high + self.low
+    }
+
+    // Whether both components are zero.
+    pub fn is_zero(self) -> bool
+        ensures { λ r. ⌜ r ≡ Of.is-zero self ⌝ }
+    {
+        self.high == 0.0 && self.low == 0.0
+    }
+}

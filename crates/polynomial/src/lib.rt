@@ -1,0 +1,11 @@
+// Polynomials and the root finder, document 01's module 3. specs/Lib.antt says which files define
+// what.
+pub mod angle;
+pub mod arithmetic;
+pub mod compensated;
+pub mod curve;
+pub mod cuts;
+pub mod norm;
+pub mod operation;
+pub mod polynomial;
+pub mod roots;

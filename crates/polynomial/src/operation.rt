@@ -1,0 +1,115 @@
+// The operation Roots of document 01, with its refusals in 01's order.
+ghost use mathlib.Core.Path.{_≡_};
+ghost use mathlib.Core.List.{_++_};
+ghost use Prim.Native.Nat.{_+_, _≤_};
+ghost use lib.ListN.{length, take, drop};
+ghost use Rattle.polynomial.specs.Operation as Operation;
+ghost use Rattle.polynomial.specs.Roots as Roots;
+use crate::compensated::Compensated;
+use float::number::abs;
+
+// The number of roots, or why there is none. `number` of specs/Operation.antt gives 01's number.
+pub enum Answer {
+    Count(usize),
+    BadLength,
+    BadBounds,
+    BadPart,
+    ShortResult,
+}
+
+// Whether the bounds are numbers within ±4, in order.
+pub fn bounds_hold(lower: f64, upper: f64) -> bool
+    ensures { λ r. ⌜ r ≡ Operation.bounds-hold lower upper ⌝ }
+{
+    if abs(lower) <= 4.0 {
+        if abs(upper) <= 4.0 {
+            return lower <= upper;
+        }
+        return false;
+    }
+    false
+}
+
+// Whether a part is finite, and at most 2^400 in magnitude.
+pub fn part_holds(x: f64) -> bool
+    ensures { λ r. ⌜ r ≡ Operation.part-holds x ⌝ }
+{
+    abs(x) <= 2.5822498780869086e120
+}
+
+// Whether every part is.
+fn parts_hold(s: &[f64]) -> bool
+    ensures { λ r. ⌜ r ≡ Operation.parts-hold (now (s .entry)) ⌝ }
+{
+    let mut i = 0;
+    while i < s.len() {
+        let x = s[i];
+        i += 1;
+        if !part_holds(x) {
+            return false;
+        }
+    }
+    true
+}
+
+// The pairs of s, in the first n places of an array.
+fn gather(s: &[f64], n: usize) -> [Compensated; 9]
+    requires { ⌜ (n ≤ 9) × (length (now s) ≡ n + n) ⌝ }
+    ensures { λ r. ⌜ take n r ≡ Operation.pairs (now (s .entry)) ⌝ }
+{
+    let mut q = [Compensated {
+        high: 0.0,
+        low: 0.0,
+    }; 9];
+    let mut i = 0;
+    while i < n {
+        let at = i + i;
+        let high = s[at];
+        let low = s[at + 1];
+        q[i] = Compensated { high, low };
+        i += 1;
+    }
+    q
+}
+
+// The first `count` numbers of `from`, written to the front of `to`.
+fn copy(from: &[f64], count: usize, to: &mut [f64])
+    requires { ⌜ (count ≤ length (now from)) × (count ≤ length (now to)) ⌝ }
+    ensures { λ _. ⌜ now (to .exit) ≡ take count (now (from .entry)) ++ drop count (now (to .entry)) ⌝ }
+{
+    let mut i = 0;
+    while i < count {
+        to[i] = from[i];
+        i += 1;
+    }
+}
+
+// The operation: coefficients as pairs, constant first. The result slice gets the roots in its
+// first places; the rest of it, and all of it on refusal, is left.
+pub fn roots(coefficients: &[f64], lower: f64, upper: f64, result: &mut [f64]) -> Answer
+    ensures { λ r. ⌜ r ≡ Operation.answer (now (coefficients .entry)) lower upper (length (now (result .entry))) ⌝ }
+    ensures { λ r. ⌜ now (result .exit) ≡ Operation.filled r (Roots.roots (Operation.pairs (now (coefficients .entry))) lower upper) (now (result .entry)) ⌝ }
+{
+    let len = coefficients.len();
+    if len % 2 == 1 {
+        return Answer::BadLength;
+    }
+    if 18 < len {
+        return Answer::BadLength;
+    }
+    if !bounds_hold(lower, upper) {
+        return Answer::BadBounds;
+    }
+    if !parts_hold(coefficients) {
+        return Answer::BadPart;
+    }
+    let n = len / 2;
+    let p = gather(coefficients, n);
+    let mut found = [0.0; 512];
+    let count = crate::roots::roots(p, n, lower, upper, &mut found);
+    if result.len() < count {
+        return Answer::ShortResult;
+    }
+    copy(&found, count, result);
+    Answer::Count(count)
+}

@@ -1,0 +1,105 @@
+// Polynomials with compensated coefficients, from src/singularity/j1j2free.rs. One has at most nine
+// coefficients, the constant term first: those that count stand in the first places of an array.
+ghost use mathlib.Core.Path.{_≡_};
+ghost use Prim.Native.Nat.{_+_, _-_, _≤_, _<_};
+ghost use lib.ListN.{take};
+ghost use Rattle.polynomial.specs.Polynomial as Of;
+use crate::compensated::Compensated;
+use float::number::abs;
+use float::number::is_finite;
+
+// The value at x of the first n coefficients, by compensated Horner arithmetic.
+pub fn evaluate(p: [Compensated; 9], n: usize, x: f64) -> f64
+    requires { ⌜ n ≤ 9 ⌝ }
+    ensures { λ r. ⌜ r ≡ Of.evaluate (take n p) x ⌝ }
+{
+    let point = Compensated::from(x);
+    let mut sum = Compensated::from(0.0);
+    let mut i = n;
+    while 0 < i {
+        i -= 1;
+        let c = p[i];
+        sum = sum.times(point).plus(c);
+    }
+    sum.value()
+}
+
+// The coefficients' magnitudes, added up as the value at x is.
+fn magnitudes(p: [Compensated; 9], n: usize, x: f64) -> f64
+    requires { ⌜ n ≤ 9 ⌝ }
+    ensures { λ r. ⌜ r ≡ Of.magnitudes (take n p) x ⌝ }
+{
+    let size = abs(x);
+    let mut sum = 0.0;
+    let mut i = n;
+    while 0 < i {
+        i -= 1;
+        let c = p[i];
+        let high = abs(c.high);
+        let low = abs(c.low);
+        sum = sum * size + high + low;
+    }
+    sum
+}
+
+// Whether v, the value at x, fits a coefficient-scaled roundoff bound.
+pub fn value_near(p: [Compensated; 9], n: usize, x: f64, v: f64) -> bool
+    requires { ⌜ n ≤ 9 ⌝ }
+    ensures { λ r. ⌜ r ≡ Of.value-near (take n p) x v ⌝ }
+{
+    // 128 * 2^-52 * 2^-52
+    abs(v) <= 6.310887241768095e-30 * magnitudes(p, n, x)
+}
+
+// How many of the first n coefficients are left without the zeros at the end.
+pub fn trimmed(p: [Compensated; 9], n: usize) -> usize
+    requires { ⌜ n ≤ 9 ⌝ }
+    ensures { λ r. ⌜ (r ≤ n) × (take r p ≡ Of.trim (take n p)) ⌝ }
+{
+    let mut m = n;
+    while 0 < m {
+        let c = p[m - 1];
+        if !c.is_zero() {
+            return m;
+        }
+        m -= 1;
+    }
+    m
+}
+
+// Whether each part of the first n coefficients is finite.
+pub fn all_finite(p: [Compensated; 9], n: usize) -> bool
+    requires { ⌜ n ≤ 9 ⌝ }
+    ensures { λ r. ⌜ r ≡ Of.all-finite (take n p) ⌝ }
+{
+    let mut i = 0;
+    while i < n {
+        let c = p[i];
+        i += 1;
+        if !is_finite(c.high) {
+            return false;
+        }
+        if !is_finite(c.low) {
+            return false;
+        }
+    }
+    true
+}
+
+// The derivative of the first n coefficients, in its first n - 1 places.
+pub fn derivative(p: [Compensated; 9], n: usize) -> [Compensated; 9]
+    requires { ⌜ (0 < n) × (n ≤ 9) ⌝ }
+    ensures { λ r. ⌜ take (n - 1) r ≡ Of.derivative (take n p) ⌝ }
+{
+    let mut d = [Compensated {
+        high: 0.0,
+        low: 0.0,
+    }; 9];
+    let mut i = 1;
+    while i < n {
+        let c = p[i];
+        d[i - 1] = c.times(Compensated::from(i as f64));
+        i += 1;
+    }
+    d
+}

@@ -1,0 +1,188 @@
+// The root finder, from src/singularity/j1j2free.rs: the roots of degree d come from partition
+// points, and those from the derivative's roots; the degree falls.
+ghost use mathlib.Core.Path.{_≡_};
+ghost use mathlib.Core.Bool.{cond};
+ghost use mathlib.Core.List.{_++_};
+ghost use Prim.Native.Nat.{_+_, _-_, _*_, _^_, _≤_, _<_};
+ghost use lib.ListN.{length, take, drop};
+ghost use Rattle.polynomial.specs.Cuts.{cuts, put};
+ghost use Rattle.polynomial.specs.Polynomial as Of;
+ghost use Rattle.polynomial.specs.Roots as Roots;
+ghost use Rattle.float.specs.Laws.Middle.{Span};
+ghost use Rattle.polynomial.specs.Inside.{Ready, crossed};
+use crate::compensated::Compensated;
+use crate::cuts::Put;
+use crate::cuts::insert;
+use crate::polynomial::all_finite;
+use crate::polynomial::derivative;
+use crate::polynomial::evaluate;
+use crate::polynomial::trimmed;
+use crate::polynomial::value_near;
+use float::number::is_sign_positive;
+use float::number::middle;
+
+// Two neighbouring points, and the values there.
+pub struct Interval {
+    pub lo: f64,
+    pub hi: f64,
+    pub u: f64,
+    pub v: f64,
+}
+
+// Halves the interval until no float lies strictly inside; the value at `from` is positive where
+// `positive` says so.
+fn bisect(p: [Compensated; 9], n: usize, from: f64, to: f64, positive: bool) -> f64
+    requires { ⌜ (n ≤ 9) × Span 2 from to ⌝ }
+    ensures { λ r. ⌜ r ≡ Roots.bisected (Of.evaluate (take n p)) positive from to ⌝ }
+{
+    let mut lo = from;
+    let mut hi = to;
+    loop {
+        let m = middle(lo, hi);
+        if m == lo {
+            return m;
+        }
+        if m == hi {
+            return m;
+        }
+        let value = evaluate(p, n, m);
+        if value == 0.0 {
+            return middle(m, m);
+        }
+        if is_sign_positive(value) == positive {
+            lo = m;
+        } else {
+            hi = m;
+        }
+    }
+}
+
+// Whether two values have different signs, and neither is zero.
+fn crosses(u: f64, v: f64) -> bool
+    ensures { λ r. ⌜ r ≡ Roots.crosses u v ⌝ }
+{
+    if u == 0.0 {
+        return false;
+    }
+    if v == 0.0 {
+        return false;
+    }
+    is_sign_positive(u) != is_sign_positive(v)
+}
+
+// Puts v into the cuts in the first k places of out, which has a place more.
+pub(crate) fn keep(out: &mut [f64], k: usize, v: f64) -> usize
+    requires { ⌜ k < length (now out) ⌝ }
+    ensures { λ r. ⌜ r ≡ length (put v (take k (now (out .entry)))) ⌝ }
+    ensures { λ r. ⌜ now (out .exit) ≡ put v (take k (now (out .entry))) ++ drop r (now (out .entry)) ⌝ }
+{
+    let answer = insert(out, k, v);
+    match answer {
+        Put::Count(n) => n,
+        Put::Full => k,
+    }
+}
+
+// The root of a + b * x, where it lies between the bounds, in the first place of out.
+fn quotient(a: Compensated, b: Compensated, lower: f64, upper: f64, out: &mut [f64]) -> usize
+    requires { ⌜ 0 < length (now out) ⌝ }
+    ensures { λ r. ⌜ (r ≡ length (Roots.quotient a b lower upper)) × (now (out .exit) ≡ Roots.quotient a b lower upper ++ drop r (now (out .entry))) ⌝ }
+{
+    let root = -a.value() / b.value();
+    if lower <= root {
+        if root <= upper {
+            out[0] = root;
+            return 1;
+        }
+    }
+    0
+}
+
+// Puts x, whose value is v, into the cuts in the first k places of out if it is near zero.
+fn touch(p: [Compensated; 9], n: usize, x: f64, v: f64, out: &mut [f64], k: usize) -> usize
+    requires { ⌜ (n ≤ 9) × (k < length (now out)) ⌝ }
+    ensures { λ r. ⌜ r ≡ length (cond (Of.value-near (take n p) x v) (put x (take k (now (out .entry)))) (take k (now (out .entry)))) ⌝ }
+    ensures { λ r. ⌜ now (out .exit) ≡ cond (Of.value-near (take n p) x v) (put x (take k (now (out .entry)))) (take k (now (out .entry))) ++ drop r (now (out .entry)) ⌝ }
+{
+    if value_near(p, n, x, v) {
+        return keep(out, k, x);
+    }
+    k
+}
+
+// Puts the end of the bisection between two points, whose values are u and v, into the cuts in the
+// first k places of out if the values cross zero.
+fn cross(p: [Compensated; 9], n: usize, at: Interval, out: &mut [f64], k: usize) -> usize
+    requires { ⌜ (n ≤ 9) × (k < length (now out)) × Span 2 (at .lo) (at .hi) ⌝ }
+    ensures { λ r. ⌜ r ≡ length (crossed (Of.evaluate (take n p)) at (take k (now (out .entry)))) ⌝ }
+    ensures { λ r. ⌜ now (out .exit) ≡ crossed (Of.evaluate (take n p)) at (take k (now (out .entry))) ++ drop r (now (out .entry)) ⌝ }
+{
+    if crosses(at.u, at.v) {
+        let root = bisect(p, n, at.lo, at.hi, is_sign_positive(at.u));
+        return keep(out, k, root);
+    }
+    k
+}
+
+// The points near zero and the ends of the bisections between neighbours, of the first `count`
+// points, as cuts in the first places of out. Each point is evaluated once.
+fn scan(p: [Compensated; 9], n: usize, points: &[f64], count: usize, out: &mut [f64]) -> usize
+    requires { ⌜ (n ≤ 9) × (0 < count) × (count ≤ length (now points)) × (count + count ≤ length (now out)) × Ready (take count (now points)) ⌝ }
+    ensures { λ r. ⌜ r ≡ length (cuts (Roots.touches (take n p) (take count (now (points .entry))) ++ Roots.crossings (take n p) (take count (now (points .entry))))) ⌝ }
+    ensures { λ r. ⌜ take r (now (out .exit)) ≡ cuts (Roots.touches (take n p) (take count (now (points .entry))) ++ Roots.crossings (take n p) (take count (now (points .entry)))) ⌝ }
+{
+    let mut lo = points[0];
+    let mut u = evaluate(p, n, lo);
+    let mut k = touch(p, n, lo, u, out, 0);
+    let mut i = 1;
+    while i < count {
+        let hi = points[i];
+        let v = evaluate(p, n, hi);
+        k = touch(p, n, hi, v, out, k);
+        k = cross(p, n, Interval { lo, hi, u, v }, out, k);
+        lo = hi;
+        u = v;
+        i += 1;
+    }
+    k
+}
+
+// The roots of the first n coefficients, in the first places of out.
+pub fn roots(p: [Compensated; 9], n: usize, lower: f64, upper: f64, out: &mut [f64]) -> usize
+    requires { ⌜ (n ≤ 9) × (2 ^ n ≤ length (now out)) × Span 2 lower upper ⌝ }
+    ensures { λ r. ⌜ (r ≡ length (Roots.roots-at n (take n p) lower upper)) × (take r (now (out .exit)) ≡ Roots.roots-at n (take n p) lower upper) ⌝ }
+{
+    let m = trimmed(p, n);
+    if m < 2 {
+        return 0;
+    }
+    if !all_finite(p, m) {
+        return 0;
+    }
+    if m == 2 {
+        let a = p[0];
+        let b = p[1];
+        return quotient(a, b, lower, upper, out);
+    }
+    let mut points = [0.0; 512];
+    let count = partitions(p, m, lower, upper, &mut points);
+    scan(p, m, &points, count, out)
+}
+
+// The bounds with the derivative's roots between them, sorted, each once, in the first places of
+// points.
+pub fn partitions(
+    p: [Compensated; 9],
+    n: usize,
+    lower: f64,
+    upper: f64,
+    points: &mut [f64],
+) -> usize
+    requires { ⌜ (2 < n) × (n ≤ 9) × (2 ^ n ≤ length (now points)) × Span 2 lower upper ⌝ }
+    ensures { λ r. ⌜ (r ≡ length (Roots.partitions lower upper (Roots.roots-at (n - 1) (Of.derivative (take n p)) lower upper))) × (take r (now (points .exit)) ≡ Roots.partitions lower upper (Roots.roots-at (n - 1) (Of.derivative (take n p)) lower upper)) ⌝ }
+{
+    let d = derivative(p, n);
+    let k = roots(d, n - 1, lower, upper, points);
+    let with_lower = keep(points, k, lower);
+    keep(points, with_lower, upper)
+}
