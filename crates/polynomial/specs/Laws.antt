@@ -2,12 +2,11 @@
 -- Lists: `Cuts` (insertion is adding one more element; the order of arrival does not matter), `Placed` and `Held` (such lists in lent slices), `Lists`.
 -- Roots: `Halving` (a bisection ends inside its interval; more turns change nothing), `Degree` (any count as large as the number of coefficients gives the same roots),
 -- `Enclosed` (roots and partition points lie between the bounds and increase strictly; how many there are), `Bounds` (bounds that hold can be halved).
--- Angles: `Wrapped` (a wrapped angle lies within P and is never -0.0). `Literals`: constants of the code.
+-- Angles: `Wrapped` (a wrapped angle lies within P and is never -0.0).
 pub mod Cuts
 pub mod Placed
 pub mod Held
 pub mod Lists
-pub mod Literals
 pub mod Halving
 pub mod Degree
 pub mod Enclosed

@@ -7,7 +7,7 @@ use Rattle.float.specs.Trig.{sin-cos}
 use Rattle.float.specs.declared.trig.SinCos.{SinCos}
 use Rattle.polynomial.specs.Compensated.{from, plus}
 use Rattle.polynomial.specs.Curve.{numerator}
-use Rattle.polynomial.specs.Laws.Literals.{two-bits}
+use Rattle.float.specs.Laws.Literals.{two-bits}
 use Rattle.polynomial.specs.declared.compensated.Compensated.{Compensated}
 use Rattle.polynomial.specs.declared.curve.Harmonic.{Harmonic}
 

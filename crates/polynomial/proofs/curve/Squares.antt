@@ -12,7 +12,7 @@ use Rattle.polynomial.specs.Compensated.{from, times}
 use Rattle.polynomial.specs.Polynomial.{multiply}
 use Rattle.polynomial.specs.Curve.{times-each, target}
 use Rattle.polynomial.specs.Laws.Lists.{store-more}
-use Rattle.polynomial.specs.Laws.Literals.{one-bits}
+use Rattle.float.specs.Laws.Literals.{one-bits}
 use Rattle.polynomial.specs.declared.compensated.Compensated.{Compensated}
 
 module _ (norm : Float) (n squared first last : Compensated) (square : List Compensated) where

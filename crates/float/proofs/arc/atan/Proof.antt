@@ -1,25 +1,13 @@
 -- `float::arc::atan` meets its contract. Assumes nothing.
-use mathlib.Core.Path.{_≡_, refl, sym, ap, _∙_}
-use mathlib.Core.Bool.{Bool, true, false, cond}
+use mathlib.Core.Path.{_≡_, sym, ap, _∙_}
+use mathlib.Core.Bool.{true, false}
 use lib.Ieee.{Float, binary64, div, lt, ofBits}
 use borrow.Author.Needs.{needs}
-use Rattle.float.specs.Number.{abs, one-float, two-float, _⊖_, _⊘_}
+use Rattle.float.specs.Number.{abs, two-float, _⊖_, _⊘_}
 use Rattle.float.specs.Trig.{atan, atan-value, halved, copysign, P}
+use Rattle.float.specs.Laws.Literals.{one-bits, two-bits, P-bits}
 use Rattle.float.proofs.arc.atan.Statement.{statement}
 use Rattle.float.proofs.arc.atan.Tie as tie
-
--- the code's 1.0, 2.0 and P
-one-is : ofBits binary64 0x3ff0_0000_0000_0000 ≡ one-float
-unfolding ofBits
-one-is = refl
-
-two-is : ofBits binary64 0x4000_0000_0000_0000 ≡ two-float
-unfolding ofBits
-two-is = refl
-
-P-is : ofBits binary64 0x4009_21fb_5444_2d18 ≡ P
-unfolding ofBits
-P-is = refl
 
 -- the definition, where |x| > 1 and where not
 far : (x a h i v r : Float) → a ≡ abs x → lt (ofBits binary64 0x3ff0_0000_0000_0000) a ≡ true → h ≡ halved (div binary64 (ofBits binary64 0x3ff0_0000_0000_0000) a) → i ≡ halved h → v ≡ atan-value i
@@ -27,13 +15,13 @@ far : (x a h i v r : Float) → a ≡ abs x → lt (ofBits binary64 0x3ff0_0000_
 unfolding atan
 far x a h i v r ea t eh ei ev er =
     er
-    ∙ ap (λ (w : Float). copysign (w ⊖ v) x) (λ k. P-is k ⊘ two-is k)
-    ∙ ap (λ (w : Float). copysign (P ⊘ two-float ⊖ w) x) (ev ∙ ap atan-value (ei ∙ ap halved (eh ∙ ap halved (λ k. one-is k ⊘ ea k))))
-    ∙ sym (simp (sym one-is, sym ea, t))
+    ∙ ap (λ (w : Float). copysign (w ⊖ v) x) (λ k. P-bits k ⊘ two-bits k)
+    ∙ ap (λ (w : Float). copysign (P ⊘ two-float ⊖ w) x) (ev ∙ ap atan-value (ei ∙ ap halved (eh ∙ ap halved (λ k. one-bits k ⊘ ea k))))
+    ∙ sym (simp (sym one-bits, sym ea, t))
 
 near : (x a h i v r : Float) → a ≡ abs x → lt (ofBits binary64 0x3ff0_0000_0000_0000) a ≡ false → h ≡ halved a → i ≡ halved h → v ≡ atan-value i → r ≡ copysign v x → r ≡ atan x
 unfolding atan
-near x a h i v r ea t eh ei ev er = er ∙ ap (λ (w : Float). copysign w x) (ev ∙ ap atan-value (ei ∙ ap halved (eh ∙ ap halved ea))) ∙ sym (simp (sym one-is, sym ea, t))
+near x a h i v r ea t eh ei ev er = er ∙ ap (λ (w : Float). copysign w x) (ev ∙ ap atan-value (ei ∙ ap halved (eh ∙ ap halved ea))) ∙ sym (simp (sym one-bits, sym ea, t))
 
 abs-requires : tie.Need-abs-requires
 abs-requires c κs = search needs

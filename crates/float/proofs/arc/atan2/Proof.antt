@@ -1,5 +1,5 @@
 -- `float::arc::atan2` meets its contract. Assumes nothing.
-use mathlib.Core.Path.{_≡_, refl, sym, ap, _∙_}
+use mathlib.Core.Path.{_≡_, sym, ap, _∙_}
 use mathlib.Core.Bool.{Bool, true, false, _||_, cond}
 use lib.Ieee.{Float, nan, binary64, neg, lt, le, ne, ofBits, isNan}
 use borrow.Author.Needs.{needs}
@@ -7,17 +7,9 @@ use Rattle.float.specs.Number.{_⊕_, _⊖_, _⊘_, zero-float, two-floa
 use Rattle.float.specs.Trig.{atan2, atan, P}
 use Rattle.float.specs.Laws.Tests.{ne-self, nan-of}
 use Rattle.float.specs.Laws.Zero.{zero-bits}
+use Rattle.float.specs.Laws.Literals.{two-bits, P-bits}
 use Rattle.float.proofs.arc.atan2.Statement.{statement}
 use Rattle.float.proofs.arc.atan2.Tie as tie
-
--- the code's 2.0 and P
-two-is : ofBits binary64 0x4000_0000_0000_0000 ≡ two-float
-unfolding ofBits
-two-is = refl
-
-P-is : ofBits binary64 0x4009_21fb_5444_2d18 ≡ P
-unfolding ofBits
-P-is = refl
 
 -- `x != x` is the test for a NaN
 is-nan : (x : Float) (b : Bool) → ne x x ≡ b → isNan x ≡ b
@@ -69,21 +61,21 @@ atan-requires-2 : tie.Need-atan-requires-2
 atan-requires-2 c κs = search needs
 
 returns-4 : tie.Need-returns-4
-returns-4 c = (λ i. c .atan2 .ensures i ⊕ P-is i) ∙ left (c .before .before .before .before .before .before .args .y) (c .before .before .before .before .before .before .args .x) (is-nan _ false (c .before .before .before .before .before .if1 .left)) (is-nan _ false (c .before .before .before .before .if2 .left)) true (c .before .before .before .if3 .left) (c .before .before .if4 .taken) (c .before .if5 .taken)
+returns-4 c = (λ i. c .atan2 .ensures i ⊕ P-bits i) ∙ left (c .before .before .before .before .before .before .args .y) (c .before .before .before .before .before .before .args .x) (is-nan _ false (c .before .before .before .before .before .if1 .left)) (is-nan _ false (c .before .before .before .before .if2 .left)) true (c .before .before .before .if3 .left) (c .before .before .if4 .taken) (c .before .if5 .taken)
 
 atan-requires-3 : tie.Need-atan-requires-3
 atan-requires-3 c κs = search needs
 
 returns-5 : tie.Need-returns-5
-returns-5 c = (λ i. c .atan3 .ensures i ⊖ P-is i) ∙ left (c .before .before .before .before .before .before .args .y) (c .before .before .before .before .before .before .args .x) (is-nan _ false (c .before .before .before .before .before .if1 .left)) (is-nan _ false (c .before .before .before .before .if2 .left)) false (c .before .before .before .if3 .left) (c .before .before .if4 .taken) (c .before .if5 .left)
+returns-5 c = (λ i. c .atan3 .ensures i ⊖ P-bits i) ∙ left (c .before .before .before .before .before .before .args .y) (c .before .before .before .before .before .before .args .x) (is-nan _ false (c .before .before .before .before .before .if1 .left)) (is-nan _ false (c .before .before .before .before .if2 .left)) false (c .before .before .before .if3 .left) (c .before .before .if4 .taken) (c .before .if5 .left)
 
 returns-6 : tie.Need-returns-6
 unfolding atan2
-returns-6 c = sym (simp (is-nan _ false (c .before .before .before .before .if1 .left), is-nan _ false (c .before .before .before .if2 .left), sym zero-bits, sym P-is, sym two-is, c .before .before .if3 .left, c .before .if4 .left, c .if6 .taken))
+returns-6 c = sym (simp (is-nan _ false (c .before .before .before .before .if1 .left), is-nan _ false (c .before .before .before .if2 .left), sym zero-bits, sym P-bits, sym two-bits, c .before .before .if3 .left, c .before .if4 .left, c .if6 .taken))
 
 returns-7 : tie.Need-returns-7
 unfolding atan2
-returns-7 c = sym (simp (is-nan _ false (c .before .before .before .before .before .if1 .left), is-nan _ false (c .before .before .before .before .if2 .left), sym zero-bits, sym P-is, sym two-is, c .before .before .before .if3 .left, c .before .before .if4 .left, c .before .if6 .left, c .if7 .taken))
+returns-7 c = sym (simp (is-nan _ false (c .before .before .before .before .before .if1 .left), is-nan _ false (c .before .before .before .before .if2 .left), sym zero-bits, sym P-bits, sym two-bits, c .before .before .before .if3 .left, c .before .before .if4 .left, c .before .if6 .left, c .if7 .taken))
 
 returns-8 : tie.Need-returns-8
 unfolding atan2

@@ -4,7 +4,7 @@ use lib.Ieee.{Float, binary64, ofBits, sub}
 use borrow.Author.Needs.{needs}
 use Rattle.float.specs.Number.{_⊕_, rem-euclid}
 use Rattle.polynomial.specs.Angle.{turn, wrapped-angle}
-use Rattle.polynomial.specs.Laws.Literals.{P-bits}
+use Rattle.float.specs.Laws.Literals.{P-bits}
 use Rattle.polynomial.proofs.angle.wrapped_angle.Statement.{statement}
 use Rattle.polynomial.proofs.angle.wrapped_angle.Tie as tie
 

@@ -1,7 +1,7 @@
 -- `polynomial::arithmetic::determinant` meets its contract. Assumes nothing.
 use borrow.Author.Needs.{needs}
 use Rattle.polynomial.specs.Polynomial.{determinant}
-use Rattle.polynomial.specs.Laws.Literals.{one-bits}
+use Rattle.float.specs.Laws.Literals.{one-bits}
 use Rattle.polynomial.proofs.arithmetic.determinant.Statement.{statement}
 use Rattle.polynomial.proofs.arithmetic.determinant.Tie as tie
 

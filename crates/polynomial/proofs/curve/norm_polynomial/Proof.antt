@@ -1,7 +1,7 @@
 -- `polynomial::curve::norm_polynomial` meets its contract. Assumes nothing.
 use borrow.Author.Needs.{needs}
 use Rattle.polynomial.specs.Curve.{norm-polynomial}
-use Rattle.polynomial.specs.Laws.Literals.{one-bits}
+use Rattle.float.specs.Laws.Literals.{one-bits}
 use Rattle.polynomial.proofs.curve.norm_polynomial.Statement.{statement}
 use Rattle.polynomial.proofs.curve.norm_polynomial.Tie as tie
 

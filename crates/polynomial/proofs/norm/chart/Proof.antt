@@ -4,7 +4,7 @@ use lib.ListN.{length, take}
 use borrow.Author.Needs.{needs}
 use Rattle.polynomial.specs.Curve.{chart-angles}
 use Rattle.polynomial.specs.Norm.{put-all}
-use Rattle.polynomial.specs.Laws.Literals.{two-bits}
+use Rattle.float.specs.Laws.Literals.{two-bits}
 use Rattle.polynomial.proofs.norm.Charted.{Charted, charted-first, charted-room, charted-more, charted-last}
 use Rattle.polynomial.proofs.norm.chart.Statement.{statement}
 use Rattle.polynomial.proofs.norm.chart.Tie as tie

@@ -7,7 +7,7 @@ use borrow.Author.Needs.{needs}
 use Rattle.float.specs.Number.{middle, zero-float}
 use Rattle.float.specs.Trig.{P}
 use Rattle.float.specs.Laws.Zero.{zero-bits}
-use Rattle.polynomial.specs.Laws.Literals.{one-bits, P-bits}
+use Rattle.float.specs.Laws.Literals.{one-bits, P-bits}
 use Rattle.polynomial.proofs.norm.Halves.{Half, half-of, half-refused, half-held, half-few, half-angles, half-room, left-refused, right-refused, both-counted}
 use Rattle.polynomial.proofs.norm.squared_norm_roots.Statement.{statement}
 use Rattle.polynomial.proofs.norm.squared_norm_roots.Tie as tie
