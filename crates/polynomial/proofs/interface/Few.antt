@@ -1,0 +1,57 @@
+-- The operation's number is at most 2 ^ 9 - 3 in magnitude, since there are at most nine coefficients. Assumes nothing.
+use Prim.Native.Nat.{ℕ, _+_, _%_, _^_, _≤_, zero-le}
+use native.Mathlib.Omega.{arith}
+use mathlib.Core.Path.{_≡_, refl}
+use mathlib.Core.Bool.{Bool, true, false, _||_}
+use mathlib.Core.List.{List, [], _∷_}
+use lib.IntN.{natAbs}
+use lib.Pow.{pow-mono}
+use lib.Dec.{ltb, leb, eqb, lit≤}
+use lib.ListN.{length}
+use lib.Ieee.{Float}
+use borrow.Author.Tests.{ltb-false}
+use Rattle.polynomial.specs.Polynomial.{trim}
+use Rattle.polynomial.specs.Roots.{roots}
+use Rattle.polynomial.specs.Operation.{pairs, bad-length, bounds-hold, parts-hold, pick, number, answer}
+use Rattle.polynomial.specs.Laws.Degree.{trim-short}
+use Rattle.polynomial.specs.Laws.Enclosed.{all-few}
+use Rattle.polynomial.specs.declared.operation.Answer.{Answer}
+use Rattle.polynomial.specs.declared.operation.Answer.the-variants.{Count, BadLength, BadBounds, BadPart, ShortResult}
+
+pairs-short : (s : List Float) → length (pairs s) + length (pairs s) ≤ length s
+unfolding pairs
+pairs-short [] = zero-le
+pairs-short (h ∷ []) = zero-le
+pairs-short (h ∷ (l ∷ r)) = let k = pairs-short r in omega arith
+
+abbrev Few : Answer → Type 0
+Few a = natAbs (number a) ≤ 509
+
+pick-few : (b : Bool) (x y : Answer) → (b ≡ true → Few x) → (b ≡ false → Few y) → Few (pick b x y)
+pick-few true x y f g = f refl
+pick-few false x y f g = g refl
+
+or-false : (a b : Bool) → (a || b) ≡ false → b ≡ false
+or-false true b h = absurd (let e : _≡_ {A = ℕ} 0 1 = cc in omega arith)
+or-false false b h = h
+
+module _ (s : List Float) (lower upper : Float) (room : ℕ) where
+  few-roots : bad-length s ≡ false → length (roots (pairs s) lower upper) ≤ 509
+  few-roots h =
+      let l = ltb-false 18 (length s) (or-false (eqb (length s % 2) 1) (ltb 18 (length s)) h) in
+      let k = pairs-short s in
+      let t = trim-short (pairs s) in
+      let n = length (trim (pairs s)) in
+      let w : 2 ^ n ≤ 2 ^ 9 = pow-mono {i = n} {j = 9} (omega arith) in
+      let f = all-few lower upper (pairs s) in
+      omega arith
+
+  pub answer-few : Few (answer s lower upper room)
+  unfolding answer
+  answer-few =
+      pick-few (bad-length s) BadLength _ (λ _. lit≤ tt) (λ h.
+      pick-few (bounds-hold lower upper) _ BadBounds (λ _.
+      pick-few (parts-hold s) _ BadPart (λ _.
+      pick-few (leb (length (roots (pairs s) lower upper)) room) (Count (length (roots (pairs s) lower upper))) ShortResult (λ _. few-roots h) (λ _. lit≤ tt))
+      (λ _. lit≤ tt))
+      (λ _. lit≤ tt))

@@ -1,0 +1,39 @@
+-- `polynomial::interface::polynomial_roots` meets its contract: the number is that of the operation's answer. Assumes nothing.
+use Prim.Native.Nat.{_≤_}
+use mathlib.Core.Path.{sym, ap, subst, _∙_}
+use lib.IntN.{natAbs}
+use lib.ListN.{length}
+use borrow.Author.Needs.{needs}
+use mir.Syntax.{w64}
+use mir.ValLaws.{toZ-ofZ}
+use denote.Ref.{now}
+use Rattle.polynomial.specs.declared.operation.Answer.{Answer}
+use Rattle.polynomial.specs.Operation as Operation
+use Rattle.polynomial.specs.Roots as Roots
+use Rattle.polynomial.proofs.interface.Few.{answer-few}
+use Rattle.polynomial.proofs.interface.polynomial_roots.Statement.{statement}
+use Rattle.polynomial.proofs.interface.polynomial_roots.Tie as tie
+
+roots-requires : tie.Need-roots-requires
+roots-requires c κs = search needs
+
+number-requires : tie.Need-number-requires
+number-requires c κs =
+    let r = c .before .before in
+    let a = r .before .before .before .before .args in
+    subst (λ (x : Answer). natAbs (Operation.number x) ≤ 509) (sym (r .roots .ensures .0)) (answer-few (now (a .coefficients)) (a .lower) (a .upper) (length (now (a .result))))
+
+same-length : tie.Need-same-length
+same-length c = search needs
+
+returns : tie.Need-returns
+returns c =
+    let r = c .before .before .before in
+    let a = r .before .before .before .before .args in
+    let found = Roots.roots (Operation.pairs (now (a .coefficients))) (a .lower) (a .upper) in (
+      toZ-ofZ w64 (c .number .result) (record { sfits = c .number .ok }) ∙ c .number .ensures ∙ ap Operation.number (r .roots .ensures .0),
+      r .roots .ensures .1 ∙ ap (λ (x : Answer). Operation.filled x found (now (a .result))) (r .roots .ensures .0),
+    )
+
+pub polynomial-roots-spec : {M : Type 1} → statement M
+polynomial-roots-spec = tie.close (tie.spec roots-requires number-requires same-length returns)
