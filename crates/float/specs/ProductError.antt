@@ -2,8 +2,9 @@
 use mathlib.Core.Bool.{Bool, true, false, cond}
 use lib.IntN.{pos, negsuc}
 use lib.Ieee.{Float, fin, binary64, neg, mul, lt, le, eq}
-use Rattle.float.specs.Number.{zero-float}
+use Rattle.float.specs.Number.{_⊖_, _⊗_, zero-float}
 use Rattle.float.specs.MulAdd.{mul-add}
+use Rattle.float.specs.declared.product_error.Halves.{Halves}
 
 -- The fused product of a, b and minus their rounded product.
 abbrev pub product-error : Float → Float → Float
@@ -23,3 +24,16 @@ sized m = cond (le m most) (cond (le least m) true (eq m zero-float)) false
 unfoldable pub in-range : Float → Bool
 unfolding sized
 in-range x = cond (lt x zero-float) (sized (neg x)) (sized x)
+
+-- The halves of an operand, by Dekker's split at 2 ^ 27 + 1, and whether they serve it: for one that meets many others.
+abbrev pub splitter : Float
+splitter = fin false 134217729 (pos 0)
+
+abbrev pub high-half : Float → Float
+high-half x = splitter ⊗ x ⊖ (splitter ⊗ x ⊖ x)
+
+abbrev pub low-half : Float → Float
+low-half x = x ⊖ high-half x
+
+unfoldable pub halves : Float → Halves
+halves x = record { whole = x; high = high-half x; low = low-half x; fine = in-range x }

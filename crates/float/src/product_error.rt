@@ -27,22 +27,49 @@ fn in_range(x: f64) -> bool
     sized(x)
 }
 
+// An operand with its halves, by Dekker's split at 2^27 + 1, and whether these serve it.
+pub struct Halves {
+    pub whole: f64,
+    pub high: f64,
+    pub low: f64,
+    pub fine: bool,
+}
+
+// The halves of x, for an operand that meets many others.
+pub fn halved_operand(x: f64) -> Halves
+    ensures { λ r. ⌜ r ≡ ProductError.halves x ⌝ }
+{
+    let fine = in_range(x);
+    let c = 134217729.0 * x;
+    let high = c - (c - x);
+    Halves {
+        whole: x,
+        high,
+        low: x - high,
+        fine,
+    }
+}
+
+// The error of a product with an operand whose halves are at hand.
+pub fn product_error_by(a: f64, b: Halves) -> f64
+    requires { ⌜ b ≡ ProductError.halves (b .whole) ⌝ }
+    ensures { λ r. ⌜ r ≡ ProductError.product-error a (b .whole) ⌝ }
+{
+    let p = a * b.whole;
+    if in_range(a) {
+        if b.fine {
+            let c = 134217729.0 * a;
+            let high = c - (c - a);
+            let low = a - high;
+            return (((high * b.high - p) + high * b.low) + low * b.high) + low * b.low;
+        }
+    }
+    mul_add(a, b.whole, -p)
+}
+
 // a * b - p for the rounded product p = a * b, rounded.
 pub fn product_error(a: f64, b: f64) -> f64
     ensures { λ r. ⌜ r ≡ ProductError.product-error a b ⌝ }
 {
-    let p = a * b;
-    if in_range(a) {
-        if in_range(b) {
-            // 2^27 + 1
-            let ca = 134217729.0 * a;
-            let ah = ca - (ca - a);
-            let al = a - ah;
-            let cb = 134217729.0 * b;
-            let bh = cb - (cb - b);
-            let bl = b - bh;
-            return (((ah * bh - p) + ah * bl) + al * bh) + al * bl;
-        }
-    }
-    mul_add(a, b, -p)
+    product_error_by(a, halved_operand(b))
 }

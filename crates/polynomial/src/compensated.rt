@@ -1,8 +1,11 @@
 // Compensated numbers, from src/singularity/j1j2free.rs: a rounded value and its residual rounding
 // error, by value.
 ghost use mathlib.Core.Path.{_≡_};
+ghost use Rattle.float.specs.ProductError.{halves};
 ghost use Rattle.polynomial.specs.Compensated as Of;
+use float::product_error::Halves;
 use float::product_error::product_error;
+use float::product_error::product_error_by;
 
 pub struct Compensated {
     pub high: f64,
@@ -43,6 +46,23 @@ impl Compensated {
             + self.high * other.low
             + self.low * other.high
             + self.low * other.low;
+        let high = product + error;
+        Self {
+            high,
+            low: error - (high - product),
+        }
+    }
+
+    // The product with a float whose halves are at hand.
+    pub fn times_by(self, x: Halves) -> Self
+        requires { ⌜ x ≡ halves (x .whole) ⌝ }
+        ensures { λ r. ⌜ r ≡ Of.times self (Of.from (x .whole)) ⌝ }
+    {
+        let product = self.high * x.whole;
+        let error = product_error_by(self.high, x)
+            + self.high * 0.0
+            + self.low * x.whole
+            + self.low * 0.0;
         let high = product + error;
         Self {
             high,

@@ -7,19 +7,20 @@ ghost use Rattle.polynomial.specs.Polynomial as Of;
 use crate::compensated::Compensated;
 use float::number::abs;
 use float::number::is_finite;
+use float::product_error::halved_operand;
 
 // The value at x of the first n coefficients, by compensated Horner arithmetic.
 pub fn evaluate(p: [Compensated; 9], n: usize, x: f64) -> f64
     requires { ⌜ n ≤ 9 ⌝ }
     ensures { λ r. ⌜ r ≡ Of.evaluate (take n p) x ⌝ }
 {
-    let point = Compensated::from(x);
+    let point = halved_operand(x);
     let mut sum = Compensated::from(0.0);
     let mut i = n;
     while 0 < i {
         i -= 1;
         let c = p[i];
-        sum = sum.times(point).plus(c);
+        sum = sum.times_by(point).plus(c);
     }
     sum.value()
 }

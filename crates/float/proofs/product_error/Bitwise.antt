@@ -22,7 +22,8 @@ use Rattle.float.specs.Laws.Le.{plain, round-plain, neg-finite}
 use Rattle.float.specs.Laws.Within.{Within, Beyond, held, fits→held, shift, round-beyond, add-within, sub-within, mul-within, numeral, neg-within, neg-beyond}
 use Rattle.float.specs.Laws.Units.{Is}
 use Rattle.float.proofs.product_error.NotMinusZero.{nz, sum-nz, whole-units, over-l, over-r, add-nz, mul-sgn, neg-sgn, one-nz}
-use Rattle.float.proofs.product_error.Split.{splitter, scaled, high, rest, halves}
+use Rattle.float.proofs.product_error.Split.{scaled, high, rest, halves}
+use Rattle.float.specs.ProductError.{splitter}
 use Rattle.float.proofs.product_error.Dekker.{dekker, step1, step2, step3}
 use Rattle.float.proofs.product_error.Normal.{Normal, normal, in-range-equal}
 use Rattle.float.specs.ProductError.{most, least}

@@ -19,7 +19,7 @@ use Rattle.float.specs.Laws.MulAdd.{by-parts, plus, mul-add-is, mul-add-
 use Rattle.float.specs.Laws.Le.{plain, round-plain, neg-finite}
 use Rattle.float.specs.Laws.Within.{Within, Beyond, held, fits→held, shift, round-beyond, add-within, sub-within, mul-within, numeral, neg-within, neg-beyond}
 use Rattle.float.specs.Laws.Units.{Is}
-use Rattle.float.proofs.product_error.Split.{splitter, scaled, high, rest, halves}
+use Rattle.float.proofs.product_error.Split.{scaled, high, rest, halves}
 use Rattle.float.proofs.product_error.Dekker.{dekker, step1, step2, step3}
 use Rattle.float.proofs.product_error.Normal.{Normal, normal, in-range-equal}
 

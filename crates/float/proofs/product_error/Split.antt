@@ -11,11 +11,9 @@ use lib.Dec.{T, ltb, ltb→lt, nltb→le}
 use lib.Pow.{pow-pos}
 use lib.Ieee.{Float, fin, binary64, sub, mul}
 use lib.Ieee.Nearest.{closest}
+use Rattle.float.specs.ProductError.{splitter}
 use Rattle.float.specs.Laws.Units.{Is, Is-sub, Is-shift, Is-unit, Is-ununit}
 use Rattle.float.specs.Laws.Near.{closest-near, mul-near, sub-near}
-
-abbrev pub splitter : Float
-splitter = fin false 134217729 (pos 0)
 
 abbrev pub scaled : Float → Float
 scaled a = mul binary64 splitter a

@@ -5,6 +5,7 @@ use mathlib.Core.Path.{_≡_, ap, _∙_}
 use lib.ListN.{length}
 use lib.Seq.{slice}
 use borrow.Author.Needs.{needs}
+use Rattle.float.specs.Laws.Operand.{whole-of, halved-whole}
 use Rattle.float.specs.Laws.Zero.{zero-bits}
 use Rattle.polynomial.specs.Compensated.{from, value}
 use Rattle.polynomial.specs.Polynomial.{horner, evaluate}
@@ -18,16 +19,16 @@ Inv-loop n x p point sum₀ i₀ sum i = (i ≤ n) × (length p ≡ 9) × (sum �
 abbrev μ-loop : tie.MeasureT-loop
 μ-loop n x p point sum₀ i₀ sum i = i
 
+halved-operand-requires : tie.Need-halved-operand-requires Inv-loop μ-loop
+halved-operand-requires c κs = search needs
+
 from-requires : tie.Need-from-requires Inv-loop μ-loop
 from-requires c κs = search needs
-
-from-requires-2 : tie.Need-from-requires-2 Inv-loop μ-loop
-from-requires-2 c κs = search needs
 
 loop-holds : tie.Need-loop-holds Inv-loop μ-loop
 loop-holds c =
     let a = c .before .before .args in
-    (search needs, search needs, c .from2 .ensures ∙ ap from zero-bits ∙ horner-none (a .t1) (a .n) (a .x))
+    (search needs, search needs, c .from .ensures ∙ ap from zero-bits ∙ horner-none (a .t1) (a .n) (a .x))
 
 sub-i : tie.Need-sub-i Inv-loop μ-loop
 sub-i c = search needs
@@ -38,8 +39,8 @@ mul-c c = search needs
 array-copy-out-c : tie.Need-array-copy-out-c Inv-loop μ-loop
 array-copy-out-c c = search needs
 
-times-requires : tie.Need-times-requires Inv-loop μ-loop
-times-requires c κs = search needs
+times-by-requires : tie.Need-times-by-requires Inv-loop μ-loop
+times-by-requires c κs = let o = c .before .before .before .before in halved-whole (o .halved-operand .result) (o .before .args .x) (o .halved-operand .ensures)
 
 plus-requires : tie.Need-plus-requires Inv-loop μ-loop
 plus-requires c κs = search needs
@@ -54,7 +55,7 @@ loop-again c =
     let a = o .before .args in (
       search needs,
       l .loop .inv .1,
-      horner-more (a .t1) (a .n) (a .x) (l .loop .i) _ (search needs) (search needs) (omega arith) (l .loop .sum) (o .from .result) (c .before .times .result) (c .plus .result) (l .loop .inv .2) (o .from .ensures) (c .before .times .ensures) (c .plus .ensures),
+      horner-more (a .t1) (a .n) (a .x) (l .loop .i) _ (search needs) (search needs) (omega arith) (l .loop .sum) (from (o .halved-operand .result .whole)) (c .before .times-by .result) (c .plus .result) (l .loop .inv .2) (ap from (whole-of (o .halved-operand .result) (a .x) (o .halved-operand .ensures))) (c .before .times-by .ensures) (c .plus .ensures),
     )
 
 value-requires : tie.Need-value-requires Inv-loop μ-loop
@@ -73,13 +74,13 @@ evaluate-spec =
     (tie.spec
     Inv-loop
     μ-loop
+    halved-operand-requires
     from-requires
-    from-requires-2
     loop-holds
     sub-i
     mul-c
     array-copy-out-c
-    times-requires
+    times-by-requires
     plus-requires
     loop-less
     loop-again
