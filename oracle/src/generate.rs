@@ -3,6 +3,7 @@
 pub mod aimed;
 pub mod floats;
 pub mod limits;
+pub mod parts;
 pub mod requests;
 pub mod roots;
 pub mod sheets;

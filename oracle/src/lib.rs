@@ -16,6 +16,7 @@ pub mod linked;
 pub mod observe;
 pub mod operations;
 pub mod parameters;
+pub mod parts;
 pub mod pose;
 pub mod request;
 pub mod singularity;

@@ -194,3 +194,49 @@ pub mod polynomial {
         }
     }
 }
+
+/// Module 4, one number at a time: the last parameter says which.
+pub mod sampling_parts {
+    unsafe extern "C" {
+        fn parts_center(from: u64, to: u64, part: u64) -> u64;
+        fn parts_limits(
+            limited: u64,
+            sign: u64,
+            offset: u64,
+            reference: u64,
+            from: u64,
+            to: u64,
+            part: u64,
+        ) -> u64;
+        fn parts_interval(
+            center: u64,
+            tolerance: u64,
+            reference: u64,
+            sign: u64,
+            which: u64,
+            part: u64,
+        ) -> u64;
+        fn parts_pose(x: u64, y: u64, z: u64, w: u64, part: u64) -> u64;
+    }
+
+    // SAFETY, for every call: the function is proved safe at all words, and
+    // takes and gives numbers alone.
+
+    pub fn center([from, to]: [u64; 2], part: u64) -> u64 {
+        unsafe { parts_center(from, to, part) }
+    }
+
+    pub fn limits(joint: [u64; 6], part: u64) -> u64 {
+        let [limited, sign, offset, reference, from, to] = joint;
+        unsafe { parts_limits(limited, sign, offset, reference, from, to, part) }
+    }
+
+    pub fn interval(range: [u64; 4], which: u64, part: u64) -> u64 {
+        let [center, tolerance, reference, sign] = range;
+        unsafe { parts_interval(center, tolerance, reference, sign, which, part) }
+    }
+
+    pub fn pose([x, y, z, w]: [u64; 4], part: u64) -> u64 {
+        unsafe { parts_pose(x, y, z, w, part) }
+    }
+}

@@ -1,6 +1,6 @@
 -- Polynomials and the root finder: document 01's module 3. What a reader must believe are the definitions, each beside its sentence of 01 or its function of the Rust:
 -- `Compensated`, `Cuts` (sorted lists without duplicates), `Polynomial` (sums, products, evaluation), `Roots` (the root finder), `Operation` (Roots with its refusals), `Angle`, `Curve`.
--- `Examples` computes 01's examples. `Laws` holds what upper crates cite. `Insert`, `Inside` and `Norm` are what inner functions promise one another.
+-- `Laws` holds what upper crates cite. `Insert`, `Inside` and `Norm` are what inner functions promise one another.
 pub mod Compensated
 pub mod Cuts
 pub mod Polynomial
@@ -8,7 +8,6 @@ pub mod Roots
 pub mod Operation
 pub mod Angle
 pub mod Curve
-mod Examples
 pub mod Laws
 pub mod Insert
 pub mod Inside

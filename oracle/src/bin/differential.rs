@@ -8,6 +8,7 @@ use lemongully_oracle::functions::{FUNCTIONS, Function};
 use lemongully_oracle::generate::{Random, roots};
 use lemongully_oracle::linked;
 use lemongully_oracle::operations::roots_op;
+use lemongully_oracle::parts::{self, PARTS, Part};
 use std::process::ExitCode;
 
 /// What a run of one function found.
@@ -103,6 +104,67 @@ fn polynomial_runs(count: u64, seed: u64) -> Vec<Run> {
     }]
 }
 
+/// The linked numbers of a function of module 4. A place past the last one gives
+/// the last one again, or 0 of a pose.
+fn part(name: &str) -> fn(parts::Operands) -> Vec<u64> {
+    use linked::sampling_parts as linked;
+    match name {
+        "center" => |[from, to, ..]| {
+            let number = |part| linked::center([from, to], part);
+            assert_eq!(number(1), number(u64::MAX), "the last part");
+            (0..2).map(number).collect()
+        },
+        "limits" => |joint| {
+            let number = |part| linked::limits(joint, part);
+            assert_eq!(number(2), number(u64::MAX), "the last part");
+            (0..3).map(number).collect()
+        },
+        "interval" => |[center, tolerance, reference, sign, ..]| {
+            let range = [center, tolerance, reference, sign];
+            let number = |place: u64| linked::interval(range, place / 3, place % 3);
+            assert_eq!(
+                number(8),
+                linked::interval(range, u64::MAX, 3),
+                "the last part"
+            );
+            (0..9).map(number).collect()
+        },
+        "pose" => |[x, y, z, w, ..]| {
+            let number = |part| linked::pose([x, y, z, w], part);
+            assert_eq!([number(14), number(u64::MAX)], [0, 0], "no part");
+            (0..14).map(number).collect()
+        },
+        _ => unreachable!("{name} is not linked"),
+    }
+}
+
+/// The section `sampling`: every number of module 4's functions.
+fn sampling_runs(count: u64, seed: u64) -> Vec<Run> {
+    let run = |function: &Part| {
+        let library = part(function.name);
+        let mut random = Random::new(seed, u64::from(function.letter));
+        let (mut differences, mut first) = (0, None);
+        for _ in 0..count {
+            let operands = (function.operands)(&mut random);
+            let (expected, found) = ((function.answer)(operands), library(operands));
+            if expected != found {
+                differences += 1;
+                first.get_or_insert_with(|| {
+                    let words = &operands[..function.count];
+                    format!("{words:016X?}: {expected:016X?}, linked {found:016X?}")
+                });
+            }
+        }
+        Run {
+            name: function.name,
+            inputs: count,
+            differences,
+            first,
+        }
+    };
+    PARTS.iter().map(run).collect()
+}
+
 fn section(arguments: &[String]) -> Option<Vec<Run>> {
     let [section, count, rest @ ..] = arguments else {
         return None;
@@ -116,6 +178,7 @@ fn section(arguments: &[String]) -> Option<Vec<Run>> {
     match section.as_str() {
         "float" => Some(float_runs(count, seed)),
         "polynomial" => Some(polynomial_runs(count, seed)),
+        "sampling" => Some(sampling_runs(count, seed)),
         _ => None,
     }
 }
@@ -123,7 +186,7 @@ fn section(arguments: &[String]) -> Option<Vec<Run>> {
 fn main() -> ExitCode {
     let arguments: Vec<String> = std::env::args().skip(1).collect();
     let Some(runs) = section(&arguments) else {
-        eprintln!("differential float|polynomial COUNT [SEED]");
+        eprintln!("differential float|polynomial|sampling COUNT [SEED]");
         return ExitCode::FAILURE;
     };
     for run in &runs {

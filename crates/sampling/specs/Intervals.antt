@@ -1,0 +1,40 @@
+-- Allowed displacements from a reference, bounded to the nearest full turn: `wrist_limit_intervals` of the Rust (01, module 4). A limit interval is either none or a pair of angles. Definitions only.
+use mathlib.Core.Bool.{Bool, true, false}
+use lib.Ieee.{Float, le, neg}
+use lib.Ieee.Scale.{finite}
+use Rattle.float.specs.Number.{_⊕_, _⊖_, _⊗_, minimum, maximum, zero-float}
+use Rattle.float.specs.Trig.{P}
+use Rattle.polynomial.specs.Angle.{turn, wrapped-angle}
+use Rattle.sampling.specs.Constraints.{pick}
+use Rattle.sampling.specs.declared.constraints.Center.{Center}
+use Rattle.sampling.specs.declared.intervals.Range.{Range}
+use Rattle.sampling.specs.declared.intervals.Range.the-variants.{Nothing, Between}
+use Rattle.sampling.specs.declared.intervals.Intervals.{Intervals}
+
+-- the centre seen from the reference; a tolerance of P or more, the infinite one included, is the whole turn
+unfoldable pub seen : Center → Float → Float → Center
+seen c reference sign =
+    pick (le P (c .tolerance))
+    (record { center = zero-float; tolerance = P })
+    (record { center = wrapped-angle (sign ⊗ (wrapped-angle (c .center) ⊖ reference)); tolerance = c .tolerance })
+
+-- the copy of the range that is shifted by a turn, cut off at -P and P
+abbrev pub lower-end : Center → Float → Float
+lower-end c shift = maximum (c .center ⊕ shift ⊖ c .tolerance) (neg P)
+
+abbrev pub upper-end : Center → Float → Float
+upper-end c shift = minimum (c .center ⊕ shift ⊕ c .tolerance) P
+
+unfoldable pub interval : Center → Float → Range
+interval c shift =
+    pick (finite (c .center))
+    (pick (le zero-float (c .tolerance))
+    (pick (le (lower-end c shift) (upper-end c shift)) (Between (lower-end c shift) (upper-end c shift)) Nothing)
+    Nothing)
+    Nothing
+
+-- a circular range may cross the ±P cut, so its neighbouring copies are included
+unfoldable pub wrist-limit-intervals : Center → Float → Float → Intervals
+wrist-limit-intervals c reference sign =
+    let s = seen c reference sign in
+    record { first = interval s (neg turn); second = interval s zero-float; third = interval s turn }

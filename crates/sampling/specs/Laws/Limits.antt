@@ -1,0 +1,159 @@
+-- The interval of a joint's model angle: its centre lies within P and its half width between 0 and P, so its ends are in order and lie within a turn. Assumes nothing.
+use mathlib.Core.Path.{_≡_}
+use mathlib.Core.Logic.{_⊎_, inl, inr}
+use mathlib.Core.Bool.{Bool, true, false, not, cond}
+use lib.IntN.{pos}
+use lib.Dec.{T}
+use lib.Ieee.{Float, nan, inf, fin, binary64, neg, sub, lt, le, eq, isNan, fits}
+use lib.Ieee.Fits.{add-fits, sub-fits, div-fits}
+use lib.Ieee.Scale.{finite}
+use Rattle.float.specs.Number.{_⊕_, _⊖_, _⊗_, _⊘_, minimum, zero-float, one-float, two-float}
+use Rattle.float.specs.Trig.{P}
+use Rattle.float.specs.Laws.Le.{Le, le→Le, neg-Le, add-mono}
+use Rattle.float.specs.Laws.Within.{Within, held, fits→held, numeral, add-within, sub-within, mul-within, Le→within}
+use Rattle.float.specs.Laws.Interval.{In, Le-refl, Le-trans}
+use Rattle.float.specs.Laws.Range.{nlt→Le}
+use Rattle.polynomial.specs.Angle.{turn, wrapped-angle}
+use Rattle.polynomial.specs.Laws.Wrapped.{wrapped-within, wrapped-fits, wrapped-not-minus-zero}
+use Rattle.sampling.specs.Constraints.{pick, arc, compute-center}
+use Rattle.sampling.specs.Limits.{centered, limits-of, limits}
+use Rattle.sampling.specs.Laws.Intervals.{minimum-fits, nothing-between}
+use Rattle.sampling.specs.declared.constraints.Center.{Center}
+use Rattle.sampling.specs.declared.intervals.Range.the-variants.{Nothing, Between}
+use Rattle.sampling.specs.declared.job.Joint.{Joint}
+
+-- ---- the half width of a tolerance that is a number and not below zero
+pub half-in : (t : Float) → T (not (isNan t)) → T (not (lt t zero-float)) → In zero-float P (minimum t P)
+unfolding minimum isNan le
+half-in nan n h = absurd n
+half-in (inf true) n h = absurd h
+half-in (inf false) n h = record { lower = le→Le zero-float P tt tt tt; upper = Le-refl P tt }
+half-in (fin s m e) n h = go (lt P (fin s m e)) (nlt→Le P (fin s m e) tt tt)
+  where
+    go : (b : Bool) → (T (not b) → Le (fin s m e) P) → In zero-float P (cond b P (fin s m e))
+    go true k = record { lower = le→Le zero-float P tt tt tt; upper = Le-refl P tt }
+    go false k = record { lower = nlt→Le (fin s m e) zero-float tt tt h; upper = k tt }
+
+pub half-within : {x : Float} → In zero-float P x → Within P x
+unfolding neg le
+half-within h = Le→within tt (h .upper) (Le-trans (le→Le (neg P) zero-float tt tt tt) (h .lower))
+
+-- ---- an interval around a centre, and its ends
+pub record Around (lo hi : Float) : Type 0 where
+  pub center : Float
+  pub half : Float
+  pub lower-is : lo ≡ center ⊖ half
+  pub upper-is : hi ≡ center ⊕ half
+  pub center-fits : T (fits binary64 center)
+  pub center-within : Within P center
+  pub center-not-minus-zero : center ≡ fin true 0 (pos 0) → ⊥
+  pub half-fits : T (fits binary64 half)
+  pub half-between : In zero-float P half
+
+pub record Ends (lo hi : Float) : Type 0 where
+  pub lower-fits : T (fits binary64 lo)
+  pub upper-fits : T (fits binary64 hi)
+  pub lower-within : Within turn lo
+  pub upper-within : Within turn hi
+  pub order : Le lo hi
+
+around-ends : (c h : Float) → Within P c → In zero-float P h → Ends (c ⊖ h) (c ⊕ h)
+unfolding sub le
+around-ends c h w k =
+    let lower : Within turn (c ⊖ h) = sub-within binary64 turn tt w (half-within k) in
+    let upper : Within turn (c ⊕ h) = add-within binary64 turn tt w (half-within k) in
+    let turned : Le (neg h) h = Le-trans (neg-Le (k .lower)) (Le-trans (le→Le (neg zero-float) zero-float tt tt tt) (k .lower)) in
+    record {
+      lower-fits = sub-fits binary64 c h;
+      upper-fits = add-fits binary64 c h;
+      lower-within = lower;
+      upper-within = upper;
+      order = le→Le (c ⊖ h) (c ⊕ h) (lower .real) (upper .real) (add-mono binary64 (Le-refl c (w .real)) turned);
+    }
+
+pub ends : {lo hi : Float} → Around lo hi → Ends lo hi
+ends a = rw (a .lower-is, a .upper-is) (around-ends (a .center) (a .half) (a .center-within) (a .half-between))
+
+-- ---- the centre
+pub unit-sign : {sign : Float} → (sign ≡ one-float) ⊎ (sign ≡ neg one-float) → Within one-float sign
+unfolding neg
+unit-sign (inl e) = rw e (numeral one-float one-float tt)
+unit-sign (inr e) = rw e (numeral one-float (neg one-float) tt)
+
+-- the model angle, before it is wrapped
+model-held : (c sign offset : Float) → T (fits binary64 c) → T (finite c) → Within one-float sign → Within turn offset → T (held binary64 (wrapped-angle c ⊗ sign ⊖ offset))
+model-held c sign offset t f s o =
+    let x = wrapped-angle c ⊗ sign in
+    fits→held binary64 (x ⊖ offset) (sub-fits binary64 x offset) (sub-within binary64 (fin false 10 (pos 0)) tt (mul-within binary64 P tt (wrapped-within c (fits→held binary64 c t f)) s) o .real)
+
+-- ---- what an answer tells
+record Taken (number below real : Bool) (x y lo hi : Float) : Type 0 where
+  number-is : T (not number)
+  plus : T (not below)
+  finite-is : T real
+  lower : lo ≡ x
+  upper : hi ≡ y
+
+taken : (n b f : Bool) (x y lo hi : Float) → pick n Nothing (pick b Nothing (pick f (Between x y) Nothing)) ≡ Between lo hi → Taken n b f x y lo hi
+taken true b f x y lo hi e = absurd (nothing-between e)
+taken false true f x y lo hi e = absurd (nothing-between e)
+taken false false false x y lo hi e = absurd (nothing-between e)
+taken false false true x y lo hi e = record { number-is = tt; plus = tt; finite-is = tt; lower = cc; upper = cc }
+
+-- ---- parts that fit binary64
+pub record Center-fits (c : Center) : Type 0 where
+  pub center : T (fits binary64 (c .center))
+  pub tolerance : T (fits binary64 (c .tolerance))
+
+fitting : (x y : Float) → T (fits binary64 x) → T (fits binary64 y) → Center-fits (record { center = x; tolerance = y })
+fitting x y t u = record { center = t; tolerance = u }
+
+chosen : (p q r s : Bool) {a b c n : Center} → Center-fits a → Center-fits b → Center-fits c → Center-fits n → Center-fits (pick p (pick q (pick r a (pick s b c)) n) n)
+chosen false q r s a b c n = n
+chosen true false r s a b c n = n
+chosen true true true s a b c n = a
+chosen true true false true a b c n = b
+chosen true true false false a b c n = c
+
+pub compute-fits : (a b : Float) → Center-fits (compute-center a b)
+unfolding compute-center fits
+compute-fits a b =
+    chosen (finite a) (finite b) (eq a b) (lt a b)
+    (fitting zero-float (inf false) tt tt)
+    (fitting ((a ⊕ b) ⊘ two-float) ((b ⊖ a) ⊘ two-float) (div-fits binary64 (a ⊕ b) two-float) (div-fits binary64 (b ⊖ a) two-float))
+    (fitting (a ⊕ arc a b ⊘ two-float) (arc a b ⊘ two-float) (add-fits binary64 a (arc a b ⊘ two-float)) (div-fits binary64 (arc a b) two-float))
+    (fitting nan nan tt tt)
+
+pub centered-fits : (limited : Bool) (j : Joint) → T (fits binary64 (j .reference)) → Center-fits (centered limited j)
+unfolding centered fits
+centered-fits true j t = compute-fits (j .from) (j .to)
+centered-fits false j t = fitting (j .reference) P t tt
+
+-- ---- the laws
+pub limits-of-around : (c : Center) (sign offset lo hi : Float) → Center-fits c → Within one-float sign → Within turn offset → limits-of c sign offset ≡ Between lo hi → Around lo hi
+unfolding limits-of
+limits-of-around c sign offset lo hi t s o e =
+    let m = wrapped-angle (c .center) ⊗ sign ⊖ offset in
+    let h = minimum (c .tolerance) P in
+    let k = taken (isNan (c .tolerance)) (lt (c .tolerance) zero-float) (finite (c .center)) (wrapped-angle m ⊖ h) (wrapped-angle m ⊕ h) lo hi e in
+    let g = model-held (c .center) sign offset (t .center) (k .finite-is) s o in
+    record {
+      center = wrapped-angle m;
+      half = h;
+      lower-is = k .lower;
+      upper-is = k .upper;
+      center-fits = wrapped-fits m;
+      center-within = wrapped-within m g;
+      center-not-minus-zero = wrapped-not-minus-zero m g;
+      half-fits = minimum-fits (c .tolerance) (t .tolerance);
+      half-between = half-in (c .tolerance) (k .number-is) (k .plus);
+    }
+
+pub limits-around : (limited : Bool) (j : Joint) (lo hi : Float) → T (fits binary64 (j .reference)) → (j .sign ≡ one-float) ⊎ (j .sign ≡ neg one-float) → Within turn (j .offset)
+    → limits limited j ≡ Between lo hi → Around lo hi
+unfolding limits
+limits-around limited j lo hi t s o e = limits-of-around (centered limited j) (j .sign) (j .offset) lo hi (centered-fits limited j t) (unit-sign s) o e
+
+pub limits-ends : (limited : Bool) (j : Joint) (lo hi : Float) → T (fits binary64 (j .reference)) → (j .sign ≡ one-float) ⊎ (j .sign ≡ neg one-float) → Within turn (j .offset)
+    → limits limited j ≡ Between lo hi → Ends lo hi
+limits-ends limited j lo hi t s o e = ends (limits-around limited j lo hi t s o e)

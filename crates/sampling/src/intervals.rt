@@ -1,0 +1,71 @@
+// Allowed displacements of a joint from a reference, from src/kinematics_impl.rs.
+ghost use mathlib.Core.Path.{_≡_};
+ghost use Rattle.sampling.specs.Intervals as Of;
+use crate::constraints::Center;
+use float::number::is_finite;
+use float::number::maximum;
+use float::number::minimum;
+use polynomial::angle::wrapped_angle;
+
+// A limit interval: none, or a pair of angles.
+pub enum Range {
+    Nothing,
+    Between(f64, f64),
+}
+
+// Three at most.
+pub struct Intervals {
+    pub first: Range,
+    pub second: Range,
+    pub third: Range,
+}
+
+// The centre seen from the reference; a tolerance of P or more is the whole turn.
+fn seen(c: Center, reference: f64, sign: f64) -> Center
+    ensures { λ r. ⌜ r ≡ Of.seen c reference sign ⌝ }
+{
+    if 3.141592653589793 <= c.tolerance {
+        return Center {
+            center: 0.0,
+            tolerance: 3.141592653589793,
+        };
+    }
+    let center = wrapped_angle(sign * (wrapped_angle(c.center) - reference));
+    Center {
+        center,
+        tolerance: c.tolerance,
+    }
+}
+
+// The copy of the range that is shifted by a turn, cut off at -P and P.
+fn interval(c: Center, shift: f64) -> Range
+    ensures { λ r. ⌜ r ≡ Of.interval c shift ⌝ }
+{
+    if is_finite(c.center) {
+        if 0.0 <= c.tolerance {
+            let lower = maximum(c.center + shift - c.tolerance, -3.141592653589793);
+            let upper = minimum(c.center + shift + c.tolerance, 3.141592653589793);
+            if lower <= upper {
+                return Range::Between(lower, upper);
+            }
+            return Range::Nothing;
+        }
+        return Range::Nothing;
+    }
+    Range::Nothing
+}
+
+// The range with its neighbouring copies, since it may cross the ±P cut.
+pub fn wrist_limit_intervals(c: Center, reference: f64, sign: f64) -> Intervals
+    ensures { λ r. ⌜ r ≡ Of.wrist-limit-intervals c reference sign ⌝ }
+{
+    let s = seen(c, reference, sign);
+    let first = interval(s, -6.283185307179586);
+    let second = interval(s, 0.0);
+    let third = interval(s, 6.283185307179586);
+    Intervals {
+        first,
+        second,
+        third,
+    }
+}

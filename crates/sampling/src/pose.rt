@@ -1,0 +1,112 @@
+// The pose, from src/pose.rs, and the rotation matrix by document 01's formula.
+ghost use mathlib.Core.Path.{_≡_};
+ghost use Rattle.sampling.specs.Pose as Pose;
+use float::number::is_finite;
+use float::sqrt::sqrt;
+
+pub struct Quaternion {
+    pub x: f64,
+    pub y: f64,
+    pub z: f64,
+    pub w: f64,
+}
+
+pub struct Vector {
+    pub x: f64,
+    pub y: f64,
+    pub z: f64,
+}
+
+// Three columns.
+pub struct Matrix {
+    pub x: Vector,
+    pub y: Vector,
+    pub z: Vector,
+}
+
+pub enum Normalized {
+    Unit(Quaternion),
+    NotFinite,
+    Zero,
+}
+
+fn all_finite(q: Quaternion) -> bool
+    ensures { λ r. ⌜ r ≡ Pose.all-finite q ⌝ }
+{
+    if is_finite(q.x) {
+        if is_finite(q.y) {
+            if is_finite(q.z) {
+                return is_finite(q.w);
+            }
+            return false;
+        }
+        return false;
+    }
+    false
+}
+
+fn quaternion_length(q: Quaternion) -> f64
+    ensures { λ r. ⌜ r ≡ Pose.quaternion-length q ⌝ }
+{
+    sqrt(q.x * q.x + q.y * q.y + q.z * q.z + q.w * q.w)
+}
+
+// q over its length, unless a part or the length is not finite, or the length is zero.
+pub fn try_normalize(q: Quaternion) -> Normalized
+    ensures { λ r. ⌜ r ≡ Pose.try-normalize q ⌝ }
+{
+    if all_finite(q) {
+        let l = quaternion_length(q);
+        if is_finite(l) {
+            if l <= 0.0 {
+                return Normalized::Zero;
+            }
+            return Normalized::Unit(Quaternion {
+                x: q.x / l,
+                y: q.y / l,
+                z: q.z / l,
+                w: q.w / l,
+            });
+        }
+        return Normalized::NotFinite;
+    }
+    Normalized::NotFinite
+}
+
+// The rotation matrix of a normalized quaternion.
+pub fn from_quat(q: Quaternion) -> Matrix
+    ensures { λ r. ⌜ r ≡ Pose.from-quat q ⌝ }
+{
+    let x2 = q.x + q.x;
+    let y2 = q.y + q.y;
+    let z2 = q.z + q.z;
+    Matrix {
+        x: Vector {
+            x: 1.0 - (q.y * y2 + q.z * z2),
+            y: q.x * y2 + q.w * z2,
+            z: q.x * z2 - q.w * y2,
+        },
+        y: Vector {
+            x: q.x * y2 - q.w * z2,
+            y: 1.0 - (q.x * x2 + q.z * z2),
+            z: q.y * z2 + q.w * x2,
+        },
+        z: Vector {
+            x: q.x * z2 + q.w * y2,
+            y: q.y * z2 - q.w * x2,
+            z: 1.0 - (q.x * x2 + q.y * y2),
+        },
+    }
+}
+
+pub fn dot(a: Vector, b: Vector) -> f64
+    ensures { λ r. ⌜ r ≡ Pose.dot a b ⌝ }
+{
+    a.x * b.x + a.y * b.y + a.z * b.z
+}
+
+pub fn vector_length(a: Vector) -> f64
+    ensures { λ r. ⌜ r ≡ Pose.vector-length a ⌝ }
+{
+    sqrt(dot(a, a))
+}

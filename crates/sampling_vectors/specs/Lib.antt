@@ -1,0 +1,2 @@
+-- What the contracts of `sampling_vectors` cite: hexadecimal digits and words.
+pub mod Hex
