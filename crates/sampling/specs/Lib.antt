@@ -4,5 +4,8 @@ pub mod Constraints
 pub mod Intervals
 pub mod Pose
 pub mod Limits
+pub mod Continuum
+pub mod J1free
+pub mod J2free
 mod Examples
 pub mod Laws

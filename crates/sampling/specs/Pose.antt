@@ -1,6 +1,6 @@
 -- The pose: `try_normalize_dquat` of the Rust, and the rotation matrix, dot product and length by 01's formulas (module 4). Definitions only.
 use mathlib.Core.Bool.{Bool, true, false}
-use lib.Ieee.{Float, binary64, le}
+use lib.Ieee.{Float, binary64, le, neg}
 use lib.Ieee.Scale.{finite}
 use Rattle.float.specs.Number.{_⊕_, _⊖_, _⊗_, _⊘_, zero-float, one-float}
 use Rattle.float.specs.Sqrt.{sqrt}
@@ -47,3 +47,19 @@ dot a b = a .x ⊗ b .x ⊕ a .y ⊗ b .y ⊕ a .z ⊗ b .z
 
 unfoldable pub vector-length : Vector → Float
 vector-length a = sqrt binary64 (dot a a)
+
+-- other vector steps go part by part
+unfoldable pub vector : Float → Float → Float → Vector
+vector x y z = record { x = x; y = y; z = z }
+
+unfoldable pub times : Vector → Float → Vector
+times a factor = vector (a .x ⊗ factor) (a .y ⊗ factor) (a .z ⊗ factor)
+
+unfoldable pub plus : Vector → Vector → Vector
+plus a b = vector (a .x ⊕ b .x) (a .y ⊕ b .y) (a .z ⊕ b .z)
+
+unfoldable pub minus : Vector → Vector → Vector
+minus a b = vector (a .x ⊖ b .x) (a .y ⊖ b .y) (a .z ⊖ b .z)
+
+unfoldable pub negated : Vector → Vector
+negated a = vector (neg (a .x)) (neg (a .y)) (neg (a .z))

@@ -1,6 +1,9 @@
 // From a job's numbers to its angles, document 01's modules 4 to 6. specs/Lib.antt says which files
 // define what.
 pub mod constraints;
+pub mod continuum;
 pub mod intervals;
+pub mod j1free;
+pub mod j2free;
 pub mod job;
 pub mod pose;

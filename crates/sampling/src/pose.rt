@@ -17,6 +17,54 @@ pub struct Vector {
     pub z: f64,
 }
 
+impl Vector {
+    pub fn new(x: f64, y: f64, z: f64) -> Self
+        ensures { λ r. ⌜ r ≡ Pose.vector x y z ⌝ }
+    {
+        Self { x, y, z }
+    }
+
+    pub fn times(self, factor: f64) -> Self
+        ensures { λ r. ⌜ r ≡ Pose.times self factor ⌝ }
+    {
+        Self {
+            x: self.x * factor,
+            y: self.y * factor,
+            z: self.z * factor,
+        }
+    }
+
+    pub fn plus(self, other: Vector) -> Self
+        ensures { λ r. ⌜ r ≡ Pose.plus self other ⌝ }
+    {
+        Self {
+            x: self.x + other.x,
+            y: self.y + other.y,
+            z: self.z + other.z,
+        }
+    }
+
+    pub fn minus(self, other: Vector) -> Self
+        ensures { λ r. ⌜ r ≡ Pose.minus self other ⌝ }
+    {
+        Self {
+            x: self.x - other.x,
+            y: self.y - other.y,
+            z: self.z - other.z,
+        }
+    }
+
+    pub fn negated(self) -> Self
+        ensures { λ r. ⌜ r ≡ Pose.negated self ⌝ }
+    {
+        Self {
+            x: -self.x,
+            y: -self.y,
+            z: -self.z,
+        }
+    }
+}
+
 // Three columns.
 pub struct Matrix {
     pub x: Vector,

@@ -1,0 +1,65 @@
+-- First harmonics of a free model angle, shared by joints 1 and 2: continuum.rs of the Rust up to its boundary lines (01, module 5). Definitions only.
+use mathlib.Core.Bool.{Bool, true, false}
+use mathlib.Core.List.{List, [], _∷_}
+use lib.IntN.{negsuc}
+use lib.Ieee.{Float, fin, neg, eq, lt}
+use lib.Ieee.Scale.{finite}
+use Rattle.float.specs.Number.{_⊕_, _⊖_, _⊗_, _⊘_, abs, clamp, zero-float, one-float}
+use Rattle.float.specs.Trig.{hypot, atan2, acos, sin-cos}
+use Rattle.polynomial.specs.Angle.{wrapped-angle}
+use Rattle.sampling.specs.Constraints.{pick}
+use Rattle.sampling.specs.Pose as Pose
+use Rattle.sampling.specs.declared.pose.Vector.{Vector}
+use Rattle.sampling.specs.declared.continuum.Trig.{Trig}
+use Rattle.sampling.specs.declared.continuum.TrigVector.{TrigVector}
+use Rattle.sampling.specs.declared.continuum.Crossings.{Crossings}
+use Rattle.sampling.specs.declared.continuum.Crossings.the-variants.{Neither, Both}
+
+-- every coefficient times the factor
+unfoldable pub scaled : Trig → Float → Trig
+scaled t factor = record { cosine = t .cosine ⊗ factor; sine = t .sine ⊗ factor; constant = t .constant ⊗ factor }
+
+-- coefficient by coefficient
+unfoldable pub plus : Trig → Trig → Trig
+plus t u = record { cosine = t .cosine ⊕ u .cosine; sine = t .sine ⊕ u .sine; constant = t .constant ⊕ u .constant }
+
+-- the vector projected onto a fixed one
+unfoldable pub dot : TrigVector → Vector → Trig
+dot t v = record { cosine = Pose.dot (t .cosine) v; sine = Pose.dot (t .sine) v; constant = Pose.dot (t .constant) v }
+
+-- 64 ε
+abbrev pub root-roundoff : Float
+root-roundoff = fin false 1 (negsuc 45)
+
+unfoldable pub error : Trig → Float → Float
+error t target = root-roundoff ⊗ (abs (t .cosine) ⊕ abs (t .sine) ⊕ abs (t .constant) ⊕ abs target)
+
+-- Where t equals the target: the wrapped angles on both sides of the phase. Neither where the radius or the constant is not finite, the radius is zero, or the constant is beyond it by more than the error.
+unfoldable pub crossings : Trig → Float → Crossings
+crossings t target =
+    let radius = hypot (t .cosine) (t .sine) in
+    let constant = t .constant ⊖ target in
+    let phase = atan2 (t .sine) (t .cosine) in
+    let offset = acos (clamp (neg constant ⊘ radius)) in
+    pick (finite radius)
+    (pick (finite constant)
+    (pick (eq radius zero-float) Neither
+    (pick (lt (radius ⊕ error t target) (abs constant)) Neither
+    (Both (wrapped-angle (phase ⊖ offset)) (wrapped-angle (phase ⊕ offset)))))
+    Neither)
+    Neither
+
+abbrev pub listed : Crossings → List Float
+listed Neither = []
+listed (Both a b) = a ∷ (b ∷ [])
+
+unfoldable pub roots : Trig → Float → List Float
+roots t target = listed (crossings t target)
+
+-- the polynomial that is zero where the vector (x, y) lies on the boundary line of an angle
+unfoldable pub line : Trig → Trig → Float → Trig
+line x y angle = plus (scaled y (sin-cos angle .cosine)) (scaled x (neg (sin-cos angle .sine)))
+
+-- angles where (x, y) lies on that line, in either direction
+unfoldable pub ray-roots : Trig → Trig → Float → List Float
+ray-roots x y angle = roots (line x y angle) zero-float
