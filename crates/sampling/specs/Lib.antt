@@ -7,5 +7,7 @@ pub mod Limits
 pub mod Continuum
 pub mod J1free
 pub mod J2free
+pub mod Marks
+pub mod Wrist
 mod Examples
 pub mod Laws

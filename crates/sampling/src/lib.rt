@@ -6,4 +6,6 @@ pub mod intervals;
 pub mod j1free;
 pub mod j2free;
 pub mod job;
+pub mod marks;
 pub mod pose;
+pub mod wrist;

@@ -1,0 +1,33 @@
+-- The angles of a wrist joint that bound the free joint's samples: its reference and, with limits, their centre and ends; from `sample_angles` of continuum.rs (01, module 5). Definitions only.
+use mathlib.Core.Bool.{Bool, true, false}
+use lib.Ieee.{Float, le, lt}
+use lib.Ieee.Scale.{finite}
+use Rattle.float.specs.Number.{_⊕_, _⊖_, _⊗_, zero-float}
+use Rattle.float.specs.Trig.{P}
+use Rattle.polynomial.specs.Angle.{wrapped-angle}
+use Rattle.sampling.specs.Constraints.{pick, compute-center}
+use Rattle.sampling.specs.declared.intervals.Range.{Range}
+use Rattle.sampling.specs.declared.intervals.Range.the-variants.{Nothing, Between}
+use Rattle.sampling.specs.declared.job.Joint.{Joint}
+use Rattle.sampling.specs.declared.marks.Marks.{Marks}
+
+-- an angle of a joint as a model angle; the offset is wrapped here
+unfoldable pub model-angle : Float → Float → Float → Float
+model-angle sign offset angle = wrapped-angle (wrapped-angle angle ⊗ sign ⊖ wrapped-angle offset)
+
+-- the ends of limits whose tolerance is finite, at least 0 and below P
+unfoldable pub ends : Float → Float → Range
+ends center tolerance =
+    pick (finite tolerance)
+    (pick (le zero-float tolerance)
+    (pick (lt tolerance P) (Between (center ⊖ tolerance) (center ⊕ tolerance)) Nothing)
+    Nothing)
+    Nothing
+
+unfoldable pub marks : Bool → Joint → Marks
+marks limited j =
+    let reference = model-angle (j .sign) (j .offset) (j .reference) in
+    let center = model-angle (j .sign) (j .offset) (compute-center (j .from) (j .to) .center) in
+    pick limited
+    (record { reference = reference; limited = true; center = center; range = ends center (compute-center (j .from) (j .to) .tolerance) })
+    (record { reference = reference; limited = false; center = zero-float; range = Nothing })

@@ -1,0 +1,65 @@
+// The angles of a wrist joint that bound the free joint's samples, from `sample_angles` of
+// src/singularity/continuum.rs.
+ghost use mathlib.Core.Path.{_≡_};
+ghost use Rattle.sampling.specs.Marks as Of;
+use crate::constraints::compute_center;
+use crate::intervals::Range;
+use crate::job::Joint;
+use float::number::is_finite;
+use polynomial::angle::wrapped_angle;
+
+// The reference and, with limits, their centre and ends.
+pub struct Marks {
+    pub reference: f64,
+    pub limited: bool,
+    pub center: f64,
+    pub range: Range,
+}
+
+// An angle of a joint as a model angle. The offset is wrapped here.
+pub fn model_angle(sign: f64, offset: f64, angle: f64) -> f64
+    ensures { λ r. ⌜ r ≡ Of.model-angle sign offset angle ⌝ }
+{
+    let turned = wrapped_angle(angle) * sign;
+    wrapped_angle(turned - wrapped_angle(offset))
+}
+
+// The ends of limits, where there are any.
+pub fn ends(center: f64, tolerance: f64) -> Range
+    ensures { λ r. ⌜ r ≡ Of.ends center tolerance ⌝ }
+{
+    if is_finite(tolerance) {
+        if 0.0 <= tolerance {
+            if tolerance < 3.141592653589793 {
+                return Range::Between(center - tolerance, center + tolerance);
+            }
+            return Range::Nothing;
+        }
+        return Range::Nothing;
+    }
+    Range::Nothing
+}
+
+// What counts of a joint.
+pub fn marks_of(limited: bool, j: Joint) -> Marks
+    ensures { λ r. ⌜ r ≡ Of.marks limited j ⌝ }
+{
+    let reference = model_angle(j.sign, j.offset, j.reference);
+    if limited {
+        let c = compute_center(j.from, j.to);
+        let center = model_angle(j.sign, j.offset, c.center);
+        let range = ends(center, c.tolerance);
+        return Marks {
+            reference,
+            limited: true,
+            center,
+            range,
+        };
+    }
+    Marks {
+        reference,
+        limited: false,
+        center: 0.0,
+        range: Range::Nothing,
+    }
+}
