@@ -4,3 +4,4 @@
 pub mod Intervals
 pub mod Limits
 pub mod Pose
+pub mod Pushed

@@ -9,5 +9,7 @@ pub mod J1free
 pub mod J2free
 pub mod Marks
 pub mod Wrist
+pub mod Pushed
+pub mod Rays
 mod Examples
 pub mod Laws

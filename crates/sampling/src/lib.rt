@@ -8,4 +8,5 @@ pub mod j2free;
 pub mod job;
 pub mod marks;
 pub mod pose;
+pub mod rays;
 pub mod wrist;

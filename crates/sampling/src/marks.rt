@@ -16,6 +16,12 @@ pub struct Marks {
     pub range: Range,
 }
 
+// Joint 6, which may be fixed.
+pub enum Sixth {
+    Fixed,
+    Turns(Marks),
+}
+
 // An angle of a joint as a model angle. The offset is wrapped here.
 pub fn model_angle(sign: f64, offset: f64, angle: f64) -> f64
     ensures { λ r. ⌜ r ≡ Of.model-angle sign offset angle ⌝ }

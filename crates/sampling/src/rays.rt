@@ -1,0 +1,160 @@
+// The boundary angles of joints 4 and 6, from src/singularity/continuum.rs, pushed after the first n
+// numbers of a lent slice.
+ghost use mathlib.Core.Path.{_≡_};
+ghost use mathlib.Core.List.{[], _∷_};
+ghost use Prim.Native.Nat.{_+_, _≤_, _<_};
+ghost use lib.ListN.{length};
+ghost use Rattle.sampling.specs.Pushed.{Pushed};
+ghost use Rattle.sampling.specs.Continuum as Continuum;
+ghost use Rattle.sampling.specs.Rays as Of;
+use crate::continuum::Crossings;
+use crate::continuum::Trig;
+use crate::continuum::line;
+use crate::intervals::Range;
+use crate::marks::Marks;
+use crate::marks::Sixth;
+use crate::wrist::Ray;
+use crate::wrist::Wrist;
+use float::number::is_finite;
+
+pub fn push(v: f64, out: &mut [f64], n: usize) -> usize
+    requires { ⌜ n < length (now out) ⌝ }
+    ensures { λ r. ⌜ Pushed 1 (v ∷ []) n (now (out .entry)) r (now (out .exit)) ⌝ }
+{
+    out[n] = v;
+    n + 1
+}
+
+pub fn push_crossings(p: Crossings, out: &mut [f64], n: usize) -> usize
+    requires { ⌜ n + 2 ≤ length (now out) ⌝ }
+    ensures { λ r. ⌜ Pushed 2 (Continuum.listed p) n (now (out .entry)) r (now (out .exit)) ⌝ }
+{
+    match p {
+        Crossings::Neither => n,
+        Crossings::Both(a, b) => {
+            let m = push(a, out, n);
+            push(b, out, m)
+        }
+    }
+}
+
+// Angles where the polynomial equals the target.
+pub fn roots(t: Trig, target: f64, out: &mut [f64], n: usize) -> usize
+    requires { ⌜ n + 2 ≤ length (now out) ⌝ }
+    ensures { λ r. ⌜ Pushed 2 (Continuum.roots t target) n (now (out .entry)) r (now (out .exit)) ⌝ }
+{
+    push_crossings(t.crossings(target), out, n)
+}
+
+// Angles where the vector lies on the boundary line of an angle.
+pub fn ray_roots(ray: Ray, angle: f64, out: &mut [f64], n: usize) -> usize
+    requires { ⌜ n + 2 ≤ length (now out) ⌝ }
+    ensures { λ r. ⌜ Pushed 2 (Continuum.ray-roots (ray .x) (ray .y) angle) n (now (out .entry)) r (now (out .exit)) ⌝ }
+{
+    roots(line(ray.x, ray.y, angle), 0.0, out, n)
+}
+
+pub fn poles(cos5: Trig, out: &mut [f64], n: usize) -> usize
+    requires { ⌜ n + 4 ≤ length (now out) ⌝ }
+    ensures { λ r. ⌜ Pushed 4 (Of.poles cos5) n (now (out .entry)) r (now (out .exit)) ⌝ }
+{
+    let m = roots(cos5, 1.0, out, n);
+    roots(cos5, -1.0, out, m)
+}
+
+// An angle counts if it is finite.
+fn ray_at(ray: Ray, angle: f64, out: &mut [f64], n: usize) -> usize
+    requires { ⌜ n + 2 ≤ length (now out) ⌝ }
+    ensures { λ r. ⌜ Pushed 2 (Of.ray-at ray angle) n (now (out .entry)) r (now (out .exit)) ⌝ }
+{
+    if is_finite(angle) {
+        return ray_roots(ray, angle, out, n);
+    }
+    n
+}
+
+fn ray_range(ray: Ray, range: Range, out: &mut [f64], n: usize) -> usize
+    requires { ⌜ n + 4 ≤ length (now out) ⌝ }
+    ensures { λ r. ⌜ Pushed 4 (Of.ray-range ray range) n (now (out .entry)) r (now (out .exit)) ⌝ }
+{
+    match range {
+        Range::Nothing => n,
+        Range::Between(a, b) => {
+            let m = ray_at(ray, a, out, n);
+            ray_at(ray, b, out, m)
+        }
+    }
+}
+
+// The reference and, with limits, their centre and ends.
+pub fn ray_marks(ray: Ray, marks: Marks, out: &mut [f64], n: usize) -> usize
+    requires { ⌜ n + 8 ≤ length (now out) ⌝ }
+    ensures { λ r. ⌜ Pushed 8 (Of.ray-marks ray marks) n (now (out .entry)) r (now (out .exit)) ⌝ }
+{
+    let m = ray_at(ray, marks.reference, out, n);
+    if marks.limited {
+        let k = ray_at(ray, marks.center, out, m);
+        let range = marks.range;
+        return ray_range(ray, range, out, k);
+    }
+    m
+}
+
+// An angle of joint 4 with one of joint 6, at a pole.
+fn corner(ray: Ray, sign: f64, a: f64, b: f64, out: &mut [f64], n: usize) -> usize
+    requires { ⌜ n + 2 ≤ length (now out) ⌝ }
+    ensures { λ r. ⌜ Pushed 2 (Of.corner ray sign a b) n (now (out .entry)) r (now (out .exit)) ⌝ }
+{
+    ray_roots(ray, a + sign * b, out, n)
+}
+
+// Each end of joint 4's limits with each of joint 6's.
+fn corners(ray: Ray, sign: f64, fourth: Range, sixth: Range, out: &mut [f64], n: usize) -> usize
+    requires { ⌜ n + 8 ≤ length (now out) ⌝ }
+    ensures { λ r. ⌜ Pushed 8 (Of.corners ray sign fourth sixth) n (now (out .entry)) r (now (out .exit)) ⌝ }
+{
+    match fourth {
+        Range::Nothing => n,
+        Range::Between(a, b) => match sixth {
+            Range::Nothing => n,
+            Range::Between(c, d) => {
+                let n1 = corner(ray, sign, a, c, out, n);
+                let n2 = corner(ray, sign, a, d, out, n1);
+                let n3 = corner(ray, sign, b, c, out, n2);
+                corner(ray, sign, b, d, out, n3)
+            }
+        },
+    }
+}
+
+fn phase_roots(ray: Ray, sign: f64, fourth: Marks, sixth: Marks, out: &mut [f64], n: usize) -> usize
+    requires { ⌜ n + 10 ≤ length (now out) ⌝ }
+    ensures { λ r. ⌜ Pushed 10 (Of.phase-roots ray sign fourth sixth) n (now (out .entry)) r (now (out .exit)) ⌝ }
+{
+    let m = corner(ray, sign, fourth.reference, sixth.reference, out, n);
+    let range4 = fourth.range;
+    let range6 = sixth.range;
+    corners(ray, sign, range4, range6, out, m)
+}
+
+fn phases(w: Wrist, fourth: Marks, sixth: Marks, out: &mut [f64], n: usize) -> usize
+    requires { ⌜ n + 20 ≤ length (now out) ⌝ }
+    ensures { λ r. ⌜ Pushed 20 (Of.phases w fourth sixth) n (now (out .entry)) r (now (out .exit)) ⌝ }
+{
+    let k = phase_roots(w.sum, 1.0, fourth, sixth, out, n);
+    phase_roots(w.difference, -1.0, fourth, sixth, out, k)
+}
+
+// Joint 6, if it is not fixed.
+pub fn sixth_roots(w: Wrist, fourth: Marks, sixth: Sixth, out: &mut [f64], n: usize) -> usize
+    requires { ⌜ n + 28 ≤ length (now out) ⌝ }
+    ensures { λ r. ⌜ Pushed 28 (Of.sixth-roots w fourth sixth) n (now (out .entry)) r (now (out .exit)) ⌝ }
+{
+    match sixth {
+        Sixth::Fixed => n,
+        Sixth::Turns(marks) => {
+            let k = ray_marks(w.q6, marks, out, n);
+            phases(w, fourth, marks, out, k)
+        }
+    }
+}
