@@ -4,20 +4,25 @@ use mathlib.Core.List.{List, [], _∷_, _++_, append-assoc, append-nil}
 use Prim.Native.Nat.{ℕ, _+_, _<_}
 use native.Mathlib.Omega.{arith}
 use native.Mathlib.Numerals.{add-one}
-use lib.ListN.{length, take, set, length-append}
-use lib.Seq.{take-suc-set}
+use lib.ListN.{length, take, drop, set, length-append}
+use lib.Seq.{take-suc-set, drop-set-lt, drop-drop}
 use Rattle.sampling.specs.Pushed.{Pushed}
 
 pub none : {A : Type 0} (k n : ℕ) (a : List A) → Pushed k [] n a n a
-none k n a = record { count = omega arith; front = sym (append-nil (take n a)); most = omega arith }
+none k n a = record { count = omega arith; front = sym (append-nil (take n a)); rest = refl; most = omega arith }
 
 pub one : {A : Type 0} (n : ℕ) (a : List A) (v : A) → n < length a → Pushed 1 (v ∷ []) n a (n + 1) (set a n v)
-one n a v h = record { count = refl; front = rw add-one (take-suc-set a n v h); most = omega arith }
+one n a v h = record { count = refl; front = rw add-one (take-suc-set a n v h); rest = drop-set-lt (n + 1) a n v (omega arith); most = omega arith }
+
+-- what is alike from m on is alike from any later place on
+later : {A : Type 0} (m r : ℕ) (a b : List A) (d : ℕ) → r ≡ m + d → drop m b ≡ drop m a → drop r b ≡ drop r a
+later {A} m r a b d e h = rw e (sym (drop-drop d m b) ∙ ap (λ (z : List A). drop d z) h ∙ drop-drop d m a)
 
 pub then : {A : Type 0} {k l n m r : ℕ} {x y a b c : List A} → Pushed k x n a m b → Pushed l y m b r c → Pushed (k + l) (x ++ y) n a r c
 then {A} {k} {l} {n} {m} {r} {x} {y} {a} {b} {c} p q =
     record {
       count = omega (arith, p .count, q .count, length-append x y);
       front = q .front ∙ ap (λ (z : List A). z ++ y) (p .front) ∙ append-assoc (take n a) x y;
+      rest = q .rest ∙ later m r a b (length y) (q .count) (p .rest);
       most = omega (arith, p .most, q .most);
     }
