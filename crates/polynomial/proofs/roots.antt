@@ -1,6 +1,6 @@
 -- What the proofs of the root finder share.
 mod Linear
-mod Kept
+pub mod Kept
 mod Events
 pub mod Cycle
 mod Scanned

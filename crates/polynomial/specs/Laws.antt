@@ -3,6 +3,7 @@
 -- Roots: `Halving` (a bisection ends inside its interval; more turns change nothing), `Degree` (any count as large as the number of coefficients gives the same roots),
 -- `Enclosed` (roots and partition points lie between the bounds and increase strictly; how many there are), `Bounds` (bounds that hold can be halved).
 -- Angles: `Wrapped` (a wrapped angle lies within P and is never -0.0).
+-- Curves: `Norm` (how many roots a squared norm has).
 pub mod Cuts
 pub mod Placed
 pub mod Held
@@ -12,3 +13,4 @@ pub mod Degree
 pub mod Enclosed
 pub mod Wrapped
 pub mod Bounds
+pub mod Norm

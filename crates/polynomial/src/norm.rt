@@ -1,7 +1,8 @@
 // Roots of x(angle)^2 + y(angle)^2 = norm^2, from src/singularity/j1j2free.rs.
 ghost use mathlib.Core.Path.{_≡_};
+ghost use mathlib.Core.List.{_++_};
 ghost use Prim.Native.Nat.{_+_, _≤_};
-ghost use lib.ListN.{length, take};
+ghost use lib.ListN.{length, take, drop};
 ghost use Rattle.polynomial.specs.Curve as Of;
 ghost use Rattle.polynomial.specs.Roots as Roots;
 ghost use Rattle.polynomial.specs.Norm.{inner-answer, squared-norm-answer, size, listed, put-all};
@@ -42,11 +43,11 @@ fn all_hold(p: [Compensated; 9], n: usize) -> bool
 }
 
 // An inner call of the root finder, for the first n coefficients; the roots stand in the first
-// places of out.
+// places of out. What stands behind them is left, and all of it where the call is refused.
 pub fn inner_roots(p: [Compensated; 9], n: usize, lower: f64, upper: f64, out: &mut [f64]) -> Inner
     requires { ⌜ (n ≤ 9) × (512 ≤ length (now out)) ⌝ }
     ensures { λ r. ⌜ r ≡ inner-answer (take n p) lower upper ⌝ }
-    ensures { λ r. ⌜ take (size r) (now (out .exit)) ≡ listed r (Roots.roots (take n p) lower upper) ⌝ }
+    ensures { λ r. ⌜ now (out .exit) ≡ listed r (Roots.roots (take n p) lower upper) ++ drop (size r) (now (out .entry)) ⌝ }
 {
     if !bounds_hold(lower, upper) {
         return Inner::Refused;
@@ -54,11 +55,7 @@ pub fn inner_roots(p: [Compensated; 9], n: usize, lower: f64, upper: f64, out: &
     if !all_hold(p, n) {
         return Inner::Refused;
     }
-    let count = roots(p, n, lower, upper, out);
-    if 509 < count {
-        return Inner::Refused;
-    }
-    Inner::Count(count)
+    Inner::Count(roots(p, n, lower, upper, out))
 }
 
 // The angles of the first `count` roots in the chart around the origin, put into the cuts in the
@@ -66,7 +63,7 @@ pub fn inner_roots(p: [Compensated; 9], n: usize, lower: f64, upper: f64, out: &
 fn chart(found: &[f64], count: usize, origin: f64, out: &mut [f64], k: usize) -> usize
     requires { ⌜ (count ≤ length (now found)) × (k + count ≤ length (now out)) ⌝ }
     ensures { λ r. ⌜ r ≡ length (put-all (Of.chart-angles origin (take count (now (found .entry)))) (take k (now (out .entry)))) ⌝ }
-    ensures { λ r. ⌜ take r (now (out .exit)) ≡ put-all (Of.chart-angles origin (take count (now (found .entry)))) (take k (now (out .entry))) ⌝ }
+    ensures { λ r. ⌜ now (out .exit) ≡ put-all (Of.chart-angles origin (take count (now (found .entry)))) (take k (now (out .entry))) ++ drop r (now (out .entry)) ⌝ }
 {
     let mut n = k;
     let mut i = 0;
@@ -78,11 +75,12 @@ fn chart(found: &[f64], count: usize, origin: f64, out: &mut [f64], k: usize) ->
     n
 }
 
-// The roots, sorted, each once, in the first places of out.
+// The roots, sorted, each once, in the first places of out. What stands behind them is left, and all
+// of it where an inner call is refused: both calls come before the first angle.
 pub fn squared_norm_roots(x: Harmonic, y: Harmonic, norm: f64, out: &mut [f64]) -> Inner
-    requires { ⌜ 1024 ≤ length (now out) ⌝ }
+    requires { ⌜ 58 ≤ length (now out) ⌝ }
     ensures { λ r. ⌜ r ≡ squared-norm-answer x y norm ⌝ }
-    ensures { λ r. ⌜ take (size r) (now (out .exit)) ≡ listed r (Of.squared-norm-roots x y norm) ⌝ }
+    ensures { λ r. ⌜ now (out .exit) ≡ listed r (Of.squared-norm-roots x y norm) ++ drop (size r) (now (out .entry)) ⌝ }
 {
     let mut found = [0.0; 512];
     let left = middle(-3.141592653589793, 0.0);
@@ -90,11 +88,12 @@ pub fn squared_norm_roots(x: Harmonic, y: Harmonic, norm: f64, out: &mut [f64]) 
     let Inner::Count(n) = first else {
         return Inner::Refused;
     };
-    let k = chart(&found, n, left, out, 0);
+    let mut other = [0.0; 512];
     let right = middle(0.0, 3.141592653589793);
-    let second = inner_roots(norm_polynomial(x, y, norm, right), 5, -1.0, 1.0, &mut found);
+    let second = inner_roots(norm_polynomial(x, y, norm, right), 5, -1.0, 1.0, &mut other);
     let Inner::Count(m) = second else {
         return Inner::Refused;
     };
-    Inner::Count(chart(&found, m, right, out, k))
+    let k = chart(&found, n, left, out, 0);
+    Inner::Count(chart(&other, m, right, out, k))
 }

@@ -129,7 +129,7 @@ fn cross(p: [Compensated; 9], n: usize, at: Interval, out: &mut [f64], k: usize)
 fn scan(p: [Compensated; 9], n: usize, points: &[f64], count: usize, out: &mut [f64]) -> usize
     requires { ⌜ (n ≤ 9) × (0 < count) × (count ≤ length (now points)) × (count + count ≤ length (now out)) × Ready (take count (now points)) ⌝ }
     ensures { λ r. ⌜ r ≡ length (cuts (Roots.touches (take n p) (take count (now (points .entry))) ++ Roots.crossings (take n p) (take count (now (points .entry))))) ⌝ }
-    ensures { λ r. ⌜ take r (now (out .exit)) ≡ cuts (Roots.touches (take n p) (take count (now (points .entry))) ++ Roots.crossings (take n p) (take count (now (points .entry)))) ⌝ }
+    ensures { λ r. ⌜ now (out .exit) ≡ cuts (Roots.touches (take n p) (take count (now (points .entry))) ++ Roots.crossings (take n p) (take count (now (points .entry)))) ++ drop r (now (out .entry)) ⌝ }
 {
     let mut lo = points[0];
     let mut u = evaluate(p, n, lo);
@@ -147,10 +147,10 @@ fn scan(p: [Compensated; 9], n: usize, points: &[f64], count: usize, out: &mut [
     k
 }
 
-// The roots of the first n coefficients, in the first places of out.
+// The roots of the first n coefficients, in the first places of out. What stands behind them is left.
 pub fn roots(p: [Compensated; 9], n: usize, lower: f64, upper: f64, out: &mut [f64]) -> usize
     requires { ⌜ (n ≤ 9) × (2 ^ n ≤ length (now out)) × Span 2 lower upper ⌝ }
-    ensures { λ r. ⌜ (r ≡ length (Roots.roots-at n (take n p) lower upper)) × (take r (now (out .exit)) ≡ Roots.roots-at n (take n p) lower upper) ⌝ }
+    ensures { λ r. ⌜ (r ≡ length (Roots.roots-at n (take n p) lower upper)) × (now (out .exit) ≡ Roots.roots-at n (take n p) lower upper ++ drop r (now (out .entry))) ⌝ }
 {
     let m = trimmed(p, n);
     if m < 2 {
@@ -170,7 +170,7 @@ pub fn roots(p: [Compensated; 9], n: usize, lower: f64, upper: f64, out: &mut [f
 }
 
 // The bounds with the derivative's roots between them, sorted, each once, in the first places of
-// points.
+// points. What stands behind them is left.
 pub fn partitions(
     p: [Compensated; 9],
     n: usize,
@@ -179,7 +179,7 @@ pub fn partitions(
     points: &mut [f64],
 ) -> usize
     requires { ⌜ (2 < n) × (n ≤ 9) × (2 ^ n ≤ length (now points)) × Span 2 lower upper ⌝ }
-    ensures { λ r. ⌜ (r ≡ length (Roots.partitions lower upper (Roots.roots-at (n - 1) (Of.derivative (take n p)) lower upper))) × (take r (now (points .exit)) ≡ Roots.partitions lower upper (Roots.roots-at (n - 1) (Of.derivative (take n p)) lower upper)) ⌝ }
+    ensures { λ r. ⌜ (r ≡ length (Roots.partitions lower upper (Roots.roots-at (n - 1) (Of.derivative (take n p)) lower upper))) × (now (points .exit) ≡ Roots.partitions lower upper (Roots.roots-at (n - 1) (Of.derivative (take n p)) lower upper) ++ drop r (now (points .entry))) ⌝ }
 {
     let d = derivative(p, n);
     let k = roots(d, n - 1, lower, upper, points);

@@ -1,20 +1,17 @@
 -- The operation's number is at most 2 ^ 9 - 3 in magnitude, since there are at most nine coefficients. Assumes nothing.
-use Prim.Native.Nat.{ℕ, _+_, _%_, _^_, _≤_, zero-le}
+use Prim.Native.Nat.{ℕ, _+_, _%_, _≤_, zero-le}
 use native.Mathlib.Omega.{arith}
 use mathlib.Core.Path.{_≡_, refl}
 use mathlib.Core.Bool.{Bool, true, false, _||_}
 use mathlib.Core.List.{List, [], _∷_}
 use lib.IntN.{natAbs}
-use lib.Pow.{pow-mono}
 use lib.Dec.{ltb, leb, eqb, lit≤}
 use lib.ListN.{length}
 use lib.Ieee.{Float}
 use borrow.Author.Tests.{ltb-false}
-use Rattle.polynomial.specs.Polynomial.{trim}
 use Rattle.polynomial.specs.Roots.{roots}
 use Rattle.polynomial.specs.Operation.{pairs, bad-length, bounds-hold, parts-hold, pick, number, answer}
-use Rattle.polynomial.specs.Laws.Degree.{trim-short}
-use Rattle.polynomial.specs.Laws.Enclosed.{all-few}
+use Rattle.polynomial.specs.Laws.Enclosed.{all-most}
 use Rattle.polynomial.specs.declared.operation.Answer.{Answer}
 use Rattle.polynomial.specs.declared.operation.Answer.the-variants.{Count, BadLength, BadBounds, BadPart, ShortResult}
 
@@ -40,11 +37,7 @@ module _ (s : List Float) (lower upper : Float) (room : ℕ) where
   few-roots h =
       let l = ltb-false 18 (length s) (or-false (eqb (length s % 2) 1) (ltb 18 (length s)) h) in
       let k = pairs-short s in
-      let t = trim-short (pairs s) in
-      let n = length (trim (pairs s)) in
-      let w : 2 ^ n ≤ 2 ^ 9 = pow-mono {i = n} {j = 9} (omega arith) in
-      let f = all-few lower upper (pairs s) in
-      omega arith
+      all-most lower upper 9 (pairs s) (omega arith)
 
   pub answer-few : Few (answer s lower upper room)
   unfolding answer

@@ -1,12 +1,11 @@
--- What the cycle of `roots` and `partitions` rests on beside the laws of its definitions: the lists that stand at the front of the lent places, and that there is room. Assumes nothing.
+-- What the cycle of `roots` and `partitions` rests on beside the laws of its definitions: the lists that stand at the front of the lent places, what stands behind them, and that there is room. Assumes nothing.
 use Prim.Native.Nat.{ℕ, zero, suc, _+_, _-_, _*_, _^_, _≤_, _<_, zero-le, suc-le-suc}
-use native.Mathlib.Nat.{le-of-suc-le-suc, pow-suc, not-suc-le-zero}
+use native.Mathlib.Nat.{le-refl, le-trans, le-of-suc-le-suc, pow-suc, not-suc-le-zero}
 use native.Mathlib.Omega.{arith}
 use mathlib.Core.Path.{_≡_, ap, sym, _∙_}
-use mathlib.Core.List.{List, [], _∷_, _++_}
+use mathlib.Core.List.{List, [], _∷_}
 use lib.Pow.{pow-mono}
-use lib.ListN.{length, getD, take, drop}
-use lib.Seq.{take-at}
+use lib.ListN.{length, getD, take}
 use lib.Ieee.{Float}
 use Rattle.float.specs.Laws.Middle.{Span}
 use Rattle.polynomial.specs.Cuts.{put}
@@ -16,15 +15,7 @@ use Rattle.polynomial.specs.declared.compensated.Compensated.{Compensate
 use Rattle.polynomial.specs.Laws.Cuts.{put-most}
 use Rattle.polynomial.specs.Laws.Degree.{derivative-length}
 use Rattle.polynomial.specs.Laws.Enclosed.{roots-in, roots-strict, roots-most, points-put, points-short}
-
--- ---- what stands at the front
-
-pub front : (l last rest : List Float) (r : ℕ) → r ≡ length l → last ≡ l ++ rest → take r last ≡ l
-front l last rest r n e = ap (take r) e ∙ take-at l rest r (sym n)
-
--- the two clauses of a result, for an equal list
-pub said : (A B : List Float) (r : ℕ) (last : List Float) → A ≡ B → r ≡ length B → take r last ≡ B → (r ≡ length A) × (take r last ≡ A)
-said A B r last e n p = (n ∙ ap length (sym e), p ∙ sym e)
+use Rattle.polynomial.proofs.roots.Kept.{Front, front-of, front-take, front-rest, put-least}
 
 -- a line's two coefficients, by the array that holds them
 pub line-of : (P : List Compensated) (m : ℕ) (d : Compensated) (lower upper : Float) → m ≡ 2 → 2 ≤ length P
@@ -34,18 +25,20 @@ line-of (a ∷ []) m d lower upper e h = absurd (not-suc-le-zero (le-of-suc-le-s
 line-of (a ∷ (b ∷ l)) m d lower upper e h =
     ap (λ (j : ℕ). quotient (getD (take j (a ∷ (b ∷ l))) 0 nothing) (getD (take j (a ∷ (b ∷ l))) 1 nothing) lower upper) e
 
--- ---- what `partitions` leaves: the derivative's roots stand at the front of A; with the lower bound, at that of B; with both, at that of D
+-- ---- what `partitions` leaves: the derivative's roots stand at the front of A, where W was; with the lower bound, at that of B; with both, at that of D
 
 module _ (k : ℕ) (p : List Compensated) (lower upper : Float) (s : Span 2 lower upper) (A B D : List Float) (c b d : ℕ) where
   abbrev R : List Float
   R = roots-at k p lower upper
 
-  pub bounded : take c A ≡ R → b ≡ length (put lower (take c A)) → B ≡ put lower (take c A) ++ drop b A → d ≡ length (put upper (take b B)) → D ≡ put upper (take b B) ++ drop d B
-      → (d ≡ length (partitions lower upper R)) × (take d D ≡ partitions lower upper R)
-  bounded e n x m y =
-      let f : put upper (take b B) ≡ partitions lower upper R =
-      ap (put upper) (front (put lower (take c A)) B (drop b A) b n x ∙ ap (put lower) e) ∙ points-put lower upper s R (roots-in lower upper s k p) (roots-strict lower upper k p) in
-      said (partitions lower upper R) (put upper (take b B)) d D (sym f) m (front (put upper (take b B)) D (drop d B) d m y)
+  pub bounded : (W : List Float) → Front R W c A → Front (put lower (take c A)) A b B → Front (put upper (take b B)) B d D → c ≤ length A → b ≤ length B → Front (partitions lower upper R) W d D
+  bounded W f g h C L =
+      let e : put upper (take b B) ≡ partitions lower upper R =
+      ap (put upper) (front-take (put lower (take c A)) A B b g ∙ ap (put lower) (front-take R W A c f)) ∙ points-put lower upper s R (roots-in lower upper s k p) (roots-strict lower upper k p) in
+      let m = put-least lower A c b C (g .0) in
+      let n = put-least upper B b d L (h .0) in
+      front-of (partitions lower upper R) W D d (h .0 ∙ ap length e) (front-take (put upper (take b B)) B D d h ∙ e)
+      (front-rest (put upper (take b B)) B D d h d (le-refl d) ∙ front-rest (put lower (take c A)) A B b g d n ∙ front-rest R W A c f d (le-trans m n))
 
 -- ---- there is room
 

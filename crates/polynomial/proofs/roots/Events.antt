@@ -13,7 +13,7 @@ use Rattle.polynomial.specs.Cuts.{cuts, put}
 use Rattle.polynomial.specs.Polynomial.{evaluate, near-zero}
 use Rattle.polynomial.specs.Roots.{touches, crosses, crossing, crossings, bisected}
 use Rattle.polynomial.specs.Inside.{Ready, crossed}
-use Rattle.polynomial.specs.Laws.Cuts.{Fit, cuts-cons, cuts-perm, perm-comm, fit-append, put-most}
+use Rattle.polynomial.specs.Laws.Cuts.{Fit, cuts-cons, cuts-perm, perm-comm, fit-append, put-most, put-longer}
 use Rattle.polynomial.specs.Laws.Halving.{bisected-in}
 use Rattle.polynomial.specs.declared.compensated.Compensated.{Compensated}
 use Rattle.polynomial.specs.declared.roots.Interval.{Interval}
@@ -58,6 +58,16 @@ most false x l = omega arith
 
 pub touched-most : (p : List Compensated) (x : Float) (l : List Float) → length (touched p x l) ≤ suc (length l)
 touched-most p x l = most (near-zero p x) x l
+
+least : (b : Bool) (x : Float) (l : List Float) → length l ≤ length (cond b (put x l) l)
+least true x l = put-longer x l
+least false x l = omega arith
+
+pub touched-least : (p : List Compensated) (x : Float) (l : List Float) → length l ≤ length (touched p x l)
+touched-least p x l = least (near-zero p x) x l
+
+pub crossed-least : (f : Float → Float) (at : Interval) (l : List Float) → length l ≤ length (crossed f at l)
+crossed-least f at l = least (crosses (at .u) (at .v)) _ l
 
 pub crossed-most : (f : Float → Float) (at : Interval) (l : List Float) → length (crossed f at l) ≤ suc (length l)
 crossed-most f at l = most (crosses (at .u) (at .v)) _ l

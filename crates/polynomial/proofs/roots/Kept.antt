@@ -1,11 +1,12 @@
--- What stands in the first places of a slice after one more value was put there, or was not. Assumes nothing.
+-- What stands in a slice whose first places hold a list, and after one more value was put there, or was not. Assumes nothing.
 use Prim.Native.Nat.{ℕ, _<_, _≤_}
 use native.Mathlib.Omega.{arith}
-use mathlib.Core.Path.{_≡_, sym, ap, subst, _∙_}
+use mathlib.Core.Path.{_≡_, sym, ap, ap₂, subst, _∙_}
 use mathlib.Core.Bool.{Bool, true, false, not, cond}
 use mathlib.Core.List.{List, _++_}
 use lib.Dec.{leb}
-use lib.ListN.{length, take, drop, length-take, take-append-drop}
+use lib.ListN.{length, take, drop, length-take, length-append, length-drop, take-append-drop}
+use lib.Seq.{length-take-le, take-at}
 use lib.Ieee.{Float}
 use borrow.Author.Tests.{le-leb}
 use Rattle.float.specs.Number.{negative}
@@ -13,7 +14,8 @@ use Rattle.polynomial.specs.Cuts.{put}
 use Rattle.polynomial.specs.Roots.{crosses, bisected}
 use Rattle.polynomial.specs.Inside.{crossed}
 use Rattle.polynomial.specs.Insert.{grown, putAnswer, putRoom}
-use Rattle.polynomial.specs.Laws.Cuts.{put-most}
+use Rattle.polynomial.specs.Laws.Cuts.{put-most, put-longer}
+use Rattle.polynomial.specs.Laws.Held.{drop-past}
 use Rattle.polynomial.specs.declared.roots.Interval.{Interval}
 use Rattle.polynomial.specs.declared.cuts.Put.{Put}
 use Rattle.polynomial.specs.declared.cuts.Put.the-variants.{Count, Full}
@@ -21,6 +23,33 @@ use Rattle.polynomial.specs.declared.cuts.Put.the-variants.{Count, Full}
 -- r values of l, and behind them what stood there
 abbrev pub Front : List Float → List Float → ℕ → List Float → Type 0
 Front l w r after = (r ≡ length l) × (after ≡ l ++ drop r w)
+
+pub front-of : (l w after : List Float) (r : ℕ) → r ≡ length l → take r after ≡ l → drop r after ≡ drop r w → Front l w r after
+front-of l w after r n t d = (n, sym (take-append-drop r after) ∙ ap₂ _++_ t d)
+
+module _ (l w after : List Float) (r : ℕ) (f : Front l w r after) where
+  pub front-take : take r after ≡ l
+  front-take = ap (take r) (f .1) ∙ take-at l (drop r w) r (sym (f .0))
+
+  pub front-rest : (m : ℕ) → r ≤ m → drop m after ≡ drop m w
+  front-rest m h = ap (drop m) (f .1) ∙ drop-past l w r m (sym (f .0)) h
+
+  pub front-length : r ≤ length w → length after ≡ length w
+  front-length h =
+      let a = length-append l (drop r w) in
+      let d = length-drop r w in
+      let e = ap length (f .1) in
+      let n = f .0 in
+      omega arith
+
+  pub front-same : (k : List Float) → k ≡ l → Front k w r after
+  front-same k e = subst (λ (x : List Float). Front x w r after) (sym e) f
+
+-- ---- one more value, or none
+
+-- the list does not get shorter
+pub put-least : (v : Float) (w : List Float) (k r : ℕ) → k ≤ length w → r ≡ length (put v (take k w)) → k ≤ r
+put-least v w k r h e = let a = put-longer v (take k w) in let t = length-take-le k w h in omega arith
 
 module _ (w : List Float) (k : ℕ) (v : Float) (h : k < length w) where
   room : leb (length (grown w k v)) (length w) ≡ true
@@ -39,7 +68,7 @@ module _ (w : List Float) (k : ℕ) (v : Float) (h : k < length w) where
       omega arith
 
 pub same : (w : List Float) (k : ℕ) → k ≤ length w → Front (take k w) w k w
-same w k h = (let t = length-take k w in omega arith, sym (take-append-drop k w))
+same w k h = (sym (length-take-le k w h), sym (take-append-drop k w))
 
 -- by a test, l or what stood in the first k places
 pub taken : (w after : List Float) (b : Bool) (k r : ℕ) (l : List Float) → b ≡ true → Front l w r after → Front (cond b l (take k w)) w r after

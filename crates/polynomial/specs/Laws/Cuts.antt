@@ -26,6 +26,10 @@ abbrev pub Sorted : List Float → Type 0
 Sorted [] = Unit {0}
 Sorted (x ∷ l) = From x l
 
+pub from-sorted : (p : Float) (l : List Float) → From p l → Sorted l
+from-sorted p [] f = tt
+from-sorted p (y ∷ l) f = f .1
+
 pub from-lower : (q p : Float) (l : List Float) → T (total-le q p) → From p l → From q l
 from-lower q p [] h f = tt
 from-lower q p (y ∷ l) h f = (total-le-trans q p y h (f .0), f .1)
@@ -62,11 +66,7 @@ ins-first x (y ∷ l) f = rw (is-true (total-le x y) (f .0))
 pub sort-sorted : (l : List Float) → Sorted l → sort l ≡ l
 unfolding sort
 sort-sorted [] f = refl
-sort-sorted (x ∷ l) f = ap (ins x) (sort-sorted l (tail x l f)) ∙ ins-first x l f
-  where
-    tail : (x : Float) (l : List Float) → From x l → Sorted l
-    tail x [] f = tt
-    tail x (y ∷ l) f = f .1
+sort-sorted (x ∷ l) f = ap (ins x) (sort-sorted l (from-sorted x l f)) ∙ ins-first x l f
 
 -- ---- one more value
 

@@ -74,13 +74,14 @@ Rising [] = Unit {0}
 Rising (a ∷ []) = Unit {0}
 Rising (a ∷ (b ∷ l)) = T (lt a b) × Rising (b ∷ l)
 
-number : (x : Float) → T (finite x) → T (not (isNan x))
+pub number : (x : Float) → T (finite x) → T (not (isNan x))
 unfolding isNan
 number nan p = p
 number (inf s) p = tt
 number (fin s m e) p = tt
 
-less : (a b : Float) → T (finite b) → T (total-le a b) → eq b a ≡ false → T (lt a b)
+-- neighbours in a strict list, where the later one is finite
+pub less : (a b : Float) → T (finite b) → T (total-le a b) → eq b a ≡ false → T (lt a b)
 less a b p t e = go (lt a b) (isNan b) (number b p) (subst T (total-le-unequal a b (lt a b) (eq-comm a b ∙ e) refl) t)
   where
     go : (l n : Bool) → T (not n) → T (l || n) → T l
@@ -338,6 +339,14 @@ module _ (lower upper : Float) where
 pub all-few : (lower upper : Float) (p : List Compensated) → length (roots p lower upper) ≤ 2 ^ length (trim p) - 3
 unfolding roots
 all-few lower upper p = roots-few lower upper (length p) p (le-refl (length p))
+
+-- by a number of coefficients that is large enough
+pub all-most : (lower upper : Float) (n : ℕ) (p : List Compensated) → length p ≤ n → length (roots p lower upper) ≤ 2 ^ n - 3
+all-most lower upper n p h =
+    let f = all-few lower upper p in
+    let t = trim-short p in
+    let w : 2 ^ length (trim p) ≤ 2 ^ n = pow-mono (le-trans t h) in
+    omega arith
 
 module _ (lower upper : Float) (s : Span 2 lower upper) (p : List Compensated) where
   pub all-in : All (Between lower upper) (roots p lower upper)

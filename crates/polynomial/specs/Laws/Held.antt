@@ -34,7 +34,8 @@ fit-of (x ∷ l) h = (h zero (zero-lt-suc (length l)), fit-of l (λ k b. h (suc 
 pub held-none : (r : List Float) → Held [] r r 0
 held-none r = record { count = unfold cuts in refl; within = omega arith; list = unfold cuts in refl }
 
-drop-past : (a r : List Float) (k m : ℕ) → length a ≡ k → k ≤ m → drop m (a ++ drop k r) ≡ drop m r
+-- behind a list at the front, what stood there
+pub drop-past : (a r : List Float) (k m : ℕ) → length a ≡ k → k ≤ m → drop m (a ++ drop k r) ≡ drop m r
 drop-past a r k m e h =
     let i : length a + (m - k) ≡ m = omega arith in
     let j : k + (m - k) ≡ m = omega arith in

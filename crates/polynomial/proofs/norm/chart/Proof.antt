@@ -1,6 +1,6 @@
 -- `polynomial::norm::chart` meets its contract. The invariant is `Charted`; the measure is what is left of the roots.
 use Prim.Native.Nat.{_-_}
-use lib.ListN.{length, take}
+use lib.ListN.{take}
 use borrow.Author.Needs.{needs}
 use Rattle.polynomial.specs.Curve.{chart-angles}
 use Rattle.polynomial.specs.Norm.{put-all}
@@ -10,7 +10,7 @@ use Rattle.polynomial.proofs.norm.chart.Statement.{statement}
 use Rattle.polynomial.proofs.norm.chart.Tie as tie
 
 abbrev Inv-loop : tie.InvT-loop
-Inv-loop found count origin out₀ k n₀ i₀ out n i = Charted origin found count (put-all (chart-angles origin (take count found)) (take k out₀)) (length out₀) k out n i
+Inv-loop found count origin out₀ k n₀ i₀ out n i = Charted origin found count (put-all (chart-angles origin (take count found)) (take k out₀)) out₀ k out n i
 
 abbrev μ-loop : tie.MeasureT-loop
 μ-loop found count origin out₀ k n₀ i₀ out n i = count - i

@@ -1,15 +1,17 @@
 -- `polynomial::norm::inner_roots` meets its contract.
 use Prim.Native.Nat.{_^_, _≤_}
+use native.Mathlib.Nat.{le-trans}
 use native.Mathlib.Omega.{arith}
-use mathlib.Core.Path.{sym, ap, _∙_}
+use mathlib.Core.Path.{sym, _∙_}
 use lib.Pow.{pow-mono}
-use lib.ListN.{length, take}
+use lib.ListN.{take}
 use borrow.Author.Needs.{needs}
 use borrow.Author.Tests.{not-true, not-false}
 use Rattle.polynomial.specs.Laws.Degree.{roots-enough}
-use Rattle.polynomial.proofs.roots.Cycle.{take-short}
-use Rattle.polynomial.proofs.norm.Bounded.{bad-bounds, bad-parts, too-many, counted}
 use Rattle.polynomial.specs.Laws.Bounds.{bounds-span}
+use Rattle.polynomial.proofs.roots.Cycle.{take-short}
+use Rattle.polynomial.proofs.roots.Kept.{front-same}
+use Rattle.polynomial.proofs.norm.Bounded.{bad-bounds, bad-parts, counted}
 use Rattle.polynomial.proofs.norm.inner_roots.Statement.{statement}
 use Rattle.polynomial.proofs.norm.inner_roots.Tie as tie
 
@@ -47,28 +49,17 @@ same-length c = search needs
 
 returns-3 : tie.Need-returns-3
 returns-3 c =
-    let r = c .before .before .before in
+    let r = c .before .before in
     let j = r .before .before in
     let h = j .before in
     let i = h .before in
     let b = i .before in
-    let a = b .before .before .args in
-    let e = roots-enough (a .lower) (a .upper) (a .n) (take (a .n) (a .p)) (take-short (a .n) (a .p)) in
-    too-many (take (a .n) (a .p)) (a .lower) (a .upper) (a .out .now) (r .roots .result) (sym (b .bounds-hold .ensures) ∙ not-false _ (i .if1 .left)) (sym (h .all-hold .ensures) ∙ not-false _ (j .if2 .left)) (r .roots .ensures .0 ∙ ap length e) (c .if3 .taken)
-
-same-length-2 : tie.Need-same-length-2
-same-length-2 c = search needs
-
-returns-4 : tie.Need-returns-4
-returns-4 c =
-    let r = c .before .before .before in
-    let j = r .before .before in
-    let h = j .before in
-    let i = h .before in
-    let b = i .before in
-    let a = b .before .before .args in
-    let e = roots-enough (a .lower) (a .upper) (a .n) (take (a .n) (a .p)) (take-short (a .n) (a .p)) in
-    counted (take (a .n) (a .p)) (a .lower) (a .upper) _ (r .roots .result) (sym (b .bounds-hold .ensures) ∙ not-false _ (i .if1 .left)) (sym (h .all-hold .ensures) ∙ not-false _ (j .if2 .left)) (r .roots .ensures .0 ∙ ap length e) (c .if3 .left) (r .roots .ensures .1 ∙ e)
+    let s = b .before .before in
+    let a = s .args in
+    let t = take-short (a .n) (a .p) in
+    let e = roots-enough (a .lower) (a .upper) (a .n) (take (a .n) (a .p)) t in
+    counted (take (a .n) (a .p)) (a .lower) (a .upper) (a .out .now) (r .roots .result) _ (le-trans t (s .pre .0)) (sym (b .bounds-hold .ensures) ∙ not-false _ (i .if1 .left)) (sym (h .all-hold .ensures) ∙ not-false _ (j .if2 .left))
+    (front-same _ _ _ _ (r .roots .ensures) _ (sym e))
 
 pub inner-roots-spec : {M : Type 1} → statement M
 inner-roots-spec =
@@ -80,6 +71,4 @@ inner-roots-spec =
     returns-2
     roots-requires
     same-length
-    returns-3
-    same-length-2
-    returns-4)
+    returns-3)

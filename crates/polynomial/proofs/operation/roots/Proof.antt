@@ -16,6 +16,7 @@ use Rattle.polynomial.specs.Laws.Bounds.{bounds-span}
 use Rattle.polynomial.specs.Laws.Degree.{roots-enough}
 use Rattle.polynomial.specs.Laws.Enclosed.{roots-most}
 use Rattle.polynomial.specs.Roots as Roots
+use Rattle.polynomial.proofs.roots.Kept.{front-take}
 use Rattle.polynomial.proofs.operation.Answers.{odd-length, too-long, bad-bounds, bad-part, short-result, counted}
 use Rattle.polynomial.proofs.operation.roots.Statement.{statement}
 use Rattle.polynomial.proofs.operation.roots.Tie as tie
@@ -148,7 +149,7 @@ returns-6 c =
     let r = x .before .before in
     let u = r .before .before .before in (
       counted (s u) (lower u) (upper u) (length (places u)) (even u) (short u) (ok-bounds u) (ok-parts u) (r .roots .result) (count r) (x .if5 .left),
-      y .copy .ensures ∙ ap (λ (l : List Float). l ++ drop (r .roots .result) (places u)) (r .roots .ensures .1 ∙ all r),
+      y .copy .ensures ∙ ap (λ (l : List Float). l ++ drop (r .roots .result) (places u)) (front-take _ _ _ _ (r .roots .ensures) ∙ all r),
     )
 
 pub roots-spec : {M : Type 1} → statement M

@@ -21,7 +21,8 @@ use Rattle.polynomial.specs.declared.compensated.Compensated.{Compensate
 use Rattle.polynomial.specs.Laws.Degree.{counted, counted-short, found, none-left, two-left, more-left}
 use Rattle.polynomial.specs.Laws.Enclosed.{roots-in, points-ready, points-some}
 use Rattle.polynomial.specs.Roots as Of
-use Rattle.polynomial.proofs.roots.Cycle.{front, said, line-of, bounded, put-room, inner-room, points-room}
+use Rattle.polynomial.proofs.roots.Kept.{Front, front-same, front-take}
+use Rattle.polynomial.proofs.roots.Cycle.{line-of, bounded, put-room, inner-room, points-room}
 use Rattle.polynomial.proofs.roots.+partitions+roots.{statement}
 use Rattle.polynomial.proofs.roots.+partitions+roots.Tie.{close}
 use Rattle.polynomial.proofs.roots.partitions.Reads as partitions
@@ -94,7 +95,7 @@ module _ (t : ℕ) where
   Roots c = let a = c .before .before .before .before .args in Of.roots-at (a .n - 1) (derivative (take (a .n) (a .p))) (a .lower) (a .upper)
 
   called : (c : partitions-lts.After-roots (inner t) (partitions-at t) partitions.Post)
-      → (c .roots .result ≡ length (Roots c)) × (take (c .roots .result) (c .roots .last .1 .1 .1 .1 .0) ≡ Roots c) × (c .roots .result + 2 ≤ length (c .roots .last .1 .1 .1 .1 .0))
+      → Front (Roots c) (now (c .before .before .before .before .args .points)) (c .roots .result) (c .roots .last .1 .1 .1 .1 .0) × (c .roots .result + 2 ≤ length (c .roots .last .1 .1 .1 .1 .0))
   called c =
       let s = c .before .before .before .before in
       let a = s .args in
@@ -102,17 +103,17 @@ module _ (t : ℕ) where
       let n = c .roots .ensures .0 ∙ ap length e in
       let l = c .roots .kept .1 .1 .1 .1 .0 in
       let r = inner-room (a .n) (a .p) (a .lower) (a .upper) (s .pre .1 .0) (length (now (a .points))) (c .roots .result) (s .pre .1 .2) n in
-      (n, c .roots .ensures .1 ∙ e, omega arith)
+      (front-same _ _ _ _ (c .roots .ensures) (Roots c) (sym e), omega arith)
 
   partitions-keep-requires : partitions-lts.Need-keep-requires (inner t) (partitions-at t) partitions.Post
-  partitions-keep-requires c κs = let r = called (c .before .before .before) .2 in omega arith
+  partitions-keep-requires c κs = let r = called (c .before .before .before) .1 in omega arith
 
   partitions-keep-requires-2 : partitions-lts.Need-keep-requires-2 (inner t) (partitions-at t) partitions.Post
   partitions-keep-requires-2 c κs =
       let k = c .before .before .before in
       let r = k .before .before .before .before in
       let a = r .before .before .before .before .args in
-      let m = called r .2 in
+      let m = called r .1 in
       let l = k .keep .kept .0 in
       let b = put-room (a .lower) (r .roots .result) (r .roots .last .1 .1 .1 .1 .0) (k .keep .result) (k .keep .ensures .0) in
       omega arith
@@ -127,8 +128,11 @@ module _ (t : ℕ) where
       let r = k .before .before .before .before in
       let s = r .before .before .before .before in
       let a = s .args in
+      let m = called r .1 in
+      let l = k .keep .kept .0 in
+      let b = put-room (a .lower) (r .roots .result) (r .roots .last .1 .1 .1 .1 .0) (k .keep .result) (k .keep .ensures .0) in
       bounded (a .n - 1) (derivative (take (a .n) (a .p))) (a .lower) (a .upper) (s .pre .1 .3) (r .roots .last .1 .1 .1 .1 .0) (k .keep .last .0) (d .keep2 .last .0) (r .roots .result) (k .keep .result) (d .keep2 .result)
-      (called r .1) (k .keep .ensures .0) (k .keep .ensures .1) (d .keep2 .ensures .0) (d .keep2 .ensures .1)
+      (now (a .points)) (called r .0) (k .keep .ensures) (d .keep2 .ensures) (omega arith) (omega arith)
 
   -- ---- roots
 
@@ -158,7 +162,7 @@ module _ (t : ℕ) where
       let m = c .before in
       let k = counted-short (Q m) in
       let l = size m .0 in
-      said _ [] 0 (now (m .before .before .args .out)) (none m (omega arith)) refl refl
+      front-same [] _ (now (m .before .before .args .out)) 0 (refl, refl) _ (none m (omega arith))
 
   roots-all-finite-requires : roots-lts.Need-all-finite-requires (outer t) (roots-at t) roots.Post
   roots-all-finite-requires c κs = search needs
@@ -167,7 +171,7 @@ module _ (t : ℕ) where
   roots-returns-2 c =
       let m = c .before .before .before in
       let e : counted (Q m) ≡ 0 = ap (λ (b : Bool). cond b (length (Q m)) 0) (sym (c .before .all-finite .ensures) ∙ not-true _ (c .if2 .taken)) in
-      said _ [] 0 (now (m .before .before .args .out)) (none m (omega arith)) refl refl
+      front-same [] _ (now (m .before .before .args .out)) 0 (refl, refl) _ (none m (omega arith))
 
   -- past the test of finite parts, each coefficient counts
   counts : (c : roots-lts.Else2 (outer t) (roots-at t) roots.Post) → counted (Q (c .before .before .before)) ≡ c .before .before .before .trimmed .result
@@ -195,7 +199,7 @@ module _ (t : ℕ) where
       let a = m .before .before .args in
       let nine : length (a .t1) ≡ 9 = search needs in
       let e = two-left (a .n) (m .trimmed .result) (take (a .n) (a .t1)) (Q m) (a .lower) (a .upper) (m .trimmed .ensures .1) (counts (i .before)) (size m .1) (i .if3 .taken) in
-      said _ _ (z .quotient .result) (z .quotient .last .1 .1 .1 .1 .0) (e ∙ line-of (a .t1) (m .trimmed .result) _ (a .lower) (a .upper) (i .if3 .taken) (omega arith)) (z .quotient .ensures .0) (front _ _ _ _ (z .quotient .ensures .0) (z .quotient .ensures .1))
+      front-same _ _ _ _ (z .quotient .ensures) _ (e ∙ line-of (a .t1) (m .trimmed .result) _ (a .lower) (a .upper) (i .if3 .taken) (omega arith))
 
   roots-slice-aggregate-partitions : roots-lts.Need-slice-aggregate-partitions (outer t) (roots-at t) roots.Post
   roots-slice-aggregate-partitions c = search needs
@@ -231,7 +235,7 @@ module _ (t : ℕ) where
         omega arith,
         omega arith,
         omega arith,
-        subst Ready (sym (q .partitions .ensures .1)) (points-ready (a .lower) (a .upper) (s .pre .1 .2) R (roots-in (a .lower) (a .upper) (s .pre .1 .2) (m .trimmed .result - 1) (derivative (Q m)))),
+        subst Ready (sym (front-take (Of.partitions (a .lower) (a .upper) R) _ _ _ (q .partitions .ensures))) (points-ready (a .lower) (a .upper) (s .pre .1 .2) R (roots-in (a .lower) (a .upper) (s .pre .1 .2) (m .trimmed .result - 1) (derivative (Q m)))),
       )
 
   roots-same-length-2 : roots-lts.Need-same-length-2 (outer t) (roots-at t) roots.Post
@@ -245,7 +249,7 @@ module _ (t : ℕ) where
       let m = w .before .before .before .before in
       let a = m .before .before .args in
       let e = more-left (a .n) (m .trimmed .result) (take (a .n) (a .t1)) (Q m) (a .lower) (a .upper) (m .trimmed .ensures .1) (counts (w .before)) (size m .1) (size m .0) (three w) in
-      said _ _ (x .scan .result) (x .scan .last .1 .1 .1 .1 .0) (e ∙ ap (λ (l : List Float). found (Q m) l) (sym (q .partitions .ensures .1))) (x .scan .ensures .0) (x .scan .ensures .1)
+      front-same _ _ _ _ (x .scan .ensures) _ (e ∙ ap (λ (l : List Float). found (Q m) l) (sym (front-take _ _ _ _ (q .partitions .ensures))))
 
 pub +partitions+roots-spec : {M : Type 1} → statement M
 +partitions+roots-spec = close μ-partitions μ-roots (λ t. partitions-lts.spec (inner t)

@@ -1,13 +1,13 @@
 -- `polynomial::roots::scan` meets its contract. The invariant is `Scanned`; the measure is what is left of the points.
 use Prim.Native.Nat.{_-_}
-use lib.ListN.{length, take}
+use lib.ListN.{take}
 use borrow.Author.Needs.{needs}
 use Rattle.polynomial.proofs.roots.Scanned.{Scanned, scan-first, span, cross-room, scan-more, scan-last}
 use Rattle.polynomial.proofs.roots.scan.Statement.{statement}
 use Rattle.polynomial.proofs.roots.scan.Tie as tie
 
 abbrev Inv-loop : tie.InvT-loop
-Inv-loop p n points count out₀ lo₀ u₀ k₀ i₀ out lo u k i = Scanned (take n p) points count (length out₀) out lo u k i
+Inv-loop p n points count out₀ lo₀ u₀ k₀ i₀ out lo u k i = Scanned (take n p) points count out₀ k₀ out lo u k i
 
 abbrev μ-loop : tie.MeasureT-loop
 μ-loop p n points count out₀ lo₀ u₀ k₀ i₀ out lo u k i = count - i
@@ -52,8 +52,8 @@ cross-requires c κs =
     let l = v .before .before .before in
     let a = start l .args in (
       start l .pre .0,
-      cross-room (take (a .n) (a .p)) (a .points .now) (a .count) (start l .pre .2) _ _ _ _ _ _ (l .loop .inv) (v .before .before .loop-test .taken) _ (v .evaluate2 .result) _ _ (v .evaluate2 .ensures) (t .touch2 .ensures),
-      span (take (a .n) (a .p)) (a .points .now) (a .count) (start l .pre .2) _ _ _ _ _ _ (l .loop .inv) (v .before .before .loop-test .taken) _,
+      cross-room (take (a .n) (a .p)) (a .points .now) (a .count) (start l .pre .2) _ _ _ _ _ _ _ (l .loop .inv) (v .before .before .loop-test .taken) _ (v .evaluate2 .result) _ _ (v .evaluate2 .ensures) (t .touch2 .ensures),
+      span (take (a .n) (a .p)) (a .points .now) (a .count) (start l .pre .2) _ _ _ _ _ _ _ (l .loop .inv) (v .before .before .loop-test .taken) _,
     )
 
 add-i : tie.Need-add-i Inv-loop μ-loop
@@ -69,7 +69,7 @@ loop-again c =
     let v = t .before .before in
     let l = v .before .before .before in
     let a = start l .args in
-    scan-more (take (a .n) (a .p)) (a .points .now) (a .count) (start l .pre .2) _ _ _ _ _ _ (l .loop .inv) (v .before .before .loop-test .taken) _ (v .evaluate2 .result) _ _ (v .evaluate2 .ensures) (t .touch2 .ensures) _ _ (x .cross .ensures)
+    scan-more (take (a .n) (a .p)) (a .points .now) (a .count) (start l .pre .2) _ _ _ _ _ _ _ (l .loop .inv) (v .before .before .loop-test .taken) _ (v .evaluate2 .result) _ _ (v .evaluate2 .ensures) (t .touch2 .ensures) _ _ (x .cross .ensures)
 
 same-length : tie.Need-same-length Inv-loop μ-loop
 same-length c = search needs
@@ -77,8 +77,9 @@ same-length c = search needs
 returns : tie.Need-returns Inv-loop μ-loop
 returns c =
     let l = c .before in
+    let t = l .before .before .before in
     let a = start l .args in
-    scan-last (take (a .n) (a .p)) (a .points .now) (a .count) (start l .pre .2) _ _ _ _ _ _ (l .loop .inv) (c .loop-test .left)
+    scan-last (take (a .n) (a .p)) (a .points .now) (a .count) (start l .pre .2) (a .out .now) _ _ (t .before .before .evaluate .result) _ _ _ _ _ _ (t .touch .ensures) (l .loop .inv) (c .loop-test .left)
 
 pub scan-spec : {M : Type 1} → statement M
 scan-spec =
