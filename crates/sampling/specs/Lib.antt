@@ -1,6 +1,9 @@
--- From a job's numbers to its angles: document 01's modules 4 to 6. A reader must believe, of module 4, `Constraints`, `Intervals`, `Pose`, `Limits`; of module 5, so far,
--- `Continuum` (first harmonics and where they meet a target), `J1free`, `J2free`, `Marks`, `Wrist`, `Rays` (the boundary angles of joints 4 and 6, in order) and `Pushed`.
--- `Examples` computes 01's examples. `Laws` holds what upper files cite.
+-- From a job's numbers to its angles: document 01's modules 4 to 6. A reader must believe:
+-- of module 4, `Constraints`, `Intervals`, `Pose`, `Limits`;
+-- of module 5, `Continuum` (first harmonics and where they meet a target), `J1free`, `J2free`, `Marks`, `Wrist`, `Rays` and `Bends` (the boundary angles of joints 4, 5 and 6, in order), `Samples` (from boundary angles to cuts and samples), `SampleAngles` (the angles of one free joint);
+-- of module 6, `Boundaries` (the boundary curves of two free joints), `BendSlices` (the slices of narrow bends), `CriticalSlices` (where curves meet), `Slices` and `J1j2free` (the values at which joint 1 is tried);
+-- of both, `Angles` (a job's angles by its kind) and `Planned` (what `plan_of` promises).
+-- `Examples` computes 01's examples. `Laws` holds what upper files cite. `Pushed`, `Grown`, `Numerators`, `Cutting`, `Halving`, `Stream`, `Plan` and `Drawn` are what inner functions promise one another; `Grown` by `Kept` of polynomial's `Laws.Held`.
 pub mod Constraints
 pub mod Intervals
 pub mod Pose
@@ -10,7 +13,24 @@ pub mod J1free
 pub mod J2free
 pub mod Marks
 pub mod Wrist
-pub mod Pushed
 pub mod Rays
+pub mod Bends
+pub mod Samples
+pub mod SampleAngles
+pub mod Boundaries
+pub mod BendSlices
+pub mod CriticalSlices
+pub mod Slices
+pub mod J1j2free
+pub mod Angles
+pub mod Planned
 mod Examples
 pub mod Laws
+pub mod Pushed
+pub mod Grown
+pub mod Stream
+pub mod Plan
+pub mod Drawn
+pub mod Numerators
+pub mod Cutting
+pub mod Halving

@@ -1,11 +1,11 @@
--- Laws of lists that grow: nothing, one value, one list after another. Assumes nothing.
+-- Laws of lists that grow: nothing, one value, one list after another, a list that a callee puts into the rest of the slice. Assumes nothing.
 use mathlib.Core.Path.{_≡_, refl, sym, ap, _∙_}
 use mathlib.Core.List.{List, [], _∷_, _++_, append-assoc, append-nil}
-use Prim.Native.Nat.{ℕ, _+_, _<_}
+use Prim.Native.Nat.{ℕ, _+_, _≤_, _<_}
 use native.Mathlib.Omega.{arith}
 use native.Mathlib.Numerals.{add-one}
 use lib.ListN.{length, take, drop, set, length-append}
-use lib.Seq.{take-suc-set, drop-set-lt, drop-drop}
+use lib.Seq.{length-take-le, take-at, drop-at, take-suc-set, drop-set-lt, drop-drop}
 use Rattle.sampling.specs.Pushed.{Pushed}
 
 pub none : {A : Type 0} (k n : ℕ) (a : List A) → Pushed k [] n a n a
@@ -25,4 +25,17 @@ then {A} {k} {l} {n} {m} {r} {x} {y} {a} {b} {c} p q =
       front = q .front ∙ ap (λ (z : List A). z ++ y) (p .front) ∙ append-assoc (take n a) x y;
       rest = q .rest ∙ later m r a b (length y) (q .count) (p .rest);
       most = omega (arith, p .most, q .most);
+    }
+
+-- a callee that is lent what stands behind the first n values puts x in the front of it
+pub behind : {A : Type 0} (k n : ℕ) (a x : List A) → n ≤ length a → length x ≤ k → Pushed k x n a (n + length x) (take n a ++ (x ++ drop (length x) (drop n a)))
+behind {A} k n a x h s =
+    let d = drop (length x) (drop n a) in
+    let l : length (take n a ++ x) ≡ n + length x = length-append (take n a) x ∙ ap (λ (i : ℕ). i + length x) (length-take-le n a h) in
+    let e : take n a ++ (x ++ d) ≡ (take n a ++ x) ++ d = sym (append-assoc (take n a) x d) in
+    record {
+      count = refl;
+      front = ap (take (n + length x)) e ∙ take-at (take n a ++ x) d (n + length x) l;
+      rest = ap (drop (n + length x)) e ∙ drop-at (take n a ++ x) d (n + length x) l ∙ drop-drop (length x) n a;
+      most = omega arith;
     }

@@ -1,0 +1,28 @@
+-- `sampling::bend_slices::bend_slice` meets its contract: at each return, what the calls and the tests on the way to it say. Assumes nothing.
+use borrow.Author.Needs.{needs}
+use Rattle.sampling.specs.BendSlices.{bend-slice, bend-slice-holds}
+use Rattle.sampling.specs.Laws.Pushed.{then}
+use Rattle.sampling.proofs.bend_slices.bend_slice.Statement.{statement}
+use Rattle.sampling.proofs.bend_slices.bend_slice.Tie as tie
+
+sin-cos-requires : tie.Need-sin-cos-requires
+sin-cos-requires c = search needs
+
+transverses-requires : tie.Need-transverses-requires
+transverses-requires c = search needs
+
+axes-range-requires : tie.Need-axes-range-requires
+axes-range-requires c = search needs
+
+folds-range-requires : tie.Need-folds-range-requires
+folds-range-requires c = search needs
+
+same-length : tie.Need-same-length
+same-length c = search needs
+
+returns : tie.Need-returns
+unfolding bend-slice bend-slice-holds
+returns c = (simp (← c .before .before .before .before .before .before .before .before .before .before .before .before .sin-cos .ensures) ((c .before .before .folds-range .ensures) .0), simp (← c .before .before .before .before .before .before .before .before .before .before .before .before .sin-cos .ensures) (then (then (c .before .before .before .before .before .before .before .before .before .before .transverses .ensures) (c .before .before .before .before .before .before .axes-range .ensures)) ((c .before .before .folds-range .ensures) .1)))
+
+pub bend-slice-spec : {M : Type 1} → statement M
+bend-slice-spec = tie.close (tie.spec sin-cos-requires transverses-requires axes-range-requires folds-range-requires same-length returns)

@@ -1,0 +1,30 @@
+-- `sampling::bend_slices::folds` meets its contract: at each return, what the calls and the tests on the way to it say. Assumes nothing.
+use borrow.Author.Needs.{needs}
+use Rattle.sampling.specs.BendSlices.{folds, folds-hold}
+use Rattle.sampling.proofs.bend_slices.folds.Statement.{statement}
+use Rattle.sampling.proofs.bend_slices.folds.Tie as tie
+
+fold-requires : tie.Need-fold-requires
+fold-requires c = search needs
+
+across-requires : tie.Need-across-requires
+across-requires c = search needs
+
+vector-length-requires : tie.Need-vector-length-requires
+vector-length-requires c = search needs
+
+abs-requires : tie.Need-abs-requires
+abs-requires c = search needs
+
+norm-roots-requires : tie.Need-norm-roots-requires
+norm-roots-requires c = search needs
+
+same-length : tie.Need-same-length
+same-length c = search needs
+
+returns : tie.Need-returns
+unfolding folds folds-hold
+returns c = (simp (← c .before .before .before .before .before .before .before .fold .ensures, ← c .before .before .before .before .before .before .across .ensures, ← c .before .before .before .before .before .vector-length .ensures, ← c .before .before .before .before .abs .ensures) ((c .before .before .norm-roots .ensures) .0), simp (← c .before .before .before .before .before .before .before .fold .ensures, ← c .before .before .before .before .before .before .across .ensures, ← c .before .before .before .before .before .vector-length .ensures, ← c .before .before .before .before .abs .ensures) ((c .before .before .norm-roots .ensures) .1))
+
+pub folds-spec : {M : Type 1} → statement M
+folds-spec = tie.close (tie.spec fold-requires across-requires vector-length-requires abs-requires norm-roots-requires same-length returns)

@@ -1,0 +1,34 @@
+-- `sampling::bends::all_roots` meets its contract: at each return, what the calls and the tests on the way to it say. Assumes nothing.
+use borrow.Author.Needs.{needs}
+use Rattle.sampling.specs.Bends.{all-roots, all-roots-hold}
+use Rattle.sampling.specs.Laws.Pushed.{then}
+use Rattle.sampling.proofs.bends.all_roots.Statement.{statement}
+use Rattle.sampling.proofs.bends.all_roots.Tie as tie
+
+push-requires : tie.Need-push-requires
+push-requires c = search needs
+
+poles-requires : tie.Need-poles-requires
+poles-requires c = search needs
+
+ray-marks-requires : tie.Need-ray-marks-requires
+ray-marks-requires c = search needs
+
+bend-marks-requires : tie.Need-bend-marks-requires
+bend-marks-requires c = search needs
+
+sixth-roots-requires : tie.Need-sixth-roots-requires
+sixth-roots-requires c = search needs
+
+push-requires-2 : tie.Need-push-requires-2
+push-requires-2 c = search needs
+
+same-length : tie.Need-same-length
+same-length c = search needs
+
+returns : tie.Need-returns
+unfolding all-roots all-roots-hold
+returns c = ((c .before .before .before .before .before .before .before .before .before .before .bend-marks .ensures) .0, then (then (then (then (then (c .before .before .before .before .before .before .before .before .before .before .before .before .before .before .before .before .before .before .before .before .before .before .push .ensures) (c .before .before .before .before .before .before .before .before .before .before .before .before .before .before .before .before .before .before .poles .ensures)) (c .before .before .before .before .before .before .before .before .before .before .before .before .before .before .ray-marks .ensures)) ((c .before .before .before .before .before .before .before .before .before .before .bend-marks .ensures) .1)) (c .before .before .before .before .before .before .sixth-roots .ensures)) (c .before .before .push2 .ensures))
+
+pub all-roots-spec : {M : Type 1} → statement M
+all-roots-spec = tie.close (tie.spec push-requires poles-requires ray-marks-requires bend-marks-requires sixth-roots-requires push-requires-2 same-length returns)

@@ -1,0 +1,32 @@
+-- `sampling::bends::bend_range` meets its contract: at each return, what the calls and the tests on the way to it say. Assumes nothing.
+use borrow.Author.Needs.{needs}
+use Rattle.sampling.specs.Bends.{bend-range, bend-range-holds}
+use Rattle.sampling.specs.Laws.Pushed.{none, then}
+use Rattle.sampling.proofs.bends.bend_range.Statement.{statement}
+use Rattle.sampling.proofs.bends.bend_range.Tie as tie
+
+enum-told : tie.Need-enum-told
+enum-told c = search needs
+
+enum-known-range : tie.Need-enum-known-range
+enum-known-range c = search needs
+
+bend-at-requires : tie.Need-bend-at-requires
+bend-at-requires c = search needs
+
+bend-at-requires-2 : tie.Need-bend-at-requires-2
+bend-at-requires-2 c = search needs
+
+returns : tie.Need-returns
+unfolding bend-range bend-range-holds
+returns c = (simp (c .enum-told .given .1), simp (c .enum-told .given .1) (none 120 _ _))
+
+same-length : tie.Need-same-length
+same-length c = search needs
+
+returns-2 : tie.Need-returns-2
+unfolding bend-range bend-range-holds
+returns-2 c = (simp (c .before .before .before .before .before .before .before .before .before .before .before .range .given .1) (rw (← (c .before .before .before .before .before .before .before .before .bend-at .ensures) .0, ← (c .before .before .before .before .bend-at2 .ensures) .0)), simp (c .before .before .before .before .before .before .before .before .before .before .before .range .given .1) (then ((c .before .before .before .before .before .before .before .before .bend-at .ensures) .1) ((c .before .before .before .before .bend-at2 .ensures) .1)))
+
+pub bend-range-spec : {M : Type 1} → statement M
+bend-range-spec = tie.close (tie.spec enum-told enum-known-range bend-at-requires bend-at-requires-2 returns same-length returns-2)

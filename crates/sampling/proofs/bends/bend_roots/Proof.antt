@@ -1,0 +1,44 @@
+-- `sampling::bends::bend_roots` meets its contract: at each return, what the calls and the tests on the way to it say. Assumes nothing.
+use borrow.Author.Needs.{needs}
+use Rattle.sampling.specs.Bends.{bend-roots, bend-roots-hold}
+use Rattle.sampling.specs.Laws.Pushed.{none, then}
+use Rattle.sampling.proofs.bends.bend_roots.Statement.{statement}
+use Rattle.sampling.proofs.bends.bend_roots.Tie as tie
+
+sin-cos-requires : tie.Need-sin-cos-requires
+sin-cos-requires c = search needs
+
+roots-requires : tie.Need-roots-requires
+roots-requires c = search needs
+
+abs-requires : tie.Need-abs-requires
+abs-requires c = search needs
+
+narrow-requires : tie.Need-narrow-requires
+narrow-requires c = search needs
+
+harmonic-requires : tie.Need-harmonic-requires
+harmonic-requires c = search needs
+
+harmonic-requires-2 : tie.Need-harmonic-requires-2
+harmonic-requires-2 c = search needs
+
+norm-roots-requires : tie.Need-norm-roots-requires
+norm-roots-requires c = search needs
+
+same-length : tie.Need-same-length
+same-length c = search needs
+
+returns : tie.Need-returns
+unfolding bend-roots bend-roots-hold
+returns c = (simp (← c .before .before .before .before .before .before .before .before .before .before .before .before .before .sin-cos .ensures, ← c .before .before .before .before .before .before .before .before .abs .ensures, ← c .before .before .before .before .before .before .before .narrow .ensures, c .before .before .before .before .before .before .if1 .taken, ← c .before .before .before .before .before .harmonic .ensures, ← c .before .before .before .before .harmonic2 .ensures) ((c .before .before .norm-roots .ensures) .0), simp (← c .before .before .before .before .before .before .before .before .before .before .before .before .before .sin-cos .ensures, ← c .before .before .before .before .before .before .before .before .abs .ensures, ← c .before .before .before .before .before .before .before .narrow .ensures, c .before .before .before .before .before .before .if1 .taken, ← c .before .before .before .before .before .harmonic .ensures, ← c .before .before .before .before .harmonic2 .ensures) (then (c .before .before .before .before .before .before .before .before .before .before .before .roots .ensures) ((c .before .before .norm-roots .ensures) .1)))
+
+same-length-2 : tie.Need-same-length-2
+same-length-2 c = search needs
+
+returns-2 : tie.Need-returns-2
+unfolding bend-roots bend-roots-hold
+returns-2 c = (simp (← c .before .before .before .before .before .before .before .sin-cos .ensures, ← c .before .before .abs .ensures, ← c .before .narrow .ensures, c .if1 .left), simp (← c .before .before .before .before .before .before .before .sin-cos .ensures, ← c .before .before .abs .ensures, ← c .before .narrow .ensures, c .if1 .left) (then (c .before .before .before .before .before .roots .ensures) (none 58 _ _)))
+
+pub bend-roots-spec : {M : Type 1} → statement M
+bend-roots-spec = tie.close (tie.spec sin-cos-requires roots-requires abs-requires narrow-requires harmonic-requires harmonic-requires-2 norm-roots-requires same-length returns same-length-2 returns-2)

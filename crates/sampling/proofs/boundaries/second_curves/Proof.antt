@@ -1,0 +1,35 @@
+-- `sampling::boundaries::second_curves` meets its contract: at each return, what the calls and the tests on the way to it say. Assumes nothing.
+use borrow.Author.Needs.{needs}
+use Rattle.sampling.specs.Boundaries.{second-curves}
+use Rattle.sampling.specs.Laws.Pushed.{none, then}
+use Rattle.sampling.proofs.boundaries.second_curves.Statement.{statement}
+use Rattle.sampling.proofs.boundaries.second_curves.Tie as tie
+
+enum-told : tie.Need-enum-told
+enum-told c = search needs
+
+enum-known-range : tie.Need-enum-known-range
+enum-known-range c = search needs
+
+second-curve-requires : tie.Need-second-curve-requires
+second-curve-requires c = search needs
+
+add-requires : tie.Need-add-requires
+add-requires c = search needs
+
+second-curve-requires-2 : tie.Need-second-curve-requires-2
+second-curve-requires-2 c = search needs
+
+add-requires-2 : tie.Need-add-requires-2
+add-requires-2 c = search needs
+
+returns : tie.Need-returns
+unfolding second-curves
+returns c = simp (c .enum-told .given .1) (none 2 _ _)
+
+returns-2 : tie.Need-returns-2
+unfolding second-curves
+returns-2 c = simp (c .before .before .before .before .before .range .given .1, ← c .before .before .before .second-curve .ensures, ← c .before .second-curve2 .ensures) (then (c .before .before .add .ensures) (c .add2 .ensures))
+
+pub second-curves-spec : {M : Type 1} → statement M
+second-curves-spec = tie.close (tie.spec enum-told enum-known-range second-curve-requires add-requires second-curve-requires-2 add-requires-2 returns returns-2)

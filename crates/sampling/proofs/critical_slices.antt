@@ -1,0 +1,2 @@
+-- What the proofs of `critical_slices` share.
+pub mod Inner

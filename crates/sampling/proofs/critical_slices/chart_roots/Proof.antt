@@ -1,0 +1,59 @@
+-- `sampling::critical_slices::chart_roots` meets its contract: by what the root finder says of its answer. Assumes nothing.
+use borrow.Author.Needs.{needs}
+use mathlib.Core.Path.{_≡_, sym, subst}
+use mathlib.Core.List.{List}
+use lib.ListN.{take}
+use lib.Ieee.{Float}
+use Rattle.sampling.specs.Grown.{Grown}
+use Rattle.sampling.specs.CriticalSlices.{angles, chart-roots, chart-holds}
+use Rattle.sampling.specs.Laws.Grown.{none}
+use Rattle.sampling.proofs.critical_slices.Inner.{refused, holds, within, list}
+use Rattle.sampling.proofs.critical_slices.chart_roots.Statement.{statement}
+use Rattle.sampling.proofs.critical_slices.chart_roots.Tie as tie
+
+slice-aggregate-inner-roots : tie.Need-slice-aggregate-inner-roots
+slice-aggregate-inner-roots c = search needs
+
+inner-roots-requires : tie.Need-inner-roots-requires
+inner-roots-requires c κs = search needs
+
+enum-known-answer : tie.Need-enum-known-answer
+enum-known-answer c = search needs
+
+slice-aggregate-angles : tie.Need-slice-aggregate-angles
+slice-aggregate-angles c = search needs
+
+angles-requires : tie.Need-angles-requires
+angles-requires c κs =
+    let g = c .before .before .before .before .before .before in
+    within _ _ _ _ (g .inner-roots .ensures .0) _ _ (g .inner-roots .ensures .1) _ (c .before .before .before .answer .given .1)
+
+enum-told : tie.Need-enum-told
+enum-told c = search needs
+
+same-length : tie.Need-same-length
+same-length c = search needs
+
+returns : tie.Need-returns
+unfolding chart-roots chart-holds
+returns c =
+    let g = c .before .before .before .before .before .before .before .before .before in
+    let e = g .inner-roots .ensures in
+    let f = c .before .before .before .before .before .before .answer .given .1 in
+    let h = holds _ _ _ _ (e .0) _ _ (e .1) _ f in
+    let l = list _ _ _ _ (e .0) _ _ (e .1) _ f in (
+      sym h,
+      rw (h, ← l) (c .before .before .angles .ensures),
+    )
+
+returns-2 : tie.Need-returns-2
+unfolding chart-roots chart-holds
+returns-2 c =
+    let g = c .before .before .before in
+    let h = refused _ _ _ _ (g .inner-roots .ensures .0) (c .enum-told .given .1) in
+    (sym h, rw h none)
+
+pub chart-roots-spec : {M : Type 1} → statement M
+chart-roots-spec =
+    tie.close
+    (tie.spec slice-aggregate-inner-roots inner-roots-requires enum-known-answer slice-aggregate-angles angles-requires enum-told same-length returns returns-2)

@@ -1,0 +1,29 @@
+-- `sampling::j1j2free::cut` meets its contract: at each return, what the calls and the tests on the way to it say. Assumes nothing.
+use mathlib.Core.Path.{refl}
+use borrow.Author.Needs.{needs}
+use Rattle.sampling.specs.Halving.{cut-answer, both-halves}
+use Rattle.sampling.proofs.j1j2free.cut.Statement.{statement}
+use Rattle.sampling.proofs.j1j2free.cut.Tie as tie
+
+enum-told : tie.Need-enum-told
+enum-told c = search needs
+
+enum-known-range1 : tie.Need-enum-known-range1
+enum-known-range1 c = search needs
+
+cut-halves-requires : tie.Need-cut-halves-requires
+cut-halves-requires c = search needs
+
+returns : tie.Need-returns
+unfolding cut-answer both-halves
+returns c = simp (c .enum-told .given .1) (refl, refl)
+
+same-length : tie.Need-same-length
+same-length c = search needs
+
+returns-2 : tie.Need-returns-2
+unfolding cut-answer both-halves
+returns-2 c = simp (c .before .before .before .before .before .range1 .given .1) (c .before .before .cut-halves .ensures)
+
+pub cut-spec : {M : Type 1} → statement M
+cut-spec = tie.close (tie.spec enum-told enum-known-range1 cut-halves-requires returns same-length returns-2)

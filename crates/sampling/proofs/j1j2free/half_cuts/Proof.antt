@@ -1,0 +1,29 @@
+-- `sampling::j1j2free::half_cuts` meets its contract: at each return, what the calls and the tests on the way to it say. Assumes nothing.
+use borrow.Author.Needs.{needs}
+use Rattle.sampling.specs.Laws.Grown.{then, whole}
+use Rattle.sampling.proofs.j1j2free.half_cuts.Statement.{statement}
+use Rattle.sampling.proofs.j1j2free.half_cuts.Tie as tie
+
+chart-of-requires : tie.Need-chart-of-requires
+chart-of-requires c = search needs
+
+push-requires : tie.Need-push-requires
+push-requires c = search needs
+
+push-requires-2 : tie.Need-push-requires-2
+push-requires-2 c = search needs
+
+critical-requires : tie.Need-critical-requires
+critical-requires c = search needs
+
+all-turns-requires : tie.Need-all-turns-requires
+all-turns-requires c = search needs
+
+same-length : tie.Need-same-length
+same-length c = search needs
+
+returns : tie.Need-returns
+returns c = simp (← c .before .before .before .before .before .before .before .before .before .before .before .before .before .before .before .before .before .chart-of .ensures) ((c .before .before .before .before .before .before .critical .ensures) .0, whole (then (then (then (c .before .before .before .before .before .before .before .before .before .before .before .before .before .before .before .push .ensures) (c .before .before .before .before .before .before .before .before .before .before .before .push2 .ensures)) ((c .before .before .before .before .before .before .critical .ensures) .1)) (c .before .before .all-turns .ensures)))
+
+pub half-cuts-spec : {M : Type 1} → statement M
+half-cuts-spec = tie.close (tie.spec chart-of-requires push-requires push-requires-2 critical-requires all-turns-requires same-length returns)

@@ -1,0 +1,55 @@
+-- `sampling::plan::next_slice` meets its contract: what `next` says of the two parts. Assumes nothing.
+use borrow.Author.Needs.{needs}
+use mathlib.Core.Path.{_≡_, sym, subst}
+use Prim.Native.Nat.{ℕ, _+_, _-_}
+use native.Mathlib.Omega.{arith}
+use lib.Seq.{length-take-le}
+use lib.ListN.{take, drop}
+use Rattle.sampling.specs.Stream.{distinct, Steps, Woven}
+use Rattle.sampling.specs.Laws.Plan.{gives}
+use Rattle.sampling.proofs.plan.next_slice.Statement.{statement}
+use Rattle.sampling.proofs.plan.next_slice.Tie as tie
+
+-- the second part's length, as the code's range has it
+part : (a b : ℕ) → a + b - a ≡ b
+part a b = omega arith
+
+add-end : tie.Need-add-end
+add-end c = let s = c .before .before in omega (arith, s .pre .room, s .good)
+
+slice-aggregate-next : tie.Need-slice-aggregate-next
+slice-aggregate-next c = let s = c .before .before .before in sym (length-take-le (s .args .h .first) (s .args .work .now) (omega (arith, s .pre .room)))
+
+mul-next : tie.Need-mul-next
+mul-next c = let s = c .before .before .before in omega (arith, s .pre .room, s .good)
+
+sub-next : tie.Need-sub-next
+sub-next c = search needs
+
+part-next-start : tie.Need-part-next-start
+part-next-start c = search needs
+
+part-next-end : tie.Need-part-next-end
+part-next-end c = let s = c .before .before .before in omega (arith, s .pre .room)
+
+next-requires : tie.Need-next-requires
+next-requires c κs =
+    let s = c .before .before .before .before in
+    let a = s .args in (
+      s .pre .first,
+      (subst (λ (k : ℕ). Woven (take k (drop (a .h .first) (a .work .now)))) (sym (part (a .h .first) (a .h .second))) (s .pre .second), s .pre .number),
+    )
+
+returns : tie.Need-returns
+returns c =
+    let a = c .before .before .before .before .before .args in
+    let w = a .work .now in
+    let l = take (a .h .first) w in
+    let m = take (a .h .second) (drop (a .h .first) w) in
+    gives (distinct l m (a .h .reference) (a .c)) (distinct l m (a .h .reference)) (c .next .result)
+    (subst (λ (k : ℕ). Steps (distinct l (take k (drop (a .h .first) w)) (a .h .reference) (a .c)) (distinct l (take k (drop (a .h .first) w)) (a .h .reference)) (c .next .result))
+    (part (a .h .first) (a .h .second))
+    (c .next .ensures))
+
+pub next-slice-spec : {M : Type 1} → statement M
+next-slice-spec = tie.close (tie.spec add-end slice-aggregate-next mul-next sub-next part-next-start part-next-end next-requires returns)

@@ -1,0 +1,46 @@
+-- `sampling::sample_angles::cut` meets its contract: at each return, what the calls and the tests on the way to it say. Assumes nothing.
+use mathlib.Core.Path.{refl}
+use lib.Ieee.{ofBits}
+use borrow.Author.Needs.{needs}
+use Rattle.sampling.specs.SampleAngles.{hold, first-cuts, second-cuts, third-cuts, roots, intervals}
+use Rattle.sampling.specs.Laws.Cutting.{all-three}
+use Rattle.sampling.proofs.sample_angles.cut.Statement.{statement}
+use Rattle.sampling.proofs.sample_angles.cut.Tie as tie
+
+is-finite-requires : tie.Need-is-finite-requires
+is-finite-requires c κs = search needs
+
+slice-aggregate-all-roots : tie.Need-slice-aggregate-all-roots
+slice-aggregate-all-roots c = search needs
+
+all-roots-requires : tie.Need-all-roots-requires
+all-roots-requires c κs = search needs
+
+wrist-limit-intervals-requires : tie.Need-wrist-limit-intervals-requires
+wrist-limit-intervals-requires c κs = search needs
+
+slice-aggregate-cut-intervals : tie.Need-slice-aggregate-cut-intervals
+slice-aggregate-cut-intervals c = search needs
+
+cut-intervals-requires : tie.Need-cut-intervals-requires
+cut-intervals-requires c κs = search needs
+
+same-length : tie.Need-same-length
+same-length c = search needs
+
+returns : tie.Need-returns
+unfolding hold first-cuts second-cuts third-cuts roots intervals ofBits
+returns c =
+    let found = c .before .before .before .before .before .before .before .before .all-roots .ensures in
+    simp (← c .before .before .before .before .before .before .before .before .before .before .before .is-finite .ensures, c .before .before .before .before .before .before .before .before .before .before .if1 .taken, ← found .0, c .before .before .before .before .before .before .if2 .taken, ← found .1 .front, ← c .before .before .before .before .before .wrist-limit-intervals .ensures) (c .before .before .cut-intervals .ensures)
+
+returns-2 : tie.Need-returns-2
+unfolding hold
+returns-2 c = (simp (← c .before .before .before .before .before .is-finite .ensures, c .before .before .before .before .if1 .taken, ← c .before .before .all-roots .ensures .0, c .if2 .left), refl)
+
+returns-3 : tie.Need-returns-3
+unfolding hold first-cuts second-cuts third-cuts
+returns-3 c = simp (← c .before .is-finite .ensures, c .if1 .left) (all-three _ _ _ _ _ _ _ refl refl refl (search needs), refl)
+
+pub cut-spec : {M : Type 1} → statement M
+cut-spec = tie.close (tie.spec is-finite-requires slice-aggregate-all-roots all-roots-requires wrist-limit-intervals-requires slice-aggregate-cut-intervals cut-intervals-requires same-length returns returns-2 returns-3)

@@ -1,0 +1,59 @@
+-- `sampling::samples::all_turns` meets its contract. The loop's invariant: where those of the angles that are left come to a slice, all come to it. Assumes nothing.
+use Prim.Native.Nat.{_-_, _≤_}
+use native.Mathlib.Omega.{arith}
+use mathlib.Core.Path.{_≡_, refl, _∙_}
+use lib.ListN.{length, take}
+use lib.Seq.{slice}
+use borrow.Author.Needs.{needs}
+use Rattle.sampling.specs.Laws.Grown.{Leads, leads-all, leads-next, leads-end}
+use Rattle.sampling.specs.Laws.Samples.{turns-next, turns-end}
+use Rattle.sampling.specs.Samples as Of
+use Rattle.sampling.proofs.samples.all_turns.Statement.{statement}
+use Rattle.sampling.proofs.samples.all_turns.Tie as tie
+
+abbrev Inv-loop : tie.InvT-loop
+Inv-loop work₀ lower upper angles n state₀ i₀ work state i =
+    (i ≤ n) × (length work ≡ length work₀) × Leads (Of.all-turns lower upper (take n angles)) (Of.all-turns lower upper (slice i n angles)) work₀ state₀ work state
+
+abbrev μ-loop : tie.MeasureT-loop
+μ-loop work₀ lower upper angles n state₀ i₀ work state i = n - i
+
+loop-holds : tie.Need-loop-holds Inv-loop μ-loop
+loop-holds c = (search needs, refl, leads-all)
+
+mul-angle : tie.Need-mul-angle Inv-loop μ-loop
+mul-angle c = search needs
+
+shared-slice-read-angle : tie.Need-shared-slice-read-angle Inv-loop μ-loop
+shared-slice-read-angle c = search needs
+
+add-i : tie.Need-add-i Inv-loop μ-loop
+add-i c = search needs
+
+turns-requires : tie.Need-turns-requires Inv-loop μ-loop
+turns-requires c κs = search needs
+
+loop-less : tie.Need-loop-less Inv-loop μ-loop
+loop-less c = search needs
+
+loop-again : tie.Need-loop-again Inv-loop μ-loop
+loop-again c =
+    let w = c .before .before in
+    let l = w .before .before .before .before in
+    let a = l .before .before .before .args in (
+      search needs,
+      w .turns .ensures .same ∙ l .loop .inv .1,
+      leads-next (l .loop .inv .2) (turns-next (a .lower) (a .upper) (a .angles .now) (l .loop .i) (a .n) (search needs) (search needs)) (w .turns .ensures),
+    )
+
+same-length : tie.Need-same-length Inv-loop μ-loop
+same-length c = c .before .loop .inv .1
+
+returns : tie.Need-returns Inv-loop μ-loop
+returns c =
+    let l = c .before in
+    let a = l .before .before .before .args in
+    leads-end (l .loop .inv .2) (turns-end (a .lower) (a .upper) (a .angles .now) (l .loop .i) (a .n) (omega arith))
+
+pub all-turns-spec : {M : Type 1} → statement M
+all-turns-spec = tie.close (tie.spec Inv-loop μ-loop loop-holds mul-angle shared-slice-read-angle add-i turns-requires loop-less loop-again same-length returns)

@@ -1,0 +1,26 @@
+-- `sampling::samples::windings` meets its contract: at each return, what the calls and the tests on the way to it say. Assumes nothing.
+use borrow.Author.Needs.{needs}
+use Rattle.sampling.specs.Laws.Grown.{none}
+use Rattle.sampling.specs.Samples.{windings}
+use Rattle.sampling.proofs.samples.windings.Statement.{statement}
+use Rattle.sampling.proofs.samples.windings.Tie as tie
+
+is-finite-requires : tie.Need-is-finite-requires
+is-finite-requires c = search needs
+
+turns-requires : tie.Need-turns-requires
+turns-requires c = search needs
+
+same-length : tie.Need-same-length
+same-length c = search needs
+
+returns : tie.Need-returns
+unfolding windings
+returns c = simp (← c .before .before .before .before .before .is-finite .ensures, c .before .before .before .before .if1 .taken) (c .before .before .turns .ensures)
+
+returns-2 : tie.Need-returns-2
+unfolding windings
+returns-2 c = simp (← c .before .is-finite .ensures, c .if1 .left) none
+
+pub windings-spec : {M : Type 1} → statement M
+windings-spec = tie.close (tie.spec is-finite-requires turns-requires same-length returns returns-2)

@@ -1,0 +1,71 @@
+-- The boundary angles of joint 5, and all boundary angles in the order in which the Rust finds them: `bend_roots` and `sample_angles` of continuum.rs (01, module 5). Beside each list stands whether no inner call of the root finder on the way is refused; a refused call gives no angle. Definitions only.
+use mathlib.Core.Bool.{Bool, true, false, _&&_}
+use mathlib.Core.List.{List, [], _∷_, _++_}
+use lib.Ieee.{Float, binary64, round, lt}
+use lib.Ieee.Scale.{finite}
+use Rattle.float.specs.Number.{abs, zero-float}
+use Rattle.float.specs.Trig.{sin-cos}
+use Rattle.polynomial.specs.Curve.{squared-norm-roots, squared-norm-holds}
+use Rattle.polynomial.specs.declared.curve.Harmonic.{Harmonic}
+use Rattle.sampling.specs.Constraints.{pick}
+use Rattle.sampling.specs.Continuum.{roots}
+use Rattle.sampling.specs.Rays.{poles, ray-marks, sixth-roots}
+use Rattle.sampling.specs.declared.continuum.Trig.{Trig}
+use Rattle.sampling.specs.declared.wrist.Ray.{Ray}
+use Rattle.sampling.specs.declared.wrist.Wrist.{Wrist}
+use Rattle.sampling.specs.declared.marks.Marks.{Marks}
+use Rattle.sampling.specs.declared.marks.Sixth.{Sixth}
+use Rattle.sampling.specs.declared.intervals.Range.{Range}
+use Rattle.sampling.specs.declared.intervals.Range.the-variants.{Nothing, Between}
+
+-- roots of x(angle)^2 + y(angle)^2 = norm^2, where the root finder takes both halves
+unfoldable pub norm-roots : Harmonic → Harmonic → Float → List Float
+norm-roots x y norm = pick (squared-norm-holds x y norm) (squared-norm-roots x y norm) []
+
+-- constant, cosine and sine coefficients of a first harmonic
+unfoldable pub harmonic : Trig → Harmonic
+harmonic t = record { constant = t .constant; cosine = t .cosine; sine = t .sine }
+
+-- above 0 and below 1.0e-4: close to a pole, where a cosine can round to ±1 although the bend is not zero
+unfoldable pub narrow : Float → Bool
+narrow sine = pick (lt zero-float sine) (lt sine (round binary64 false 1 10000)) false
+
+-- where the cosine of joint 5 is that of the angle and, for a narrow sine, where the vector of joint 4 has that length
+unfoldable pub bend-roots : Trig → Ray → Float → List Float
+bend-roots cos5 q4 angle =
+    let sine = abs (sin-cos angle .sine) in
+    roots cos5 (sin-cos angle .cosine) ++ pick (narrow sine) (norm-roots (harmonic (q4 .x)) (harmonic (q4 .y)) sine) []
+
+unfoldable pub bend-roots-hold : Ray → Float → Bool
+bend-roots-hold q4 angle =
+    let sine = abs (sin-cos angle .sine) in
+    pick (narrow sine) (squared-norm-holds (harmonic (q4 .x)) (harmonic (q4 .y)) sine) true
+
+-- an angle counts if it is finite
+unfoldable pub bend-at : Trig → Ray → Float → List Float
+bend-at cos5 q4 angle = pick (finite angle) (bend-roots cos5 q4 angle) []
+
+unfoldable pub bend-at-holds : Ray → Float → Bool
+bend-at-holds q4 angle = pick (finite angle) (bend-roots-hold q4 angle) true
+
+unfoldable pub bend-range : Trig → Ray → Range → List Float
+bend-range cos5 q4 Nothing = []
+bend-range cos5 q4 (Between lower upper) = bend-at cos5 q4 lower ++ bend-at cos5 q4 upper
+
+unfoldable pub bend-range-holds : Ray → Range → Bool
+bend-range-holds q4 Nothing = true
+bend-range-holds q4 (Between lower upper) = bend-at-holds q4 lower && bend-at-holds q4 upper
+
+-- the reference and, with limits, their centre and ends
+unfoldable pub bend-marks : Trig → Ray → Marks → List Float
+bend-marks cos5 q4 m = bend-at cos5 q4 (m .reference) ++ pick (m .limited) (bend-at cos5 q4 (m .center) ++ bend-range cos5 q4 (m .range)) []
+
+unfoldable pub bend-marks-hold : Ray → Marks → Bool
+bend-marks-hold q4 m = pick (m .limited) (bend-at-holds q4 (m .reference) && (bend-at-holds q4 (m .center) && bend-range-holds q4 (m .range))) (bend-at-holds q4 (m .reference))
+
+-- All of them: the free joint's reference, the poles, joints 4, 5 and 6, the centre of the free joint's limits.
+unfoldable pub all-roots : Wrist → Float → Marks → Marks → Sixth → Float → List Float
+all-roots w near m4 m5 m6 center = ((((near ∷ [] ++ poles (w .cos5)) ++ ray-marks (w .q4) m4) ++ bend-marks (w .cos5) (w .q4) m5) ++ sixth-roots w m4 m6) ++ center ∷ []
+
+unfoldable pub all-roots-hold : Wrist → Marks → Bool
+all-roots-hold w m5 = bend-marks-hold (w .q4) m5

@@ -1,0 +1,109 @@
+-- Laws of the cuts that curves give, for the loops over them: one more root, one more curve. Assumes nothing.
+use mathlib.Core.Path.{_≡_, sym, ap, subst, _∙_}
+use mathlib.Core.Bool.{Bool, true, false, _&&_}
+use mathlib.Core.List.{List, [], _∷_, _++_}
+use Prim.Native.Nat.{ℕ, _+_, _≤_, _<_}
+use native.Mathlib.Numerals.{add-one}
+use lib.ListN.{length, take, getD}
+use lib.Seq.{slice, slice-cons, slice-empty}
+use lib.Ieee.{Float, nan}
+use Rattle.float.specs.Number.{_⊕_, _⊗_, two-float}
+use Rattle.float.specs.Trig.{atan}
+use Rattle.polynomial.specs.Curve.{numerator, harmonic-a, harmonic-b, harmonic-c}
+use Rattle.polynomial.specs.declared.compensated.Compensated.{Compensated}
+use Rattle.polynomial.specs.declared.curve.Curve.{Curve}
+use Rattle.polynomial.specs.declared.cuts.Put.{Put}
+use Rattle.polynomial.specs.declared.curve.Numerators.{Numerators}
+use Rattle.sampling.specs.CriticalSlices.{angles, chart-roots, chart-holds, Polynomials, polynomials, tangency, intersection, meetings, meetings-hold, critical, critical-holds}
+use Rattle.sampling.specs.Grown.{Grown}
+use Rattle.sampling.specs.Laws.Grown.{then}
+use Rattle.sampling.specs.Numerators.{first-three}
+use Rattle.sampling.specs.declared.critical_slices.Chart.{Chart}
+
+module _ (origin : Float) (l : List Float) (i n : ℕ) where
+  pub angles-next : i < n → n ≤ length l → angles origin (slice i n l) ≡ (origin ⊕ two-float ⊗ atan (getD l i nan)) ∷ [] ++ angles origin (slice (i + 1) n l)
+  unfolding angles
+  angles-next h b = rw (add-one, slice-cons i n l nan h b)
+
+  pub angles-end : i ≡ n → angles origin (slice i n l) ≡ []
+  unfolding angles
+  angles-end e = rw (e, slice-empty n l)
+
+pub numerators-are : (r : Numerators) (q : Curve) (origin : Float) →
+    (take 3 (r .a) ≡ numerator (harmonic-a q) origin) × (take 3 (r .b) ≡ numerator (harmonic-b q) origin) × (take 3 (r .c) ≡ numerator (harmonic-c q) origin) →
+    first-three r ≡ polynomials q origin
+numerators-are r q origin e = λ i. record { a = e .0 i; b = e .1 i; c = e .2 i }
+
+-- the polynomials of a curve, where the code has its numerators
+module _ (r : Numerators) (q : Curve) (origin : Float)
+    (e : (take 3 (r .a) ≡ numerator (harmonic-a q) origin) × (take 3 (r .b) ≡ numerator (harmonic-b q) origin) × (take 3 (r .c) ≡ numerator (harmonic-c q) origin)) where
+  pub intersection-is : (k : Polynomials) (p : List Compensated) → p ≡ intersection k (first-three r) → p ≡ intersection k (polynomials q origin)
+  intersection-is k p f = f ∙ ap (intersection k) (numerators-are r q origin e)
+
+-- a curve alone and with later ones, where the code has its numerators
+module _ (c : Chart) (r : Numerators) (q : Curve) (later : List Curve) (p : List Compensated)
+    (e :
+    (take 3 (r .a) ≡ numerator (harmonic-a q) (c .origin)) × (take 3 (r .b) ≡ numerator (harmonic-b q) (c .origin)) × (take 3 (r .c) ≡ numerator (harmonic-c q) (c .origin)))
+    (f : p ≡ tangency (first-three r)) where
+  abbrev k : Polynomials
+  k = polynomials q (c .origin)
+
+  are : first-three r ≡ k
+  are = numerators-are r q (c .origin) e
+
+  pub both-hold : (g h : Bool) → g ≡ chart-holds c p → h ≡ meetings-hold c (first-three r) later → (g && h) ≡ (chart-holds c (tangency k) && meetings-hold c k later)
+  both-hold g h x y = rw (x, y, f, are)
+
+  pub both-grown : {w w′ w″ : List Float} {s s′ s″ : Put} → Grown (chart-roots c p) w s w′ s′ → Grown (meetings c (first-three r) later) w′ s′ w″ s″ → Grown (chart-roots c (tangency k) ++ meetings c k later) w s w″ s″
+  both-grown {w} {w′} {w″} {s} {s′} {s″} x y =
+      then
+      (subst (λ (z : List Compensated). Grown (chart-roots c z) w s w′ s′) (f ∙ ap tangency are) x)
+      (subst (λ (z : Polynomials). Grown (meetings c z later) w′ s′ w″ s″) are y)
+
+module _ (c : Chart) (l : List Curve) (i n : ℕ) (d : Curve) (h : i < n) (b : n ≤ length l) where
+  module _ (k : Polynomials) where
+    pub meetings-next : meetings c k (slice i n l) ≡ chart-roots c (intersection k (polynomials (getD l i d) (c .origin))) ++ meetings c k (slice (i + 1) n l)
+    unfolding meetings
+    meetings-next = rw (add-one, slice-cons i n l d h b)
+
+    pub meetings-hold-next : meetings-hold c k (slice i n l) ≡ (chart-holds c (intersection k (polynomials (getD l i d) (c .origin))) && meetings-hold c k (slice (i + 1) n l))
+    unfolding meetings-hold
+    meetings-hold-next = rw (add-one, slice-cons i n l d h b)
+
+  pub critical-next :
+      critical c (slice i n l)
+      ≡ (chart-roots c (tangency (polynomials (getD l i d) (c .origin))) ++ meetings c (polynomials (getD l i d) (c .origin)) (slice (i + 1) n l)) ++ critical c (slice (i + 1) n l)
+  unfolding critical
+  critical-next = rw (add-one, slice-cons i n l d h b)
+
+  pub critical-holds-next :
+      critical-holds c (slice i n l)
+      ≡ ((chart-holds c (tangency (polynomials (getD l i d) (c .origin))) && meetings-hold c (polynomials (getD l i d) (c .origin)) (slice (i + 1) n l)) && critical-holds c (slice (i + 1) n l))
+  unfolding critical-holds
+  critical-holds-next = rw (add-one, slice-cons i n l d h b)
+
+-- one more part of what has to hold
+pub holds-next : (h g x y z w : Bool) → (h && z) ≡ w → z ≡ (x && y) → g ≡ x → ((h && g) && y) ≡ w
+holds-next true g x y z w p q r = ap (λ (b : Bool). b && y) r ∙ sym q ∙ p
+holds-next false g x y z w p q r = p
+
+pub holds-end : (h y w : Bool) → (h && y) ≡ w → y ≡ true → h ≡ w
+holds-end true y w p q = sym q ∙ p
+holds-end false y w p q = p
+
+module _ (c : Chart) (l : List Curve) (i n : ℕ) (e : i ≡ n) where
+  pub meetings-end : (k : Polynomials) → meetings c k (slice i n l) ≡ []
+  unfolding meetings
+  meetings-end k = rw (e, slice-empty n l)
+
+  pub meetings-hold-end : (k : Polynomials) → meetings-hold c k (slice i n l) ≡ true
+  unfolding meetings-hold
+  meetings-hold-end k = rw (e, slice-empty n l)
+
+  pub critical-end : critical c (slice i n l) ≡ []
+  unfolding critical
+  critical-end = rw (e, slice-empty n l)
+
+  pub critical-holds-end : critical-holds c (slice i n l) ≡ true
+  unfolding critical-holds
+  critical-holds-end = rw (e, slice-empty n l)

@@ -1,0 +1,82 @@
+-- The cuts of a half as those of one list of values, which all fit. Assumes nothing.
+use mathlib.Core.Path.{_≡_}
+use mathlib.Core.Bool.{Bool, true, false}
+use mathlib.Core.List.{List, [], _∷_, _++_}
+use lib.Dec.{T}
+use lib.Ieee.{Float, binary64, neg, le, fits}
+use lib.Ieee.Fits.{add-fits}
+use Rattle.float.specs.Number.{_⊕_, _⊗_, zero-float, one-float, two-float}
+use Rattle.float.specs.Trig.{atan}
+use Rattle.polynomial.specs.Angle.{turn}
+use Rattle.polynomial.specs.Cuts.{cuts}
+use Rattle.polynomial.specs.Curve.{inner-holds}
+use Rattle.polynomial.specs.Roots.{roots}
+use Rattle.polynomial.specs.Laws.Cuts.{Fit, fit-append, cuts-left}
+use Rattle.polynomial.specs.declared.compensated.Compensated.{Compensated}
+use Rattle.polynomial.specs.declared.curve.Curve.{Curve}
+use Rattle.sampling.specs.Constraints.{pick}
+use Rattle.sampling.specs.Samples.{inside, turns, all-turns}
+use Rattle.sampling.specs.CriticalSlices.{chart, angles, chart-roots, Polynomials, polynomials, tangency, intersection, meetings, critical}
+use Rattle.sampling.specs.J1j2free.{curves, bends, critical-slices, half-cuts}
+use Rattle.sampling.specs.Halving.{half-values}
+use Rattle.sampling.specs.declared.critical_slices.Chart.{Chart}
+use Rattle.sampling.specs.declared.j1j2free.Folded.{Folded}
+
+-- ---- the values fit
+
+picked : (b : Bool) (l : List Float) → Fit l → Fit (pick b l [])
+picked true l f = f
+picked false l f = tt
+
+angles-fit : (origin : Float) (l : List Float) → Fit (angles origin l)
+unfolding angles
+angles-fit origin [] = tt
+angles-fit origin (u ∷ l) = (add-fits binary64 origin (two-float ⊗ atan u), angles-fit origin l)
+
+chart-roots-fit : (c : Chart) (p : List Compensated) → Fit (chart-roots c p)
+unfolding chart-roots
+chart-roots-fit c p =
+    let l = angles (c .origin) (roots p (c .lower) (c .upper)) in
+    picked (inner-holds p (c .lower) (c .upper)) l (angles-fit (c .origin) (roots p (c .lower) (c .upper)))
+
+meetings-fit : (c : Chart) (k : Polynomials) (l : List Curve) → Fit (meetings c k l)
+unfolding meetings
+meetings-fit c k [] = tt
+meetings-fit c k (d ∷ l) = let p = intersection k (polynomials d (c .origin)) in fit-append (chart-roots c p) (meetings c k l) (chart-roots-fit c p) (meetings-fit c k l)
+
+pub critical-fit : (c : Chart) (l : List Curve) → Fit (critical c l)
+unfolding critical
+critical-fit c [] = tt
+critical-fit c (d ∷ l) =
+    let k = polynomials d (c .origin) in
+    let alone = chart-roots c (tangency k) in
+    fit-append (alone ++ meetings c k l) (critical c l) (fit-append alone (meetings c k l) (chart-roots-fit c (tangency k)) (meetings-fit c k l)) (critical-fit c l)
+
+inside-fit : (lower upper angle : Float) → T (fits binary64 angle) → Fit (inside lower upper angle)
+unfolding inside
+inside-fit lower upper angle f = picked (le lower angle) (pick (le angle upper) (angle ∷ []) []) (picked (le angle upper) (angle ∷ []) (f, tt))
+
+turns-fit : (lower upper angle : Float) → Fit (turns lower upper angle)
+unfolding turns
+turns-fit lower upper angle =
+    let at : Float → List Float = λ w. inside lower upper (angle ⊕ w ⊗ turn) in
+    let fit : (w : Float) → Fit (at w) = λ w. inside-fit lower upper (angle ⊕ w ⊗ turn) (add-fits binary64 angle (w ⊗ turn)) in
+    fit-append (at (neg one-float) ++ at zero-float) (at one-float) (fit-append (at (neg one-float)) (at zero-float) (fit (neg one-float)) (fit zero-float)) (fit one-float)
+
+pub all-turns-fit : (lower upper : Float) (l : List Float) → Fit (all-turns lower upper l)
+unfolding all-turns
+all-turns-fit lower upper [] = tt
+all-turns-fit lower upper (a ∷ l) = fit-append (turns lower upper a) (all-turns lower upper l) (turns-fit lower upper a) (all-turns-fit lower upper l)
+
+-- ---- one list
+
+module _ (t : Folded) (lower upper : Float) (f : T (fits binary64 lower)) (g : T (fits binary64 upper)) where
+  ends-fit : Fit ((lower ∷ [] ++ upper ∷ []) ++ critical (chart lower upper) (curves t))
+  ends-fit = fit-append (lower ∷ [] ++ upper ∷ []) (critical (chart lower upper) (curves t)) (f, (g, tt)) (critical-fit (chart lower upper) (curves t))
+
+  pub half-fit : Fit (half-values (curves t) (bends t) lower upper)
+  half-fit = fit-append ((lower ∷ [] ++ upper ∷ []) ++ critical (chart lower upper) (curves t)) (all-turns lower upper (bends t)) ends-fit (all-turns-fit lower upper (bends t))
+
+  pub half-cuts-are : half-cuts t lower upper ≡ cuts (half-values (curves t) (bends t) lower upper)
+  unfolding half-cuts critical-slices
+  half-cuts-are = cuts-left ((lower ∷ [] ++ upper ∷ []) ++ critical (chart lower upper) (curves t)) (all-turns lower upper (bends t)) ends-fit (all-turns-fit lower upper (bends t))

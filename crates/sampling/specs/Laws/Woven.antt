@@ -1,0 +1,54 @@
+-- What the stream asks of a list holds of the cuts of values within ±64: each middle stands between its neighbours, and all are numbers. Assumes nothing.
+use native.Mathlib.Omega.{arith}
+use mathlib.Core.Path.{_≡_}
+use mathlib.Core.Bool.{false, not}
+use mathlib.Core.List.{List, [], _∷_}
+use lib.IntN.{pos}
+use lib.Dec.{T}
+use lib.Ieee.{Float, fin, binary64, eq, fits, isNan}
+use Rattle.float.specs.Number.{middle, total-le}
+use Rattle.float.specs.Laws.Total.{total-le-refl}
+use Rattle.float.specs.Laws.Within.{Within}
+use Rattle.float.specs.Laws.Range.{lt→Le}
+use Rattle.float.specs.Laws.Middle.{Span, middle-within}
+use Rattle.polynomial.specs.Cuts.{cuts}
+use Rattle.polynomial.specs.Laws.Cuts.{From, Fit, Above, Strict, from-sorted, fit-cuts, strict-cuts}
+use Rattle.polynomial.specs.Laws.Enclosed.{All, all-cuts, number, less}
+use Rattle.sampling.specs.Stream.{weave, Woven}
+use Rattle.sampling.specs.Laws.Between.{middle-above, middle-below}
+
+-- at most 64 in size
+abbrev pub Small : Float → Type 0
+Small x = Within (fin false 1 (pos 6)) x
+
+-- two neighbours
+record Pair (x y : Float) : Type 0 where
+  above : T (total-le x (middle x y))
+  below : T (total-le (middle x y) y)
+  number-it : T (not (isNan (middle x y)))
+
+pair : (x y : Float) → T (fits binary64 x) → T (fits binary64 y) → Small x → Small y → T (total-le x y) → eq y x ≡ false → Pair x y
+pair x y fx fy hx hy t e =
+    let l = less x y (hy .real) t e in
+    let s : Span 6 x y = record { room = omega arith; lo-fits = fx; hi-fits = fy; lo-within = hx; hi-within = hy; order = lt→Le x y (hx .real) (hy .real) l } in
+    record { above = middle-above s l; below = middle-below s l; number-it = number (middle x y) (middle-within s .real) }
+
+-- p stands before x
+behind : (p x : Float) (l : List Float) → T (total-le p x) → T (fits binary64 x) → Fit l → Small x → All Small l → Above x l
+    → From p (weave (x ∷ l)) × All (λ z. T (not (isNan z))) (weave (x ∷ l))
+unfolding weave
+behind p x [] t fx f hx h a = ((t, tt), (number x (hx .real), tt))
+behind p x (y ∷ l) t fx f hx h a =
+    let m = pair x y fx (f .0) hx (h .0) (a .0) (a .1) in
+    let i = behind (middle x y) y l (m .below) (f .0) (f .1) (h .0) (h .1) (a .2) in
+    ((t, (m .above, i .0)), (number x (hx .real), (m .number-it, i .1)))
+
+strict-woven : (l : List Float) → Fit l → All Small l → Strict l → Woven l
+strict-woven [] f h a = record { order = unfold weave in tt; numbers = unfold weave in tt }
+strict-woven (x ∷ l) f h a =
+    let b = behind x x l (total-le-refl x) (f .0) (f .1) (h .0) (h .1) a in
+    record { order = from-sorted x (weave (x ∷ l)) (b .0); numbers = b .1 }
+
+-- THE LAW: the cuts of such values can be streamed
+pub cuts-woven : (l : List Float) → Fit l → All Small l → Woven (cuts l)
+cuts-woven l f h = strict-woven (cuts l) (fit-cuts l f) (all-cuts Small l h) (strict-cuts l)

@@ -1,0 +1,73 @@
+-- From the boundary angles of one free joint to its samples: the end of `sample_angles` of continuum.rs (01, module 5). Cuts: each interval's list after its dedup. Definitions only.
+use mathlib.Core.Bool.{Bool, true, false}
+use mathlib.Core.List.{List, [], _∷_, _++_}
+use Prim.Native.Nat.{ℕ, zero, suc, _*_}
+use lib.IntN.{pos}
+use lib.Ieee.{Float, fin, neg, le}
+use lib.Ieee.Scale.{finite}
+use Rattle.float.specs.Number.{_⊕_, _⊖_, _⊗_, _⊘_, abs, minimum, maximum, middle, zero-float, one-float}
+use Rattle.polynomial.specs.Angle.{turn}
+use Rattle.polynomial.specs.Cuts.{cuts}
+use Rattle.sampling.specs.Constraints.{pick}
+use Rattle.sampling.specs.Continuum.{root-roundoff}
+use Rattle.sampling.specs.declared.intervals.Range.{Range}
+use Rattle.sampling.specs.declared.intervals.Range.the-variants.{Nothing, Between}
+
+-- an angle where it lies in the interval, ends included
+unfoldable pub inside : Float → Float → Float → List Float
+inside lower upper angle = pick (le lower angle) (pick (le angle upper) (angle ∷ []) []) []
+
+-- an angle, a turn below, as it is and a turn above
+unfoldable pub turns : Float → Float → Float → List Float
+turns lower upper angle =
+    (inside lower upper (angle ⊕ neg one-float ⊗ turn) ++ inside lower upper (angle ⊕ zero-float ⊗ turn)) ++ inside lower upper (angle ⊕ one-float ⊗ turn)
+
+unfoldable pub all-turns : Float → Float → List Float → List Float
+all-turns lower upper [] = []
+all-turns lower upper (angle ∷ angles) = turns lower upper angle ++ all-turns lower upper angles
+
+-- a root counts if it is finite
+unfoldable pub windings : Float → Float → Float → List Float
+windings lower upper root = pick (finite root) (turns lower upper root) []
+
+unfoldable pub all-windings : Float → Float → List Float → List Float
+all-windings lower upper [] = []
+all-windings lower upper (root ∷ roots) = windings lower upper root ++ all-windings lower upper roots
+
+-- the ends of a displacement interval around the reference, and the roots between them
+unfoldable pub interval-values : Float → List Float → Range → List Float
+interval-values near roots Nothing = []
+interval-values near roots (Between lower upper) =
+    ((near ⊕ lower) ∷ [] ++ (near ⊕ upper) ∷ []) ++ all-windings (near ⊕ lower) (near ⊕ upper) roots
+
+unfoldable pub interval-cuts : Float → List Float → Range → List Float
+interval-cuts near roots range = cuts (interval-values near roots range)
+
+abbrev four-float : Float
+four-float = fin false 1 (pos 2)
+
+-- How far inside a pair of neighbouring cuts the outer samples lie.
+unfoldable pub inset : Float → Float → Float
+inset lower upper = minimum (root-roundoff ⊗ (one-float ⊕ maximum (abs lower) (abs upper))) ((upper ⊖ lower) ⊘ four-float)
+
+-- three samples between two neighbours
+unfoldable pub between : Float → Float → List Float
+between lower upper = (lower ⊕ inset lower upper) ∷ (middle lower upper ∷ ((upper ⊖ inset lower upper) ∷ []))
+
+unfoldable pub all-between : List Float → List Float
+all-between [] = []
+all-between (a ∷ []) = []
+all-between (a ∷ (b ∷ l)) = between a b ++ all-between (b ∷ l)
+
+-- The cuts, then the samples between neighbours.
+unfoldable pub samples : List Float → List Float
+samples l = l ++ all-between l
+
+-- how many: no cut, no sample; else four for each cut but three
+abbrev pub sample-count : ℕ → ℕ
+sample-count zero = 0
+sample-count (suc k) = suc (4 * k)
+
+-- the samples of three intervals, one after the other
+unfoldable pub three-samples : List Float → List Float → List Float → List Float
+three-samples a b c = (samples a ++ samples b) ++ samples c

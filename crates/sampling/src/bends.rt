@@ -1,0 +1,163 @@
+// The boundary angles of joint 5, and all boundary angles in order, from src/singularity/continuum.rs,
+// pushed after the first n numbers of a lent slice.
+ghost use mathlib.Core.Path.{_≡_};
+ghost use Prim.Native.Nat.{_+_, _≤_};
+ghost use lib.ListN.{length};
+ghost use Rattle.polynomial.specs.Curve.{squared-norm-holds};
+ghost use Rattle.sampling.specs.Pushed.{Pushed};
+ghost use Rattle.sampling.specs.Bends as Of;
+use crate::continuum::Trig;
+use crate::intervals::Range;
+use crate::marks::Marks;
+use crate::marks::Sixth;
+use crate::rays::poles;
+use crate::rays::push;
+use crate::rays::ray_marks;
+use crate::rays::roots;
+use crate::rays::sixth_roots;
+use crate::wrist::Ray;
+use crate::wrist::Wrist;
+use float::number::abs;
+use float::number::is_finite;
+use float::trig::sin_cos;
+use polynomial::curve::Harmonic;
+use polynomial::norm::Inner;
+use polynomial::norm::squared_norm_roots;
+
+// How many numbers stand in the slice now, and whether no inner call of the root finder was refused.
+pub struct Counted {
+    pub count: usize,
+    pub holds: bool,
+}
+
+// Roots of x(angle)^2 + y(angle)^2 = norm^2; none where the root finder refuses.
+pub(crate) fn norm_roots(x: Harmonic, y: Harmonic, norm: f64, out: &mut [f64], n: usize) -> Counted
+    requires { ⌜ n + 58 ≤ length (now out) ⌝ }
+    ensures { λ r. ⌜ (r .holds ≡ squared-norm-holds x y norm) × Pushed 58 (Of.norm-roots x y norm) n (now (out .entry)) (r .count) (now (out .exit)) ⌝ }
+{
+    let answer = squared_norm_roots(x, y, norm, &mut out[n..]);
+    match answer {
+        Inner::Count(m) => Counted {
+            count: n + m,
+            holds: true,
+        },
+        Inner::Refused => Counted {
+            count: n,
+            holds: false,
+        },
+    }
+}
+
+fn harmonic(t: Trig) -> Harmonic
+    ensures { λ r. ⌜ r ≡ Of.harmonic t ⌝ }
+{
+    Harmonic {
+        constant: t.constant,
+        cosine: t.cosine,
+        sine: t.sine,
+    }
+}
+
+// Close to a pole.
+fn narrow(sine: f64) -> bool
+    ensures { λ r. ⌜ r ≡ Of.narrow sine ⌝ }
+{
+    if 0.0 < sine {
+        return sine < 1.0e-4;
+    }
+    false
+}
+
+// Where joint 5 is bent by an angle; narrow ranges near the poles are kept.
+fn bend_roots(cos5: Trig, q4: Ray, angle: f64, out: &mut [f64], n: usize) -> Counted
+    requires { ⌜ n + 60 ≤ length (now out) ⌝ }
+    ensures { λ r. ⌜ (r .holds ≡ Of.bend-roots-hold q4 angle) × Pushed 60 (Of.bend-roots cos5 q4 angle) n (now (out .entry)) (r .count) (now (out .exit)) ⌝ }
+{
+    let a = sin_cos(angle);
+    let m = roots(cos5, a.cosine, out, n);
+    let sine = abs(a.sine);
+    if narrow(sine) {
+        return norm_roots(harmonic(q4.x), harmonic(q4.y), sine, out, m);
+    }
+    Counted {
+        count: m,
+        holds: true,
+    }
+}
+
+// An angle counts if it is finite.
+fn bend_at(cos5: Trig, q4: Ray, angle: f64, out: &mut [f64], n: usize) -> Counted
+    requires { ⌜ n + 60 ≤ length (now out) ⌝ }
+    ensures { λ r. ⌜ (r .holds ≡ Of.bend-at-holds q4 angle) × Pushed 60 (Of.bend-at cos5 q4 angle) n (now (out .entry)) (r .count) (now (out .exit)) ⌝ }
+{
+    if is_finite(angle) {
+        return bend_roots(cos5, q4, angle, out, n);
+    }
+    Counted {
+        count: n,
+        holds: true,
+    }
+}
+
+fn bend_range(cos5: Trig, q4: Ray, range: Range, out: &mut [f64], n: usize) -> Counted
+    requires { ⌜ n + 120 ≤ length (now out) ⌝ }
+    ensures { λ r. ⌜ (r .holds ≡ Of.bend-range-holds q4 range) × Pushed 120 (Of.bend-range cos5 q4 range) n (now (out .entry)) (r .count) (now (out .exit)) ⌝ }
+{
+    match range {
+        Range::Nothing => Counted {
+            count: n,
+            holds: true,
+        },
+        Range::Between(a, b) => {
+            let first = bend_at(cos5, q4, a, out, n);
+            let second = bend_at(cos5, q4, b, out, first.count);
+            Counted {
+                count: second.count,
+                holds: first.holds & second.holds,
+            }
+        }
+    }
+}
+
+// The reference and, with limits, their centre and ends.
+fn bend_marks(cos5: Trig, q4: Ray, marks: Marks, out: &mut [f64], n: usize) -> Counted
+    requires { ⌜ n + 240 ≤ length (now out) ⌝ }
+    ensures { λ r. ⌜ (r .holds ≡ Of.bend-marks-hold q4 marks) × Pushed 240 (Of.bend-marks cos5 q4 marks) n (now (out .entry)) (r .count) (now (out .exit)) ⌝ }
+{
+    let first = bend_at(cos5, q4, marks.reference, out, n);
+    if marks.limited {
+        let second = bend_at(cos5, q4, marks.center, out, first.count);
+        let range = marks.range;
+        let ends = bend_range(cos5, q4, range, out, second.count);
+        return Counted {
+            count: ends.count,
+            holds: first.holds & (second.holds & ends.holds),
+        };
+    }
+    first
+}
+
+// All boundary angles of a free joint whose reference is near, in the front of out.
+pub(crate) fn all_roots(
+    w: Wrist,
+    near: f64,
+    fourth: Marks,
+    fifth: Marks,
+    sixth: Sixth,
+    center: f64,
+    out: &mut [f64],
+) -> Counted
+    requires { ⌜ 282 ≤ length (now out) ⌝ }
+    ensures { λ r. ⌜ (r .holds ≡ Of.all-roots-hold w fifth) × Pushed 282 (Of.all-roots w near fourth fifth sixth center) 0 (now (out .entry)) (r .count) (now (out .exit)) ⌝ }
+{
+    let n1 = push(near, out, 0);
+    let n2 = poles(w.cos5, out, n1);
+    let n3 = ray_marks(w.q4, fourth, out, n2);
+    let bends = bend_marks(w.cos5, w.q4, fifth, out, n3);
+    let n4 = sixth_roots(w, fourth, sixth, out, bends.count);
+    let n5 = push(center, out, n4);
+    Counted {
+        count: n5,
+        holds: bends.holds,
+    }
+}

@@ -1,0 +1,170 @@
+// The cuts of joint 1 at the intersections and the vertical tangencies of curves, from
+// src/singularity/j1j2free.rs, put into the cuts in a lent slice.
+ghost use mathlib.Core.Path.{_≡_};
+ghost use Prim.Native.Nat.{_+_, _-_, _≤_, _<_};
+ghost use lib.ListN.{length, take};
+ghost use lib.Seq.{slice};
+ghost use Rattle.sampling.specs.Grown.{Grown};
+ghost use Rattle.sampling.specs.CriticalSlices as Of;
+ghost use Rattle.sampling.specs.Numerators.{first-three};
+use crate::work::push;
+use float::arc::atan;
+use float::number::middle;
+use float::trig::tan;
+use polynomial::arithmetic::add;
+use polynomial::arithmetic::determinant;
+use polynomial::arithmetic::multiply;
+use polynomial::compensated::Compensated;
+use polynomial::curve::Curve;
+use polynomial::curve::Numerators;
+use polynomial::cuts::Put;
+use polynomial::norm::Inner;
+use polynomial::norm::inner_roots;
+
+// The chart u = tan((q1 - origin) / 2): its origin and its bounds.
+pub struct Chart {
+    pub origin: f64,
+    pub lower: f64,
+    pub upper: f64,
+}
+
+// The cuts in the slice, and whether no inner call of the root finder was refused.
+pub struct Grew {
+    pub cuts: Put,
+    pub holds: bool,
+}
+
+// The chart of a part of joint 1's interval.
+pub(crate) fn chart_of(lower: f64, upper: f64) -> Chart
+    ensures { λ r. ⌜ r ≡ Of.chart lower upper ⌝ }
+{
+    let origin = middle(lower, upper);
+    Chart {
+        origin,
+        lower: tan((lower - origin) / 2.0),
+        upper: tan((upper - origin) / 2.0),
+    }
+}
+
+// The angles of the first n roots.
+fn angles(work: &mut [f64], cuts: Put, origin: f64, roots: &[f64], n: usize) -> Put
+    requires { ⌜ n ≤ length (now roots) ⌝ }
+    ensures { λ r. ⌜ Grown (Of.angles origin (take n (now (roots .entry)))) (now (work .entry)) cuts (now (work .exit)) r ⌝ }
+{
+    let mut state = cuts;
+    let mut i = 0;
+    while i < n {
+        let u = roots[i];
+        i += 1;
+        state = push(work, state, origin + 2.0 * atan(u));
+    }
+    state
+}
+
+// An inner call of the root finder, for the first n coefficients.
+fn chart_roots(work: &mut [f64], cuts: Put, c: Chart, p: [Compensated; 9], n: usize) -> Grew
+    requires { ⌜ n ≤ 9 ⌝ }
+    ensures { λ r. ⌜ (r .holds ≡ Of.chart-holds c (take n p)) × Grown (Of.chart-roots c (take n p)) (now (work .entry)) cuts (now (work .exit)) (r .cuts) ⌝ }
+{
+    let mut found = [0.0; 512];
+    let answer = inner_roots(p, n, c.lower, c.upper, &mut found);
+    match answer {
+        Inner::Count(m) => {
+            let state = angles(work, cuts, c.origin, &found, m);
+            Grew {
+                cuts: state,
+                holds: true,
+            }
+        }
+        Inner::Refused => Grew { cuts, holds: false },
+    }
+}
+
+// p * p + q * q - r * r, of n coefficients each.
+fn squares(
+    p: [Compensated; 9],
+    q: [Compensated; 9],
+    r: [Compensated; 9],
+    n: usize,
+) -> [Compensated; 9]
+    requires { ⌜ (0 < n) × (n ≤ 5) ⌝ }
+    ensures { λ s. ⌜ take (n + n - 1) s ≡ Of.squares (take n p) (take n q) (take n r) ⌝ }
+{
+    let m = n + n - 1;
+    let sum = add(multiply(p, n, p, n), multiply(q, n, q, n), m, 1.0);
+    add(sum, multiply(r, n, r, n), m, -1.0)
+}
+
+// The polynomial of a curve's vertical tangencies, in the first five places.
+fn tangency(k: Numerators) -> [Compensated; 9]
+    ensures { λ r. ⌜ take 5 r ≡ Of.tangency (first-three k) ⌝ }
+{
+    let a = k.a;
+    let b = k.b;
+    let c = k.c;
+    squares(a, b, c, 3)
+}
+
+// The polynomial of the intersections of two curves, in all nine places.
+fn intersection(k: Numerators, l: Numerators) -> [Compensated; 9]
+    ensures { λ r. ⌜ take 9 r ≡ Of.intersection (first-three k) (first-three l) ⌝ }
+{
+    let a = k.a;
+    let b = k.b;
+    let c = k.c;
+    let d = l.a;
+    let e = l.b;
+    let f = l.c;
+    let denominator = determinant(a, e, d, b, 3, 3);
+    let cosine = determinant(b, f, e, c, 3, 3);
+    let sine = determinant(c, d, f, a, 3, 3);
+    squares(cosine, sine, denominator, 5)
+}
+
+// A curve with each of the curves from `first` on.
+fn meetings(
+    work: &mut [f64],
+    cuts: Put,
+    c: Chart,
+    k: Numerators,
+    at: [Curve; 18],
+    first: usize,
+    n: usize,
+) -> Grew
+    requires { ⌜ (first ≤ n) × (n ≤ 18) ⌝ }
+    ensures { λ r. ⌜ (r .holds ≡ Of.meetings-hold c (first-three k) (slice first n at)) × Grown (Of.meetings c (first-three k) (slice first n at)) (now (work .entry)) cuts (now (work .exit)) (r .cuts) ⌝ }
+{
+    let mut state = cuts;
+    let mut holds = true;
+    let mut j = first;
+    while j < n {
+        let l = at[j];
+        j += 1;
+        let p = intersection(k, l.polynomials(c.origin));
+        let grew = chart_roots(work, state, c, p, 9);
+        state = grew.cuts;
+        holds = holds & grew.holds;
+    }
+    Grew { cuts: state, holds }
+}
+
+// Each of the first n curves alone, then with each later one.
+pub(crate) fn critical(work: &mut [f64], cuts: Put, c: Chart, at: [Curve; 18], n: usize) -> Grew
+    requires { ⌜ n ≤ 18 ⌝ }
+    ensures { λ r. ⌜ (r .holds ≡ Of.critical-holds c (take n at)) × Grown (Of.critical c (take n at)) (now (work .entry)) cuts (now (work .exit)) (r .cuts) ⌝ }
+{
+    let mut state = cuts;
+    let mut holds = true;
+    let mut i = 0;
+    while i < n {
+        let curve = at[i];
+        i += 1;
+        let k = curve.polynomials(c.origin);
+        let alone = chart_roots(work, state, c, tangency(k), 5);
+        let before = alone.cuts;
+        let met = meetings(work, before, c, k, at, i, n);
+        state = met.cuts;
+        holds = holds & (alone.holds & met.holds);
+    }
+    Grew { cuts: state, holds }
+}

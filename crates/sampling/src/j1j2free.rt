@@ -1,0 +1,184 @@
+// Two free joints: `search` of src/singularity/j1j2free.rs, up to the cuts of both halves; `stream`
+// yields the slices.
+ghost use mathlib.Core.Path.{_≡_};
+ghost use mathlib.Core.List.{_++_};
+ghost use Prim.Native.Nat.{_≤_};
+ghost use lib.ListN.{length, take};
+ghost use Rattle.polynomial.specs.Laws.Held.{Kept};
+ghost use Rattle.sampling.specs.Constraints.{pick};
+ghost use Rattle.sampling.specs.CriticalSlices.{chart, critical-holds};
+ghost use Rattle.sampling.specs.Halving.{half-values, halving, cut-answer, both-halves, filled, listed, start, both};
+ghost use Rattle.sampling.specs.J1j2free as Of;
+ghost use Rattle.sampling.specs.declared.j1j2free.Halving.the-variants as answer;
+use crate::bend_slices::bend_slices;
+use crate::boundaries::Curves;
+use crate::boundaries::boundaries;
+use crate::boundaries::wrist_limits;
+use crate::critical_slices::Grew;
+use crate::critical_slices::chart_of;
+use crate::critical_slices::critical;
+use crate::intervals::Range;
+use crate::job::Job;
+use crate::job::Joint;
+use crate::job::limits;
+use crate::pose::Matrix;
+use crate::samples::all_turns;
+use crate::work::push;
+use float::number::middle;
+use polynomial::angle::wrapped_angle;
+use polynomial::cuts::Put;
+
+// What counts of a job whose joints 1 and 2 are free.
+pub struct Folded {
+    pub matrix: Matrix,
+    pub q3: f64,
+    pub reference: f64,
+    pub range1: Range,
+    pub range2: Range,
+    pub range4: Range,
+    pub range5: Range,
+    pub range6: Range,
+}
+
+// The cuts in work: an inner call of the root finder was refused, there are too few places, joint 1
+// has no interval, or how many cuts each half has.
+pub enum Halving {
+    Refused,
+    Short,
+    Nothing,
+    Halves(usize, usize),
+}
+
+// Joint 1's reference as a model angle; neither it nor the offset is wrapped first.
+fn model_reference(j: Joint) -> f64
+    ensures { λ r. ⌜ r ≡ Of.model-reference j ⌝ }
+{
+    wrapped_angle(j.reference * j.sign - j.offset)
+}
+
+// The limits of joint 6, which may be fixed.
+fn sixth_limits(fixed: bool, limited: bool, j: Joint) -> Range
+    ensures { λ r. ⌜ r ≡ Of.sixth-limits fixed limited j ⌝ }
+{
+    if fixed {
+        return Range::Nothing;
+    }
+    wrist_limits(limited, j)
+}
+
+pub(crate) fn folded_of(m: Matrix, job: Job) -> Folded
+    ensures { λ r. ⌜ r ≡ Of.folded m job ⌝ }
+{
+    let reference = model_reference(job.j1);
+    let range1 = limits(job.limited, job.j1);
+    let range2 = limits(job.limited, job.j2);
+    let range4 = wrist_limits(job.limited, job.j4);
+    let range5 = wrist_limits(job.limited, job.j5);
+    let range6 = sixth_limits(job.fixed, job.limited, job.j6);
+    Folded {
+        matrix: m,
+        q3: job.arm.q3,
+        reference,
+        range1,
+        range2,
+        range4,
+        range5,
+        range6,
+    }
+}
+
+// The cuts of one half, in the front of the slice.
+fn half_cuts(
+    work: &mut [f64],
+    curves: Curves,
+    bends: &[f64],
+    n: usize,
+    lower: f64,
+    upper: f64,
+) -> Grew
+    requires { ⌜ (curves .count ≤ 18) × (n ≤ length (now bends)) ⌝ }
+    ensures { λ r. ⌜ (r .holds ≡ critical-holds (chart lower upper) (take (curves .count) (curves .at))) × Kept (half-values (take (curves .count) (curves .at)) (take n (now (bends .entry))) lower upper) (now (work .entry)) (now (work .exit)) (r .cuts) ⌝ }
+{
+    let c = chart_of(lower, upper);
+    let first = push(work, Put::Count(0), lower);
+    let ends = push(work, first, upper);
+    let count = curves.count;
+    let at = curves.at;
+    let grew = critical(work, ends, c, at, count);
+    let cuts = grew.cuts;
+    let all = all_turns(work, cuts, lower, upper, bends, n);
+    Grew {
+        cuts: all,
+        holds: grew.holds,
+    }
+}
+
+// Where the second half's list starts: behind the first, or, where that has too few places, at the
+// end.
+fn start_of(cuts: Put, end: usize) -> usize
+    ensures { λ r. ⌜ r ≡ start cuts end ⌝ }
+{
+    match cuts {
+        Put::Count(n) => n,
+        Put::Full => end,
+    }
+}
+
+// How both halves' lists came out.
+fn halving_of(first: Put, second: Put) -> Halving
+    ensures { λ r. ⌜ r ≡ both first second ⌝ }
+{
+    match first {
+        Put::Count(a) => match second {
+            Put::Count(b) => Halving::Halves(a, b),
+            Put::Full => Halving::Short,
+        },
+        Put::Full => Halving::Short,
+    }
+}
+
+// The cuts of both halves, one list after the other in the front of work. Every inner call of the
+// root finder is made, whether or not there are places.
+fn cut_halves(work: &mut [f64], t: Folded, lower: f64, upper: f64) -> Halving
+    ensures { λ r. ⌜ r ≡ pick (Of.halves-hold t lower upper) (halving (Of.first-half t lower upper) (Of.second-half t lower upper) (length (now (work .entry)))) answer.Refused ⌝ }
+    ensures { λ r. ⌜ take (filled r) (now (work .exit)) ≡ listed r (Of.first-half t lower upper ++ Of.second-half t lower upper) ⌝ }
+{
+    let range2 = t.range2;
+    let range4 = t.range4;
+    let range5 = t.range5;
+    let range6 = t.range6;
+    let mut bends = [0.0; 256];
+    let found = bend_slices(
+        t.matrix,
+        t.q3,
+        range2,
+        range4,
+        range5,
+        range6,
+        &mut bends,
+        0,
+    );
+    let curves = boundaries(t.matrix, t.q3, range2, range4, range5, range6);
+    let m = middle(lower, upper);
+    let first = half_cuts(work, curves, &bends, found.count, lower, m);
+    let cuts1 = first.cuts;
+    let start = start_of(cuts1, work.len());
+    let second = half_cuts(&mut work[start..], curves, &bends, found.count, m, upper);
+    if found.holds & (first.holds & second.holds) {
+        let cuts2 = second.cuts;
+        return halving_of(cuts1, cuts2);
+    }
+    Halving::Refused
+}
+
+// The cuts of both halves of joint 1's interval, where it has one.
+pub(crate) fn cut(work: &mut [f64], t: Folded) -> Halving
+    ensures { λ r. ⌜ r ≡ cut-answer t (t .range1) (length (now (work .entry))) ⌝ }
+    ensures { λ r. ⌜ take (filled r) (now (work .exit)) ≡ listed r (both-halves t (t .range1)) ⌝ }
+{
+    let range1 = t.range1;
+    match range1 {
+        Range::Nothing => Halving::Nothing,
+        Range::Between(lower, upper) => cut_halves(work, t, lower, upper),
+    }
+}

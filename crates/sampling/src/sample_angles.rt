@@ -1,0 +1,153 @@
+// One free joint: `sample_angles` of src/singularity/continuum.rs, up to the cuts; `lists` reads the
+// samples off them.
+ghost use mathlib.Core.Path.{_≡_};
+ghost use mathlib.Core.List.{_++_};
+ghost use Prim.Native.Nat.{_≤_};
+ghost use lib.ListN.{length, take};
+ghost use Rattle.sampling.specs.Constraints.{pick};
+ghost use Rattle.sampling.specs.Cutting.{cutting, filled, listed};
+ghost use Rattle.sampling.specs.Samples.{interval-cuts};
+ghost use Rattle.sampling.specs.SampleAngles as Of;
+ghost use Rattle.sampling.specs.declared.sample_angles.Cutting.the-variants as answer;
+use crate::bends::all_roots;
+use crate::constraints::Center;
+use crate::constraints::compute_center;
+use crate::continuum::Axes;
+use crate::intervals::Intervals;
+use crate::intervals::wrist_limit_intervals;
+use crate::job::Job;
+use crate::job::Joint;
+use crate::lists::Lists;
+use crate::marks::Marks;
+use crate::marks::Sixth;
+use crate::marks::marks_of;
+use crate::marks::model_angle;
+use crate::pose::Matrix;
+use crate::samples::interval_cuts;
+use crate::wrist::Wrist;
+use crate::wrist::wrist_of;
+use float::number::is_finite;
+use polynomial::cuts::Put;
+
+// What counts of a job with one free joint.
+pub struct Free {
+    pub near: f64,
+    pub limits: Center,
+    pub wrist: Wrist,
+    pub fourth: Marks,
+    pub fifth: Marks,
+    pub sixth: Sixth,
+}
+
+// The cuts in work: an inner call of the root finder was refused, there are too few places, or how
+// many cuts each interval has.
+pub enum Cutting {
+    Refused,
+    Short,
+    Cuts(Lists),
+}
+
+// The free joint's limits as a model angle.
+fn free_limits(limited: bool, j: Joint) -> Center
+    ensures { λ r. ⌜ r ≡ Of.free-limits limited j ⌝ }
+{
+    if limited {
+        let c = compute_center(j.from, j.to);
+        let center = model_angle(j.sign, j.offset, c.center);
+        return Center {
+            center,
+            tolerance: c.tolerance,
+        };
+    }
+    Center {
+        center: 0.0,
+        tolerance: 3.141592653589793,
+    }
+}
+
+// A fixed sixth joint is not read.
+fn sixth_of(fixed: bool, limited: bool, j: Joint) -> Sixth
+    ensures { λ r. ⌜ r ≡ Of.sixth fixed limited j ⌝ }
+{
+    if fixed {
+        return Sixth::Fixed;
+    }
+    Sixth::Turns(marks_of(limited, j))
+}
+
+// What counts of a job whose joint j is free.
+pub(crate) fn free_of(axes: Axes, m: Matrix, job: Job, j: Joint) -> Free
+    ensures { λ r. ⌜ r ≡ Of.free axes m job j ⌝ }
+{
+    let near = model_angle(j.sign, j.offset, j.reference);
+    let limits = free_limits(job.limited, j);
+    let wrist = wrist_of(axes, m);
+    let fourth = marks_of(job.limited, job.j4);
+    let fifth = marks_of(job.limited, job.j5);
+    let sixth = sixth_of(job.fixed, job.limited, job.j6);
+    Free {
+        near,
+        limits,
+        wrist,
+        fourth,
+        fifth,
+        sixth,
+    }
+}
+
+// The cuts of three intervals, one list after the other in the front of work.
+fn cut_intervals(work: &mut [f64], near: f64, three: Intervals, roots: &[f64], n: usize) -> Cutting
+    requires { ⌜ n ≤ length (now roots) ⌝ }
+    ensures { λ r. ⌜ r ≡ cutting (interval-cuts near (take n (now (roots .entry))) (three .first)) (interval-cuts near (take n (now (roots .entry))) (three .second)) (interval-cuts near (take n (now (roots .entry))) (three .third)) (length (now (work .entry))) ⌝ }
+    ensures { λ r. ⌜ take (filled r) (now (work .exit)) ≡ listed r ((interval-cuts near (take n (now (roots .entry))) (three .first) ++ interval-cuts near (take n (now (roots .entry))) (three .second)) ++ interval-cuts near (take n (now (roots .entry))) (three .third)) ⌝ }
+{
+    let range1 = three.first;
+    let Put::Count(first) = interval_cuts(work, near, range1, roots, n) else {
+        return Cutting::Short;
+    };
+    let range2 = three.second;
+    let Put::Count(second) = interval_cuts(&mut work[first..], near, range2, roots, n) else {
+        return Cutting::Short;
+    };
+    let range3 = three.third;
+    let Put::Count(third) = interval_cuts(&mut work[first + second..], near, range3, roots, n)
+    else {
+        return Cutting::Short;
+    };
+    Cutting::Cuts(Lists {
+        first,
+        second,
+        third,
+    })
+}
+
+// The cuts of a free joint, in the front of work. Every inner call of the root finder is made before
+// a place of work is asked for.
+pub(crate) fn cut(work: &mut [f64], f: Free) -> Cutting
+    ensures { λ r. ⌜ r ≡ pick (Of.hold f) (cutting (Of.first-cuts f) (Of.second-cuts f) (Of.third-cuts f) (length (now (work .entry)))) answer.Refused ⌝ }
+    ensures { λ r. ⌜ take (filled r) (now (work .exit)) ≡ listed r ((Of.first-cuts f ++ Of.second-cuts f) ++ Of.third-cuts f) ⌝ }
+{
+    if is_finite(f.near) {
+        let mut roots = [0.0; 300];
+        let sixth = f.sixth;
+        let found = all_roots(
+            f.wrist,
+            f.near,
+            f.fourth,
+            f.fifth,
+            sixth,
+            f.limits.center,
+            &mut roots,
+        );
+        if found.holds {
+            let three = wrist_limit_intervals(f.limits, f.near, 1.0);
+            return cut_intervals(work, f.near, three, &roots, found.count);
+        }
+        return Cutting::Refused;
+    }
+    Cutting::Cuts(Lists {
+        first: 0,
+        second: 0,
+        third: 0,
+    })
+}
