@@ -1,0 +1,3 @@
+-- What the proofs of `same_at` and `same_float` use.
+
+mod Same

@@ -1,0 +1,3 @@
+-- What the proof of `same_angles` uses.
+
+mod Floats

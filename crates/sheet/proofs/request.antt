@@ -1,0 +1,3 @@
+-- What the proofs of `put_blank` and `unread_zero` use.
+
+mod Turns

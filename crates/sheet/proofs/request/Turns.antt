@@ -1,0 +1,45 @@
+-- The blanked request byte by byte: what the loops that write it and compare it need. Assumes nothing.
+use Prim.Native.Nat.{ℕ, suc, _+_, _≤_, _<_}
+use native.Mathlib.Omega.{arith}
+use mathlib.Core.Path.{_≡_}
+use mathlib.Core.List.{List, _∷_}
+use mathlib.Core.Bool.{true, false, cond}
+use lib.ListN.{length, getD, drop, set, drop-of-length-le}
+use lib.Seq.{sets, drop-cons}
+use Rattle.sheet.specs.declared.request.Shape.{Shape}
+use Rattle.sheet.specs.Bytes.{same-bytes}
+use Rattle.sheet.specs.Request.{byte-read, blank-from}
+use Rattle.sheet.specs.Laws.Bytes.{same-turn, same-stop, same-nil}
+use Rattle.sheet.specs.Laws.Blank.{blank-cons, blank-nil}
+
+-- a turn stores the first byte of those that are left
+pub put-turn : (out r : List ℕ) (at i v : ℕ) (s : Shape) → i < length r → v ≡ cond (byte-read s i) (getD r i 0) 0
+    → sets (set out (at + i) v) (at + (i + 1)) (blank-from s (i + 1) (drop (i + 1) r)) ≡ sets out (at + i) (blank-from s i (drop i r))
+put-turn out r at i v s h q =
+    let e : at + (i + 1) ≡ suc (at + i) = omega arith in
+    let f : i + 1 ≡ suc i = omega arith in
+    rw (q, drop-cons r i 0, blank-cons, e, f)
+
+pub put-end : (out r : List ℕ) (at i : ℕ) (s : Shape) → length r ≤ i → out ≡ sets out (at + i) (blank-from s i (drop i r))
+put-end out r at i s h = rw (drop-of-length-le r h, blank-nil)
+
+module _ (s : Shape) (r : List ℕ) (i : ℕ) (l : i < length r) where
+  turns : drop i r ≡ getD r i 0 ∷ drop (i + 1) r
+  turns =
+      let f : i + 1 ≡ suc i = omega arith in
+      rw f (drop-cons r i 0 l)
+
+  -- a turn whose byte is read or zero
+  pub blank-turn : cond (byte-read s i) (getD r i 0) 0 ≡ getD r i 0
+      → same-bytes (blank-from s (i + 1) (drop (i + 1) r)) (drop (i + 1) r) ≡ same-bytes (blank-from s i (drop i r)) (drop i r)
+  blank-turn e =
+      let f : i + 1 ≡ suc i = omega arith in
+      rw (turns, blank-cons, f) (same-turn _ _ _ _ e)
+
+  -- a turn whose byte is neither
+  pub blank-stop : (cond (byte-read s i) (getD r i 0) 0 ≡ getD r i 0 → ⊥) → false ≡ same-bytes (blank-from s i (drop i r)) (drop i r)
+  blank-stop e = rw (turns, blank-cons) (same-stop _ _ _ _ e)
+
+-- no turn is left
+pub blank-end : (s : Shape) (r : List ℕ) (i : ℕ) → length r ≤ i → true ≡ same-bytes (blank-from s i (drop i r)) (drop i r)
+blank-end s r i h = rw (drop-of-length-le r h, blank-nil) same-nil

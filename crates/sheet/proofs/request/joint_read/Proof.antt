@@ -1,0 +1,45 @@
+-- `sheet::request::joint_read` meets its contract: at each return, what the calls and the tests on the way to it say. Assumes nothing.
+use borrow.Author.Needs.{needs}
+use Rattle.sheet.specs.Request.{joint-read}
+use Rattle.sheet.proofs.request.joint_read.Statement.{statement}
+use Rattle.sheet.proofs.request.joint_read.Tie as tie
+
+enum-told : tie.Need-enum-told
+enum-told c = search needs
+
+enum-known-s : tie.Need-enum-known-s
+enum-known-s c = search needs
+
+wrist-read-requires : tie.Need-wrist-read-requires
+wrist-read-requires c = search needs
+
+enum-known-s-2 : tie.Need-enum-known-s-2
+enum-known-s-2 c = search needs
+
+wrist-read-requires-2 : tie.Need-wrist-read-requires-2
+wrist-read-requires-2 c = search needs
+
+enum-known-s-3 : tie.Need-enum-known-s-3
+enum-known-s-3 c = search needs
+
+wrist-read-requires-3 : tie.Need-wrist-read-requires-3
+wrist-read-requires-3 c = search needs
+
+returns : tie.Need-returns
+unfolding joint-read
+returns c = simp (c .enum-told .given .1)
+
+returns-2 : tie.Need-returns-2
+unfolding joint-read
+returns-2 c = simp (c .before .before .s .given .1, ← c .wrist-read .ensures)
+
+returns-3 : tie.Need-returns-3
+unfolding joint-read
+returns-3 c = simp (c .before .before .s2 .given .1, ← c .wrist-read2 .ensures)
+
+returns-4 : tie.Need-returns-4
+unfolding joint-read
+returns-4 c = simp (c .before .before .s3 .given .1, ← c .wrist-read3 .ensures)
+
+pub joint-read-spec : {M : Type 1} → statement M
+joint-read-spec = tie.close (tie.spec enum-told enum-known-s wrist-read-requires enum-known-s-2 wrist-read-requires-2 enum-known-s-3 wrist-read-requires-3 returns returns-2 returns-3 returns-4)

@@ -1,0 +1,56 @@
+-- The three demands as statements about the definitions that the contracts of Sampling and Check cite; `Laws.Demands` proves each. What stays with the contracts: that the code's answer, output and work are these definitions' (`sampling::sample`, `check::check`).
+use Prim.Native.Nat.{ℕ, _^_, _<_}
+use mathlib.Core.Path.{_≡_}
+use mathlib.Core.List.{List}
+use mathlib.Core.Bool.{true}
+use mathlib.Core.Logic.{_↔_}
+use lib.ListN.{length, take}
+use Rattle.sampling.specs.declared.job.Job.{Job}
+use Rattle.sampling.specs.declared.pose.Matrix.{Matrix}
+use Rattle.sheet.specs.Request.{Agree}
+use Rattle.sheet.specs.Tests.{head-right}
+use Rattle.sheet.specs.Refusals.{Verdict, accepted, refused}
+use Rattle.sheet.specs.Sampling.{angles, judged, answer, sheet, sheet-size, output-after}
+use Rattle.sheet.specs.Check.{request-of, ruled}
+use Rattle.sampling.specs.Angles as Angles
+
+-- Demand 1. A refusal leaves the output; success fills the sheet's bytes and leaves the rest.
+abbrev pub Leaves : Type 0
+Leaves = (r output : List ℕ) (k : ℕ) → output-after (refused k) r output ≡ output
+
+-- Demand 2. What is accepted has n angles, those of the definition, and its sheet has 8n + 280 bytes.
+abbrev pub Counted : Type 0
+Counted = (r : List ℕ) (places room n : ℕ) → answer r places room ≡ accepted n → (n ≡ length (angles r)) × (length (sheet r) ≡ sheet-size n)
+
+-- Check accepts exactly the sheet that Sampling writes for the request inside it, given the work places that 01 counts.
+abbrev pub Sound : Type 0
+Sound = (s : List ℕ) (places n : ℕ) → ruled s places ≡ accepted n → (s ≡ sheet (request-of s)) × (judged (request-of s) places ≡ accepted n)
+
+abbrev pub Complete : Type 0
+Complete = (r : List ℕ) (places n : ℕ) → judged r places ≡ accepted n → ruled (sheet r) places ≡ accepted n
+
+-- both in one
+abbrev pub Exact : Type 0
+Exact = (s : List ℕ) (places n : ℕ) → (ruled s places ≡ accepted n) ↔ ((s ≡ sheet (request-of s)) × (judged (request-of s) places ≡ accepted n))
+
+-- what the trailer's u32 fields ask: 8n is below 2^32
+abbrev pub Few : Type 0
+Few = (job : Job) (m : Matrix) → length (Angles.angles job m) < 2 ^ 29
+
+-- Demand 3. Requests that agree in what is read get the same answer, with equally long work and output.
+abbrev pub SameAnswer : Type 0
+SameAnswer = (r s : List ℕ) → Agree r s → (places room : ℕ) → answer r places room ≡ answer s places room
+
+-- And the same angles, if kind and flags are right; with a wrong one there is no answer but 2, and nothing says which fields are read.
+abbrev pub SameAngles : Type 0
+SameAngles = (r s : List ℕ) → Agree r s → head-right r ≡ true → angles r ≡ angles s
+
+-- Two accepted requests give equal sheets exactly when they agree in what is read.
+abbrev pub SameSheet : Type 0
+SameSheet =
+    (r s : List ℕ) (places room n places′ room′ n′ : ℕ) → answer r places room ≡ accepted n → answer s places′ room′ ≡ accepted n′ → (sheet r ≡ sheet s) ↔ Agree r s
+
+-- The same of two calls with requests r and s and equally long work: their answers a and b, and their outputs x and y afterwards, of which a sheet is the first 8n + 280 bytes.
+pub record Together (r s : List ℕ) (a b : Verdict) (x y : List ℕ) : Type 0 where
+  pub answers : length x ≡ length y → Agree r s → a ≡ b
+  pub sheets : (n m : ℕ) → a ≡ accepted n → b ≡ accepted m → (take (sheet-size n) x ≡ take (sheet-size m) y) ↔ Agree r s

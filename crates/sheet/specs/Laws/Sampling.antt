@@ -1,0 +1,75 @@
+-- Sheets: how their runs of stores lie one after the other, and how long they are. Assumes nothing.
+use Prim.Native.Nat.{ℕ, _+_, _*_, _≤_}
+use native.Mathlib.Omega.{arith}
+use mathlib.Core.Path.{_≡_, refl, ap, _∙_}
+use mathlib.Core.List.{List, [], _∷_, _++_}
+use mathlib.Core.Bool.{true, false}
+use lib.ListN.{length, drop, length-append}
+use lib.Seq.{sets, sets-eq}
+use lib.Dec.{leb}
+use lib.Ieee.{Float, toBits, binary64}
+use Rattle.sheet.specs.Bytes.{float-bytes, floats-bytes}
+use Rattle.sheet.specs.Request.{request-size, shape-of, blank}
+use Rattle.sheet.specs.Sheet.{trailer}
+use Rattle.sheet.specs.Refusals.{accepted, refused, need}
+use Rattle.sheet.specs.Sampling.{angles, sheet, sheet-size, fit}
+use Rattle.sheet.specs.Laws.Bytes.{sets-append, length-bytes, floats-bytes-cons, floats-bytes-nil, length-floats-bytes}
+use Rattle.sheet.specs.Laws.Blank.{length-blank}
+use Rattle.sheet.specs.Laws.Sheet.{length-trailer}
+
+-- ---- floats one at a time
+
+-- the first of those that are left
+pub floats-turn : (out : List ℕ) (at : ℕ) (y : Float) (xs ys : List Float) → xs ≡ y ∷ ys
+    → sets (sets out at (float-bytes y)) (at + 8) (floats-bytes ys) ≡ sets out at (floats-bytes xs)
+floats-turn out at y xs ys e =
+    let k : at + length (float-bytes y) ≡ at + 8 = ap (λ (n : ℕ). at + n) (length-bytes 8 (toBits binary64 y)) in
+    rw (e, floats-bytes-cons y ys, sets-append (float-bytes y) (floats-bytes ys) out at, k)
+
+pub floats-end : (out : List ℕ) (at : ℕ) (xs : List Float) → xs ≡ [] → out ≡ sets out at (floats-bytes xs)
+floats-end out at xs e = rw (e, floats-bytes-nil)
+
+-- ---- a sheet
+
+lay : (o f b t : List ℕ) (p q : ℕ) → length f ≡ p → p + length b ≡ q → sets (sets (sets o 0 f) p b) q t ≡ sets o 0 (f ++ (b ++ t))
+lay o f b t p q e h =
+    let k : 0 + length f ≡ p = omega arith in
+    rw (sets-append f (b ++ t) o 0, k, sets-append b t (sets o 0 f) p, h)
+
+-- its three runs
+pub lay-sheet : (r o : List ℕ) (xs : List Float) (n : ℕ) → length r ≡ request-size → n ≡ length xs
+    → sets (sets (sets o 0 (floats-bytes xs)) (8 * n) (blank r)) (8 * n + request-size) (trailer n)
+    ≡ sets o 0 (floats-bytes xs ++ (blank r ++ trailer n))
+lay-sheet r o xs n e h =
+    lay o (floats-bytes xs) (blank r) (trailer n) (8 * n) (8 * n + request-size) (omega (arith, length-floats-bytes xs))
+    (omega (arith, length-blank (shape-of r) 0 r))
+
+length-laid : (r : List ℕ) (xs : List Float) (n : ℕ) → length r ≡ request-size → n ≡ length xs
+    → length (floats-bytes xs ++ (blank r ++ trailer n)) ≡ sheet-size n
+length-laid r xs n e h =
+    omega
+    (arith, length-append (floats-bytes xs) (blank r ++ trailer n), length-append (blank r) (trailer n), length-floats-bytes xs, length-blank (shape-of r) 0 r, length-trailer n)
+
+pub length-sheet : (r : List ℕ) → length r ≡ request-size → length (sheet r) ≡ sheet-size (length (angles r))
+unfolding sheet
+length-sheet r e = length-laid r (angles r) (length (angles r)) e refl
+
+-- what is stored is the sheet, with what stood behind it
+pub sheet-stands : (r out : List ℕ) (xs : List Float) (n : ℕ) → length r ≡ request-size → n ≡ length xs → xs ≡ angles r → sheet-size n ≤ length out
+    → sets out 0 (floats-bytes xs ++ (blank r ++ trailer n)) ≡ sheet r ++ drop (sheet-size n) out
+unfolding sheet
+sheet-stands r out xs n e h q k =
+    let l : length (floats-bytes xs ++ (blank r ++ trailer n)) ≡ sheet-size n = length-laid r xs n e h in
+    let d : 0 + length (floats-bytes xs ++ (blank r ++ trailer n)) ≡ sheet-size n = omega arith in
+    let f : 0 + length (floats-bytes xs ++ (blank r ++ trailer n)) ≤ length out = omega arith in
+    sets-eq (floats-bytes xs ++ (blank r ++ trailer n)) out 0 f ∙ rw (d, h, q)
+
+-- ---- 11
+
+pub fit-yes : (n room : ℕ) → leb (sheet-size n) room ≡ true → fit (accepted n) room ≡ accepted n
+unfolding need
+fit-yes n room e = rw e
+
+pub fit-no : (n room : ℕ) → leb (sheet-size n) room ≡ false → fit (accepted n) room ≡ refused 11
+unfolding need
+fit-no n room e = rw e

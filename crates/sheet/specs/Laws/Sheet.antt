@@ -1,0 +1,28 @@
+-- The trailer: its length, and its four runs of stores one after the other. Assumes nothing.
+use Prim.Native.Nat.{ℕ, _+_, _*_}
+use native.Mathlib.Omega.{arith}
+use mathlib.Core.Path.{_≡_}
+use mathlib.Core.List.{List, _++_}
+use lib.ListN.{length, length-append}
+use lib.Seq.{sets}
+use Rattle.sheet.specs.Bytes.{bytes}
+use Rattle.sheet.specs.Sheet.{trailer, trailer-size, edition}
+use Rattle.sheet.specs.Laws.Bytes.{sets-append, length-bytes}
+
+pub length-trailer : (n : ℕ) → length (trailer n) ≡ trailer-size
+unfolding trailer
+length-trailer n = simp (length-append, length-bytes)
+
+lay-four : (o a b c d : List ℕ) (p q r s : ℕ) → p + length a ≡ q → q + length b ≡ r → r + length c ≡ s
+    → sets (sets (sets (sets o p a) q b) r c) s d ≡ sets o p (a ++ b ++ c ++ d)
+lay-four o a b c d p q r s e f g =
+    let f' : p + length (a ++ b) ≡ r = omega (arith, length-append a b) in
+    let g' : p + length (a ++ b ++ c) ≡ s = omega (arith, length-append (a ++ b) c, length-append a b) in
+    rw (sets-append (a ++ b ++ c) d o p, sets-append (a ++ b) c o p, sets-append a b o p, e, f', g')
+
+pub lay-trailer : (o : List ℕ) (at n : ℕ)
+    → sets (sets (sets (sets o at (bytes 4 n)) (at + 4) (bytes 4 (8 * n))) (at + 8) (bytes 2 edition)) (at + 10) (bytes 6 0) ≡ sets o at (trailer n)
+unfolding trailer
+lay-trailer o at n =
+    lay-four o (bytes 4 n) (bytes 4 (8 * n)) (bytes 2 edition) (bytes 6 0) at (at + 4) (at + 8) (at + 10) (omega (arith, length-bytes 4 n))
+    (omega (arith, length-bytes 4 (8 * n))) (omega (arith, length-bytes 2 1))

@@ -1,0 +1,121 @@
+// The job that a request's fields say, every field as given, and its rotation matrix.
+ghost use mathlib.Core.Path.{_≡_};
+ghost use Prim.Native.Nat.{_≤_};
+ghost use lib.ListN.{length};
+ghost use Rattle.sheet.specs.Request as Request;
+ghost use Rattle.sheet.specs.Fields as Fields;
+use crate::request::Field;
+use crate::request::ROTATION;
+use crate::request::place;
+use crate::view::byte_in;
+use crate::view::float_in;
+use sampling::job::Arm;
+use sampling::job::Job;
+use sampling::job::Joint;
+use sampling::pose::Matrix;
+use sampling::pose::Normalized;
+use sampling::pose::Quaternion;
+use sampling::pose::Vector;
+use sampling::pose::from_quat;
+use sampling::pose::try_normalize;
+
+// The sign of a byte.
+fn sign_of(b: u8) -> f64
+    ensures { λ r. ⌜ r ≡ Fields.sign-of b ⌝ }
+{
+    if b == 1 {
+        return 1.0;
+    }
+    -1.0
+}
+
+// The float of a field.
+pub(crate) fn field_at(request: &[u8], f: Field, j: usize) -> f64
+    requires { ⌜ (length (now request) ≡ Request.request-size) × (1 ≤ j) × (j ≤ 6) ⌝ }
+    ensures { λ r. ⌜ r ≡ Fields.field (now (request .entry)) f j ⌝ }
+{
+    float_in(request, place(f, j))
+}
+
+// A joint's sign, offset, reference and limits.
+fn joint_at(request: &[u8], j: usize) -> Joint
+    requires { ⌜ (length (now request) ≡ Request.request-size) × (1 ≤ j) × (j ≤ 6) ⌝ }
+    ensures { λ r. ⌜ r ≡ Fields.joint-at (now (request .entry)) j ⌝ }
+{
+    let at = place(Field::Sign, j);
+    Joint {
+        sign: sign_of(byte_in(request, at)),
+        offset: field_at(request, Field::Offset, j),
+        reference: field_at(request, Field::Reference, j),
+        from: field_at(request, Field::From, j),
+        to: field_at(request, Field::To, j),
+    }
+}
+
+// The rotation.
+pub(crate) fn rotation_of(request: &[u8]) -> Quaternion
+    requires { ⌜ length (now request) ≡ Request.request-size ⌝ }
+    ensures { λ r. ⌜ r ≡ Fields.rotation-of (now (request .entry)) ⌝ }
+{
+    Quaternion {
+        x: float_in(request, ROTATION),
+        y: float_in(request, ROTATION + 8),
+        z: float_in(request, ROTATION + 16),
+        w: float_in(request, ROTATION + 24),
+    }
+}
+
+// The arm's angles.
+fn arm_of(request: &[u8]) -> Arm
+    requires { ⌜ length (now request) ≡ Request.request-size ⌝ }
+    ensures { λ r. ⌜ r ≡ Fields.arm-of (now (request .entry)) ⌝ }
+{
+    Arm {
+        q1: field_at(request, Field::Arm, 1),
+        q2: field_at(request, Field::Arm, 2),
+        q3: field_at(request, Field::Arm, 3),
+    }
+}
+
+// The job, every field as given.
+pub(crate) fn job_of(request: &[u8]) -> Job
+    requires { ⌜ length (now request) ≡ Request.request-size ⌝ }
+    ensures { λ r. ⌜ r ≡ Fields.job-of (now (request .entry)) ⌝ }
+{
+    Job {
+        kind: byte_in(request, 0),
+        limited: byte_in(request, 1) == 1,
+        fixed: byte_in(request, 2) == 1,
+        rotation: rotation_of(request),
+        arm: arm_of(request),
+        j1: joint_at(request, 1),
+        j2: joint_at(request, 2),
+        j3: joint_at(request, 3),
+        j4: joint_at(request, 4),
+        j5: joint_at(request, 5),
+        j6: joint_at(request, 6),
+    }
+}
+
+fn zero_matrix() -> Matrix
+    ensures { λ r. ⌜ r ≡ Fields.zero-matrix ⌝ }
+{
+    let zero = Vector::new(0.0, 0.0, 0.0);
+    Matrix {
+        x: zero,
+        y: zero,
+        z: zero,
+    }
+}
+
+// The matrix of a rotation. Where it is not finite or zero, which is refused before, all is zero.
+pub(crate) fn matrix_of(q: Quaternion) -> Matrix
+    ensures { λ r. ⌜ r ≡ Fields.matrix q ⌝ }
+{
+    let n = try_normalize(q);
+    match n {
+        Normalized::Unit(u) => from_quat(u),
+        Normalized::NotFinite => zero_matrix(),
+        Normalized::Zero => zero_matrix(),
+    }
+}

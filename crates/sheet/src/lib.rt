@@ -1,0 +1,12 @@
+// Requests and sheets, document 01's module 7. specs/Lib.antt says which files define what.
+pub mod bytes;
+pub mod check;
+pub mod fields;
+pub mod interface;
+pub mod judge;
+pub mod request;
+pub mod sample;
+pub mod tests;
+pub mod trailer;
+pub mod twice;
+pub mod view;

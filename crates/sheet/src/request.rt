@@ -1,0 +1,238 @@
+// The request: where its fields stand, which of them are read, and the request with every unread
+// field zero.
+ghost use mathlib.Core.Path.{_≡_};
+ghost use mathlib.Core.Bool.{cond};
+ghost use Prim.Native.Nat.{_+_, _<_, _≤_};
+ghost use lib.ListN.{length};
+ghost use lib.Seq.{sets};
+ghost use Rattle.sheet.specs.Bytes as Bytes;
+ghost use Rattle.sheet.specs.Request as Request;
+
+// Sizes and positions, in bytes; specs/Request.antt has the same.
+pub(crate) const REQUEST: usize = 264;
+
+pub(crate) const SIGNS: usize = 4;
+
+pub(crate) const RESERVED: usize = 10;
+
+pub(crate) const ROTATION: usize = 16;
+
+pub(crate) const ARM: usize = 48;
+
+pub(crate) const REFERENCES: usize = 72;
+
+pub(crate) const OFFSETS: usize = 120;
+
+pub(crate) const FROM: usize = 168;
+
+pub(crate) const TO: usize = 216;
+
+// What kind, limits present and sixth joint fixed say; `Bad` where one of the three is wrong.
+pub enum Shape {
+    Bad,
+    One(bool, bool),
+    Two(bool, bool),
+    Three(bool, bool),
+}
+
+// The classes of fields that are not always read.
+pub enum Field {
+    Sign,
+    Arm,
+    Reference,
+    Offset,
+    From,
+    To,
+}
+
+fn shape_by(kind: u8, limits: bool, fixed: bool) -> Shape
+    ensures { λ r. ⌜ r ≡ Request.shape-by kind limits fixed ⌝ }
+{
+    match kind {
+        1 => Shape::One(limits, fixed),
+        2 => Shape::Two(limits, fixed),
+        3 => Shape::Three(limits, fixed),
+        _ => Shape::Bad,
+    }
+}
+
+fn shape_fixed(kind: u8, limits: bool, fixed: u8) -> Shape
+    ensures { λ r. ⌜ r ≡ Request.shape-fixed kind limits fixed ⌝ }
+{
+    match fixed {
+        0 => shape_by(kind, limits, false),
+        1 => shape_by(kind, limits, true),
+        _ => Shape::Bad,
+    }
+}
+
+// The shape of the three bytes.
+pub(crate) fn shape_from(kind: u8, limits: u8, fixed: u8) -> Shape
+    ensures { λ r. ⌜ r ≡ Request.shape-from kind limits fixed ⌝ }
+{
+    match limits {
+        0 => shape_fixed(kind, false, fixed),
+        1 => shape_fixed(kind, true, fixed),
+        _ => Shape::Bad,
+    }
+}
+
+// The shape of a request.
+pub(crate) fn shape_of(request: &[u8]) -> Shape
+    requires { ⌜ length (now request) ≡ Request.request-size ⌝ }
+    ensures { λ r. ⌜ r ≡ Request.shape-of (now (request .entry)) ⌝ }
+{
+    shape_from(request[0], request[1], request[2])
+}
+
+// Joints 4, 5 and, unless fixed, 6.
+fn wrist_read(fixed: bool, j: usize) -> bool
+    ensures { λ r. ⌜ r ≡ Request.wrist-read fixed j ⌝ }
+{
+    (j == 4) | (j == 5) | (!fixed & (j == 6))
+}
+
+// Whether sign and offset of joint j are read.
+fn joint_read(s: Shape, j: usize) -> bool
+    ensures { λ r. ⌜ r ≡ Request.joint-read s j ⌝ }
+{
+    match s {
+        Shape::Bad => false,
+        Shape::One(_, fixed) => (j == 1) | wrist_read(fixed, j),
+        Shape::Two(_, fixed) => (j == 2) | wrist_read(fixed, j),
+        Shape::Three(limits, fixed) => (j == 1) | (j == 2) | (limits & wrist_read(fixed, j)),
+    }
+}
+
+// Whether the reference of joint j is read.
+fn reference_read(s: Shape, j: usize) -> bool
+    ensures { λ r. ⌜ r ≡ Request.reference-read s j ⌝ }
+{
+    match s {
+        Shape::Bad => false,
+        Shape::One(_, fixed) => (j == 1) | wrist_read(fixed, j),
+        Shape::Two(_, fixed) => (j == 2) | wrist_read(fixed, j),
+        Shape::Three(limits, _) => (j == 1) | (!limits & (j == 2)),
+    }
+}
+
+// Whether the arm's angle q is read.
+fn arm_read(s: Shape, q: usize) -> bool
+    ensures { λ r. ⌜ r ≡ Request.arm-read s q ⌝ }
+{
+    match s {
+        Shape::Bad => false,
+        Shape::One(_, _) => (q == 2) | (q == 3),
+        Shape::Two(_, _) => (q == 1) | (q == 3),
+        Shape::Three(_, _) => q == 3,
+    }
+}
+
+// Whether limits are read at all.
+fn limits_read(s: Shape) -> bool
+    ensures { λ r. ⌜ r ≡ Request.limits-read s ⌝ }
+{
+    match s {
+        Shape::Bad => false,
+        Shape::One(limits, _) => limits,
+        Shape::Two(limits, _) => limits,
+        Shape::Three(limits, _) => limits,
+    }
+}
+
+// Whether a field is read.
+pub(crate) fn field_read(s: Shape, f: Field, j: usize) -> bool
+    ensures { λ r. ⌜ r ≡ Request.reads s f j ⌝ }
+{
+    match f {
+        Field::Sign => joint_read(s, j),
+        Field::Arm => arm_read(s, j),
+        Field::Reference => reference_read(s, j),
+        Field::Offset => joint_read(s, j),
+        Field::From => limits_read(s) & joint_read(s, j),
+        Field::To => limits_read(s) & joint_read(s, j),
+    }
+}
+
+// Whether a byte of the request is read.
+pub(crate) fn byte_read(s: Shape, i: usize) -> bool
+    requires { ⌜ i < Request.request-size ⌝ }
+    ensures { λ r. ⌜ r ≡ Request.byte-read s i ⌝ }
+{
+    if i < SIGNS {
+        return true;
+    }
+    if i < RESERVED {
+        return field_read(s, Field::Sign, i - SIGNS + 1);
+    }
+    if i < ARM {
+        return true;
+    }
+    if i < REFERENCES {
+        return field_read(s, Field::Arm, (i - ARM) / 8 + 1);
+    }
+    if i < OFFSETS {
+        return field_read(s, Field::Reference, (i - REFERENCES) / 8 + 1);
+    }
+    if i < FROM {
+        return field_read(s, Field::Offset, (i - OFFSETS) / 8 + 1);
+    }
+    if i < TO {
+        return field_read(s, Field::From, (i - FROM) / 8 + 1);
+    }
+    field_read(s, Field::To, (i - TO) / 8 + 1)
+}
+
+// Where the field of joint j, or the arm's angle j, starts.
+pub(crate) fn place(f: Field, j: usize) -> usize
+    requires { ⌜ (1 ≤ j) × (j ≤ 6) ⌝ }
+    ensures { λ r. ⌜ r ≡ Request.place f j ⌝ }
+{
+    match f {
+        Field::Sign => SIGNS + (j - 1),
+        Field::Arm => ARM + 8 * (j - 1),
+        Field::Reference => REFERENCES + 8 * (j - 1),
+        Field::Offset => OFFSETS + 8 * (j - 1),
+        Field::From => FROM + 8 * (j - 1),
+        Field::To => TO + 8 * (j - 1),
+    }
+}
+
+// A byte, or zero where it is not read.
+fn kept(read: bool, b: u8) -> u8
+    ensures { λ r. ⌜ r ≡ cond read b 0 ⌝ }
+{
+    if read {
+        return b;
+    }
+    0
+}
+
+// The request with every unread field zero, written from `at` on.
+pub(crate) fn put_blank(out: &mut [u8], at: usize, request: &[u8])
+    requires { ⌜ (length (now request) ≡ Request.request-size) × (at + Request.request-size ≤ length (now out)) ⌝ }
+    ensures { λ _. ⌜ now (out .exit) ≡ sets (now (out .entry)) at (Request.blank (now (request .entry))) ⌝ }
+{
+    let s = shape_of(request);
+    let mut i = 0usize;
+    while i < REQUEST {
+        out[at + i] = kept(byte_read(s, i), request[i]);
+        i += 1;
+    }
+}
+
+// Whether every unread field is zero: the request is its own blank.
+pub(crate) fn unread_zero(request: &[u8]) -> bool
+    requires { ⌜ length (now request) ≡ Request.request-size ⌝ }
+    ensures { λ r. ⌜ r ≡ Bytes.same-bytes (Request.blank (now (request .entry))) (now (request .entry)) ⌝ }
+{
+    let s = shape_of(request);
+    let mut i = 0usize;
+    while i < REQUEST {
+        if kept(byte_read(s, i), request[i]) != request[i] {
+            return false;
+        }
+        i += 1;
+    }
+    true
+}

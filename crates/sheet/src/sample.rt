@@ -1,0 +1,159 @@
+// The operation Sampling: a request's sheet.
+ghost use mathlib.Core.Path.{_≡_};
+ghost use mathlib.Core.List.{_++_};
+ghost use Prim.Native.Nat.{_+_, _*_, _≤_};
+ghost use lib.ListN.{length};
+ghost use lib.Dec.{leb};
+ghost use lib.Seq.{sets};
+ghost use Rattle.sampling.specs.Stream.{start};
+ghost use Rattle.sampling.specs.Plan.{to-come, Ready};
+ghost use Rattle.sheet.specs.Bytes as Bytes;
+ghost use Rattle.sheet.specs.Request as Request;
+ghost use Rattle.sheet.specs.Refusals as Refusals;
+ghost use Rattle.sheet.specs.Sheet as Sheet;
+ghost use Rattle.sheet.specs.Sampling as Sampling;
+ghost use Rattle.sheet.specs.Judge as Judge;
+use crate::bytes::clear;
+use crate::bytes::put_float;
+use crate::judge::is_ready;
+use crate::judge::is_refused;
+use crate::judge::is_short;
+use crate::judge::plan_request;
+use crate::request::REQUEST;
+use crate::request::put_blank;
+use crate::tests::Early;
+use crate::tests::early_answer;
+use crate::trailer::FIXED;
+use crate::trailer::put_trailer;
+use sampling::plan::Plan;
+use sampling::plan::count;
+use sampling::plan::next;
+use sampling::plan::start;
+use sampling::stream::Step;
+
+// The number of angles, or a refusal. `verdict` of specs/Sampling.antt gives 01's number.
+pub enum Sampled {
+    Angles(usize),
+    Length,
+    Head,
+    Sign,
+    NotFinite,
+    Zero,
+    Arm,
+    Reference,
+    Offset,
+    Roots,
+    Work,
+    Output,
+}
+
+// The angles, one after the other, from the start of the output on.
+fn put_angles(output: &mut [u8], work: &[f64], plan: Plan)
+    requires { ⌜ Ready plan (now work) ⌝ }
+    requires { ⌜ 8 * length (to-come plan (now work) start) ≤ length (now output) ⌝ }
+    ensures { λ _. ⌜ now (output .exit) ≡ sets (now (output .entry)) 0 (Bytes.floats-bytes (to-come plan (now (work .entry)) start)) ⌝ }
+{
+    let mut c = start();
+    let mut at = 0usize;
+    loop {
+        let s = next(work, plan, c);
+        match s {
+            Step::Done => {
+                return;
+            }
+            Step::Yield(y, d) => {
+                put_float(output, at, y);
+                at += 8;
+                c = d;
+            }
+        }
+    }
+}
+
+// The sheet: the n angles, the blanked request, the trailer.
+fn fill(output: &mut [u8], request: &[u8], work: &[f64], plan: Plan, n: usize)
+    requires { ⌜ length (now request) ≡ Request.request-size ⌝ }
+    requires { ⌜ Ready plan (now work) ⌝ }
+    requires { ⌜ n ≡ length (to-come plan (now work) start) ⌝ }
+    requires { ⌜ Sampling.sheet-size n ≤ length (now output) ⌝ }
+    ensures { λ _. ⌜ now (output .exit) ≡ sets (now (output .entry)) 0 (Bytes.floats-bytes (to-come plan (now (work .entry)) start) ++ (Request.blank (now (request .entry)) ++ Sheet.trailer n)) ⌝ }
+{
+    put_angles(output, work, plan);
+    put_blank(output, 8 * n, request);
+    put_trailer(output, 8 * n + REQUEST, n);
+}
+
+// Whether a sheet with n angles has room.
+fn has_room(n: usize, room: usize) -> bool
+    ensures { λ r. ⌜ r ≡ leb (Sampling.sheet-size n) room ⌝ }
+{
+    if room < FIXED {
+        return false;
+    }
+    if n <= (room - FIXED) / 8 {
+        return true;
+    }
+    false
+}
+
+// 9, 10 and 11, and else the sheet.
+fn finish(output: &mut [u8], request: &[u8], work: &[f64], plan: Plan) -> Sampled
+    requires { ⌜ length (now request) ≡ Request.request-size ⌝ }
+    requires { ⌜ Judge.PlannedFor (now request) plan (now work) ⌝ }
+    ensures { λ a. ⌜ Sampling.verdict a ≡ Sampling.fit (Sampling.late (now (request .entry)) (length (now (work .entry)))) (length (now (output .entry))) ⌝ }
+    ensures { λ a. ⌜ now (output .exit) ≡ Sampling.output-after (Sampling.verdict a) (now (request .entry)) (now (output .entry)) ⌝ }
+{
+    if is_refused(plan) {
+        return Sampled::Roots;
+    }
+    if is_short(plan) {
+        return Sampled::Work;
+    }
+    let n = count(work, plan);
+    if has_room(n, output.len()) {
+        fill(output, request, work, plan, n);
+        return Sampled::Angles(n);
+    }
+    Sampled::Output
+}
+
+// The refusal of a request that is not ready; of one that is, 9.
+fn refusal(e: Early) -> Sampled
+    ensures { λ a. ⌜ Sampling.verdict a ≡ Refusals.told e (Refusals.refused 9) ⌝ }
+{
+    match e {
+        Early::Length => Sampled::Length,
+        Early::Head => Sampled::Head,
+        Early::Sign => Sampled::Sign,
+        Early::NotFinite => Sampled::NotFinite,
+        Early::Zero => Sampled::Zero,
+        Early::Arm => Sampled::Arm,
+        Early::Reference => Sampled::Reference,
+        Early::Offset => Sampled::Offset,
+        Early::Ready => Sampled::Roots,
+    }
+}
+
+fn run(request: &[u8], work: &mut [f64], output: &mut [u8]) -> Sampled
+    ensures { λ a. ⌜ Sampling.verdict a ≡ Sampling.answer (now (request .entry)) (length (now (work .entry))) (length (now (output .entry))) ⌝ }
+    ensures { λ a. ⌜ now (output .exit) ≡ Sampling.output-after (Sampling.verdict a) (now (request .entry)) (now (output .entry)) ⌝ }
+{
+    let e = early_answer(request);
+    if is_ready(e) {
+        let plan = plan_request(work, request);
+        return finish(output, request, work, plan);
+    }
+    refusal(e)
+}
+
+// Sampling. Success fills the first bytes of the output with the sheet; a refusal leaves it. After
+// every answer each work place is +0.0.
+pub fn sample(request: &[u8], work: &mut [f64], output: &mut [u8]) -> Sampled
+    ensures { λ a. ⌜ Sampling.verdict a ≡ Sampling.answer (now (request .entry)) (length (now (work .entry))) (length (now (output .entry))) ⌝ }
+    ensures { λ a. ⌜ now (output .exit) ≡ Sampling.output-after (Sampling.verdict a) (now (request .entry)) (now (output .entry)) ⌝ }
+    ensures { λ _. ⌜ now (work .exit) ≡ Bytes.zeros (length (now (work .entry))) ⌝ }
+{
+    let a = run(request, work, output);
+    clear(work);
+    a
+}
