@@ -18,22 +18,16 @@
 // samples every time, with the results of Rust's own f64 and of document 01's steps on it.
 mod angles;
 mod functions;
-mod text;
+mod sample;
 
 use crate::functions::three;
-use crate::text::line;
-use crate::text::word;
+use crate::sample::line;
 use libc::STDIN_FILENO;
-use libc::STDOUT_FILENO;
+use text::hex::word;
+use text::report::Tally;
 ghost use mathlib.Core.Path.{_≡_};
 ghost use Prim.Native.Nat.{_+_, _*_, _≤_};
 ghost use lib.ListN.{length};
-
-// How many samples there are of a function, and how many differ.
-pub struct Tally {
-    pub samples: u64,
-    pub differing: u64,
-}
 
 // The function of one operand that a letter names: the trigonometry has the small letters.
 fn one(letter: u8, a: u64) -> u64 {
@@ -51,33 +45,33 @@ fn two(letter: u8, a: u64, b: u64) -> u64 {
     angles::two(letter, a, b)
 }
 
-// Whether the sample of k operands at `at` has the result that the library gives. Its line has
-// 17 * k + 19 bytes: the letter, k + 1 times a space and a word, and the end.
-fn agrees(s: &[u8], at: usize, k: usize) -> bool
-    requires { ⌜ at + 17 * k + 19 ≤ length (now s) ⌝ }
+// Whether the sample of n words at `at` has the result that the library gives. Its line has
+// 17 * n + 2 bytes: the letter, n times a space and a word, and the end.
+fn agrees(s: &[u8], at: usize, n: usize) -> bool
+    requires { ⌜ at + 17 * n + 2 ≤ length (now s) ⌝ }
 {
     let letter = s[at];
-    let expected = word(s, at + 17 * k + 2);
-    if k < 1 {
+    if n < 2 {
         return false;
     }
     let a = word(s, at + 2);
-    if k < 2 {
-        return one(letter, a) == expected;
+    let second = word(s, at + 19);
+    if n < 3 {
+        return one(letter, a) == second;
     }
-    let b = word(s, at + 19);
-    if k < 3 {
-        return two(letter, a, b) == expected;
+    let third = word(s, at + 36);
+    if n < 4 {
+        return two(letter, a, second) == third;
     }
-    three(a, b, word(s, at + 36)) == expected
+    three(a, second, third) == word(s, at + 53)
 }
 
 // 1 for a sample whose result is another, else 0.
-fn differs(s: &[u8], at: usize, k: usize) -> u64
-    requires { ⌜ at + 17 * k + 19 ≤ length (now s) ⌝ }
+fn differs(s: &[u8], at: usize, n: usize) -> u64
+    requires { ⌜ at + 17 * n + 2 ≤ length (now s) ⌝ }
     ensures { λ r. ⌜ r ≤ 1 ⌝ }
 {
-    if agrees(s, at, k) { 0 } else { 1 }
+    if agrees(s, at, n) { 0 } else { 1 }
 }
 
 // The samples of a letter.
@@ -86,15 +80,15 @@ fn counted(s: &[u8], letter: u8) -> Tally {
     let mut differing = 0u64;
     let mut at = 0usize;
     while at < s.len() {
-        let k = line(s, at);
-        if k < 1 {
+        let n = line(s, at);
+        if n < 1 {
             break;
         }
         if s[at] == letter {
             samples += 1;
-            differing += differs(s, at, k);
+            differing += differs(s, at, n);
         }
-        at += 17 * k + 19;
+        at += 17 * n + 2;
     }
     Tally { samples, differing }
 }
@@ -103,23 +97,17 @@ fn counted(s: &[u8], letter: u8) -> Tally {
 fn unread(s: &[u8]) -> usize {
     let mut at = 0usize;
     while at < s.len() {
-        let k = line(s, at);
-        if k < 1 {
+        let n = line(s, at);
+        if n < 1 {
             return s.len() - at;
         }
-        at += 17 * k + 19;
+        at += 17 * n + 2;
     }
     0
 }
 
 fn report(s: &[u8], letter: u8, name: &[u8]) {
-    let t = counted(s, letter);
-    io::write_all(STDOUT_FILENO, name);
-    io::write_all(STDOUT_FILENO, &[b' ']);
-    io::print_decimal(STDOUT_FILENO, t.samples);
-    io::write_all(STDOUT_FILENO, &[b' ']);
-    io::print_decimal(STDOUT_FILENO, t.differing);
-    io::write_all(STDOUT_FILENO, &[b'\n']);
+    text::report::samples(name, counted(s, letter));
 }
 
 fn report_floor(s: &[u8]) {
@@ -152,9 +140,7 @@ fn report_angles(s: &[u8]) {
 fn replay(s: &[u8]) {
     report_floor(s);
     report_angles(s);
-    io::write_all(STDOUT_FILENO, b"unread ");
-    io::print_decimal(STDOUT_FILENO, unread(s) as u64);
-    io::write_all(STDOUT_FILENO, &[b'\n']);
+    text::report::unread(unread(s));
 }
 
 // Room for the text, 2 MiB.

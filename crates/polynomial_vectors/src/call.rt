@@ -1,11 +1,11 @@
 // A stored call of the operation Roots, made anew.
 ghost use Prim.Native.Nat.{_+_, _*_, _≤_, _<_};
 ghost use lib.ListN.{length};
-use crate::text::held;
-use crate::text::word;
 use float::number::bits;
 use float::number::of_bits;
 use polynomial::operation::Answer;
+use text::hex::word;
+use text::lines::held;
 
 // The bits of what place i of the result slice holds beforehand, another float at each place.
 fn rubbish(i: usize) -> u64

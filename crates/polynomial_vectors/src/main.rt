@@ -19,21 +19,15 @@
 // The lines are written by `cargo run --release --offline --bin root_samples` in oracle/: the same
 // calls every time, with 01's own results for its examples and the oracle's for the others.
 mod call;
-mod text;
+mod stored;
 
 use crate::call::agrees;
-use crate::text::line;
+use crate::stored::line;
 use libc::STDIN_FILENO;
-use libc::STDOUT_FILENO;
+use text::report::Tally;
 ghost use mathlib.Core.Path.{_≡_};
 ghost use Prim.Native.Nat.{_+_, _*_, _≤_};
 ghost use lib.ListN.{length};
-
-// How many calls there are of a kind, and how many differ.
-pub struct Tally {
-    pub calls: u64,
-    pub differing: u64,
-}
 
 // 1 for a call that differs, else 0.
 fn differs(s: &[u8], at: usize, k: usize) -> u64
@@ -45,7 +39,7 @@ fn differs(s: &[u8], at: usize, k: usize) -> u64
 
 // The calls of a mark.
 fn counted(s: &[u8], mark: u8) -> Tally {
-    let mut calls = 0u64;
+    let mut samples = 0u64;
     let mut differing = 0u64;
     let mut at = 0usize;
     while at < s.len() {
@@ -54,12 +48,12 @@ fn counted(s: &[u8], mark: u8) -> Tally {
             break;
         }
         if s[at] == mark {
-            calls += 1;
+            samples += 1;
             differing += differs(s, at, k);
         }
         at += 17 * k + 2;
     }
-    Tally { calls, differing }
+    Tally { samples, differing }
 }
 
 // The bytes from the first line on that is no call.
@@ -76,22 +70,14 @@ fn unread(s: &[u8]) -> usize {
 }
 
 fn report(s: &[u8], mark: u8, name: &[u8]) {
-    let t = counted(s, mark);
-    io::write_all(STDOUT_FILENO, name);
-    io::write_all(STDOUT_FILENO, &[b' ']);
-    io::print_decimal(STDOUT_FILENO, t.calls);
-    io::write_all(STDOUT_FILENO, &[b' ']);
-    io::print_decimal(STDOUT_FILENO, t.differing);
-    io::write_all(STDOUT_FILENO, &[b'\n']);
+    text::report::samples(name, counted(s, mark));
 }
 
 fn replay(s: &[u8]) {
     report(s, b'P', b"proved");
     report(s, b'E', b"examples");
     report(s, b'G', b"generated");
-    io::write_all(STDOUT_FILENO, b"unread ");
-    io::print_decimal(STDOUT_FILENO, unread(s) as u64);
-    io::write_all(STDOUT_FILENO, &[b'\n']);
+    text::report::unread(unread(s));
 }
 
 // Room for the text, 1 MiB.

@@ -12,22 +12,16 @@
 //
 // The lines are written by `cargo run --release --offline --bin part_samples` in oracle/: the same
 // samples every time, with the results of the Rust.
-mod text;
+mod sample;
 
-use crate::text::line;
-use crate::text::operands;
-use crate::text::word;
+use crate::sample::line;
+use crate::sample::operands;
 use libc::STDIN_FILENO;
-use libc::STDOUT_FILENO;
+use text::hex::word;
+use text::report::Tally;
 ghost use mathlib.Core.Path.{_≡_};
 ghost use Prim.Native.Nat.{_+_, _*_, _≤_};
 ghost use lib.ListN.{length};
-
-// How many samples there are of a function, and how many differ.
-pub struct Tally {
-    pub samples: u64,
-    pub differing: u64,
-}
 
 // The first six words of a sample, its operands among them; 0 where it has fewer.
 pub struct Words {
@@ -130,13 +124,7 @@ fn unread(s: &[u8]) -> usize {
 }
 
 fn report(s: &[u8], letter: u8, name: &[u8]) {
-    let t = counted(s, letter);
-    io::write_all(STDOUT_FILENO, name);
-    io::write_all(STDOUT_FILENO, &[b' ']);
-    io::print_decimal(STDOUT_FILENO, t.samples);
-    io::write_all(STDOUT_FILENO, &[b' ']);
-    io::print_decimal(STDOUT_FILENO, t.differing);
-    io::write_all(STDOUT_FILENO, &[b'\n']);
+    text::report::samples(name, counted(s, letter));
 }
 
 fn replay(s: &[u8]) {
@@ -144,9 +132,7 @@ fn replay(s: &[u8]) {
     report(s, b'L', b"limits");
     report(s, b'I', b"interval");
     report(s, b'P', b"pose");
-    io::write_all(STDOUT_FILENO, b"unread ");
-    io::print_decimal(STDOUT_FILENO, unread(s) as u64);
-    io::write_all(STDOUT_FILENO, &[b'\n']);
+    text::report::unread(unread(s));
 }
 
 // Room for the text, 1 MiB.

@@ -47,7 +47,7 @@ loop-again : tie.Need-loop-again Inv-loop μ-loop
 loop-again c =
     let p = c .before .before .before in
     let s = p .before .before .before .before .args .s .now in
-    let e : p .before .before .loop .at + 17 * p .line .result + 19 ≤ length s = p .line .ensures (omega arith) in
+    let e : p .before .before .loop .at + 17 * p .line .result + 2 ≤ length s = p .line .ensures (omega arith) in
     ⊎-elim (λ w. omega arith) (λ w. omega arith) (c .if2 .came)
 
 returns : tie.Need-returns Inv-loop μ-loop

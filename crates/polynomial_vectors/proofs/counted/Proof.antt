@@ -1,4 +1,4 @@
--- `polynomial_vectors::counted` is proved: there are no more calls than bytes passed. Assumes nothing.
+-- `polynomial_vectors::counted` is proved: there are no more samples than bytes passed. Assumes nothing.
 use Prim.Native.Nat.{_+_, _*_, _≤_, _-_}
 use native.Mathlib.Omega.{arith}
 use mathlib.Core.Logic.{⊎-elim}
@@ -8,10 +8,10 @@ use Rattle.polynomial_vectors.proofs.counted.Statement.{statement}
 use Rattle.polynomial_vectors.proofs.counted.Tie as tie
 
 abbrev Inv-loop : tie.InvT-loop
-Inv-loop s mark calls₀ differing₀ at₀ calls differing at = (at ≤ length s) × (calls ≤ at) × (differing ≤ at)
+Inv-loop s mark samples₀ differing₀ at₀ samples differing at = (at ≤ length s) × (samples ≤ at) × (differing ≤ at)
 
 abbrev μ-loop : tie.MeasureT-loop
-μ-loop s mark calls₀ differing₀ at₀ calls differing at = length s - at
+μ-loop s mark samples₀ differing₀ at₀ samples differing at = length s - at
 
 loop-holds : tie.Need-loop-holds Inv-loop μ-loop
 loop-holds c = search needs
@@ -22,8 +22,8 @@ line-requires c κs = search needs
 shared-slice-read-if2 : tie.Need-shared-slice-read-if2 Inv-loop μ-loop
 shared-slice-read-if2 c = search needs
 
-add-calls : tie.Need-add-calls Inv-loop μ-loop
-add-calls c = search needs
+add-samples : tie.Need-add-samples Inv-loop μ-loop
+add-samples c = search needs
 
 differs-requires : tie.Need-differs-requires Inv-loop μ-loop
 differs-requires c κs = omega (arith, c .before .before .before .line .ensures (omega arith))
@@ -65,7 +65,7 @@ counted-spec =
     loop-holds
     line-requires
     shared-slice-read-if2
-    add-calls
+    add-samples
     differs-requires
     add-differing
     mul-at

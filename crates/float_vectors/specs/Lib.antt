@@ -1,2 +1,0 @@
--- What the contracts of `float_vectors` cite: hexadecimal digits and words.
-pub mod Hex

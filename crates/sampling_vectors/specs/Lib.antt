@@ -1,2 +1,0 @@
--- What the contracts of `sampling_vectors` cite: hexadecimal digits and words.
-pub mod Hex
