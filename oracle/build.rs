@@ -1,7 +1,13 @@
 //! With the feature `linked`, links the archives of the proved library, which
 //! `rt staticlib NAME` makes at the repository's root.
 
-const ARCHIVES: [&str; 4] = ["float", "float_bench", "polynomial", "sampling_parts"];
+const ARCHIVES: [&str; 5] = [
+    "float",
+    "float_bench",
+    "polynomial",
+    "sampling_parts",
+    "sheet",
+];
 
 fn main() {
     println!("cargo:rerun-if-changed=build.rs");

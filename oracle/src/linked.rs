@@ -240,3 +240,41 @@ pub mod sampling_parts {
         unsafe { parts_pose(x, y, z, w, part) }
     }
 }
+
+/// The operations on requests and sheets: the count, or minus the refusal's
+/// number.
+pub mod sheet {
+    unsafe extern "C" {
+        fn sheet_sample(
+            request: *const u8,
+            bytes: usize,
+            work: *mut f64,
+            places: usize,
+            output: *mut u8,
+            room: usize,
+        ) -> i64;
+        fn sheet_check(sheet: *const u8, bytes: usize, work: *mut f64, places: usize) -> i64;
+    }
+
+    // SAFETY, for both: each slice is lent with its own length, and the function
+    // is proved to stay inside them.
+
+    /// The operation Sampling.
+    pub fn sample(request: &[u8], work: &mut [f64], output: &mut [u8]) -> i64 {
+        unsafe {
+            sheet_sample(
+                request.as_ptr(),
+                request.len(),
+                work.as_mut_ptr(),
+                work.len(),
+                output.as_mut_ptr(),
+                output.len(),
+            )
+        }
+    }
+
+    /// The operation Check.
+    pub fn check(sheet: &[u8], work: &mut [f64]) -> i64 {
+        unsafe { sheet_check(sheet.as_ptr(), sheet.len(), work.as_mut_ptr(), work.len()) }
+    }
+}

@@ -5,9 +5,9 @@
 
 use lemongully_oracle::functions::operands::Operands;
 use lemongully_oracle::functions::{FUNCTIONS, Function};
-use lemongully_oracle::generate::{Random, roots};
+use lemongully_oracle::generate::{Random, requests, roots, sheets};
 use lemongully_oracle::linked;
-use lemongully_oracle::operations::roots_op;
+use lemongully_oracle::operations::{check, roots_op, sample};
 use lemongully_oracle::parts::{self, PARTS, Part};
 use std::process::ExitCode;
 
@@ -165,6 +165,70 @@ fn sampling_runs(count: u64, seed: u64) -> Vec<Run> {
     PARTS.iter().map(run).collect()
 }
 
+/// Places that hold rubbish, the same for the same seed.
+fn rubbish_places(seed: u64, count: usize) -> Vec<f64> {
+    let mut random = Random::new(seed, 0xF00D);
+    (0..count).map(|_| f64::from_bits(random.bits())).collect()
+}
+
+/// Bytes that hold rubbish.
+fn rubbish_bytes(seed: u64, count: usize) -> Vec<u8> {
+    let mut random = Random::new(seed, 0xBEEF);
+    (0..count).map(|_| random.bits() as u8).collect()
+}
+
+/// Whether every place holds the same bits.
+fn same_places(a: &[f64], b: &[f64]) -> bool {
+    std::iter::zip(a, b).all(|(a, b)| a.to_bits() == b.to_bits())
+}
+
+/// The operation Sampling, for requests of these kinds: its answer, every work
+/// place and every byte of the output, all of which hold rubbish beforehand.
+fn sample_run(name: &'static str, kinds: &[u8], count: u64, seed: u64) -> Run {
+    let (places, bytes) = (rubbish_places(seed, 4096), rubbish_bytes(seed, 32768));
+    let (mut differences, mut first) = (0, None);
+    for index in 0..count {
+        let call = requests::call(seed, index, kinds);
+        let mut work = [places[..call.work].to_vec(), places[..call.work].to_vec()];
+        let mut output = [bytes[..call.output].to_vec(), bytes[..call.output].to_vec()];
+        let answer = sample(&call.request, &mut work[0], &mut output[0]);
+        let linked = linked::sheet::sample(&call.request, &mut work[1], &mut output[1]);
+        if answer != linked || output[0] != output[1] || !same_places(&work[0], &work[1]) {
+            differences += 1;
+            first.get_or_insert_with(|| format!("{call:?}: {answer}, linked {linked}"));
+        }
+    }
+    Run {
+        name,
+        inputs: count,
+        differences,
+        first,
+    }
+}
+
+/// The operation Check, for sheets of requests of these kinds, most of them
+/// damaged: its answer and every work place.
+fn check_run(name: &'static str, kinds: &[u8], count: u64, seed: u64) -> Run {
+    let places = rubbish_places(seed, 4096);
+    let (mut differences, mut first) = (0, None);
+    for index in 0..count {
+        let call = sheets::call(seed, index, kinds);
+        let mut work = [places[..call.work].to_vec(), places[..call.work].to_vec()];
+        let answer = check(&call.sheet, &mut work[0]);
+        let linked = linked::sheet::check(&call.sheet, &mut work[1]);
+        if answer != linked || !same_places(&work[0], &work[1]) {
+            differences += 1;
+            first.get_or_insert_with(|| format!("{call:02X?}: {answer}, linked {linked}"));
+        }
+    }
+    Run {
+        name,
+        inputs: count,
+        differences,
+        first,
+    }
+}
+
 fn section(arguments: &[String]) -> Option<Vec<Run>> {
     let [section, count, rest @ ..] = arguments else {
         return None;
@@ -179,6 +243,15 @@ fn section(arguments: &[String]) -> Option<Vec<Run>> {
         "float" => Some(float_runs(count, seed)),
         "polynomial" => Some(polynomial_runs(count, seed)),
         "sampling" => Some(sampling_runs(count, seed)),
+        "one" => Some(vec![
+            sample_run("sample, kind 1", &[1], count, seed),
+            sample_run("sample, kind 2", &[2], count, seed),
+            check_run("check, kinds 1 and 2", &[1, 2], count, seed),
+        ]),
+        "two" => Some(vec![
+            sample_run("sample, kind 3", &[3], count, seed),
+            check_run("check, kind 3", &[3], count / 10, seed),
+        ]),
         _ => None,
     }
 }
@@ -186,7 +259,7 @@ fn section(arguments: &[String]) -> Option<Vec<Run>> {
 fn main() -> ExitCode {
     let arguments: Vec<String> = std::env::args().skip(1).collect();
     let Some(runs) = section(&arguments) else {
-        eprintln!("differential float|polynomial|sampling COUNT [SEED]");
+        eprintln!("differential float|polynomial|sampling|one|two COUNT [SEED]");
         return ExitCode::FAILURE;
     };
     for run in &runs {
