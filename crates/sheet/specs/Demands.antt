@@ -1,4 +1,4 @@
--- The three demands as statements about the definitions that the contracts of Sampling and Check cite; `Laws.Demands` proves each. What stays with the contracts: that the code's answer, output and work are these definitions' (`sampling::sample`, `check::check`).
+-- The three demands as statements about the definitions that the contracts of Sampling and Check cite; `Laws.Demands` proves each. What stays with the contracts: that the code's answer, output and work are these definitions' (`sample::sample`, `check::check`).
 use Prim.Native.Nat.{ℕ, _^_, _<_}
 use mathlib.Core.Path.{_≡_}
 use mathlib.Core.List.{List}
