@@ -7,6 +7,7 @@ ghost use lib.ListN.{length};
 ghost use lib.Seq.{sets};
 ghost use Rattle.sheet.specs.Bytes as Bytes;
 ghost use Rattle.sheet.specs.Request as Request;
+use crate::view::byte_in;
 
 // Sizes and positions, in bytes; specs/Request.antt has the same.
 pub(crate) const REQUEST: usize = 264;
@@ -82,7 +83,10 @@ pub(crate) fn shape_of(request: &[u8]) -> Shape
     requires { ⌜ length (now request) ≡ Request.request-size ⌝ }
     ensures { λ r. ⌜ r ≡ Request.shape-of (now (request .entry)) ⌝ }
 {
-    shape_from(request[0], request[1], request[2])
+    let kind = byte_in(request, 0);
+    let limits = byte_in(request, 1);
+    let fixed = byte_in(request, 2);
+    shape_from(kind, limits, fixed)
 }
 
 // Joints 4, 5 and, unless fixed, 6.

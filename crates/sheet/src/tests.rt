@@ -14,6 +14,7 @@ use crate::request::Shape;
 use crate::request::field_read;
 use crate::request::place;
 use crate::request::shape_of;
+use crate::view::byte_in;
 use float::number::is_finite;
 use sampling::pose::Normalized;
 use sampling::pose::try_normalize;
@@ -51,7 +52,7 @@ fn zeros_from(request: &[u8], at: usize, n: usize) -> bool
 {
     let mut i = 0usize;
     while i < n {
-        if request[at + i] != 0 {
+        if byte_in(request, at + i) != 0 {
             return false;
         }
         i += 1;
@@ -65,7 +66,7 @@ fn head_right(request: &[u8]) -> bool
     ensures { λ r. ⌜ r ≡ Tests.head-right (now (request .entry)) ⌝ }
 {
     if right(shape_of(request)) {
-        return (request[3] == 0) & zeros_from(request, RESERVED, 6);
+        return (byte_in(request, 3) == 0) & zeros_from(request, RESERVED, 6);
     }
     false
 }
@@ -76,7 +77,7 @@ fn sign_right(s: Shape, request: &[u8], j: usize) -> bool
 {
     if field_read(s, Field::Sign, j) {
         let at = place(Field::Sign, j);
-        let b = request[at];
+        let b = byte_in(request, at);
         return (b == 1) | (b == 255);
     }
     true

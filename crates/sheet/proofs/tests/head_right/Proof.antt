@@ -1,4 +1,4 @@
--- `sheet::tests::head_right` meets its contract: at each return, what the calls and the tests on the way to it say. Assumes nothing.
+-- `sheet::tests/head_right` meets its contract: at each return, what the calls and the tests on the way to it say. Assumes nothing.
 use borrow.Author.Needs.{needs}
 use Rattle.sheet.specs.Tests.{head-right}
 use Rattle.sheet.proofs.tests.head_right.Statement.{statement}
@@ -10,19 +10,19 @@ shape-of-requires c = search needs
 right-requires : tie.Need-right-requires
 right-requires c = search needs
 
-shared-slice-read-result : tie.Need-shared-slice-read-result
-shared-slice-read-result c = search needs
+byte-in-requires : tie.Need-byte-in-requires
+byte-in-requires c = search needs
 
 zeros-from-requires : tie.Need-zeros-from-requires
 zeros-from-requires c = search needs
 
 returns : tie.Need-returns
 unfolding head-right
-returns c = simp (← c .before .before .before .before .shape-of .ensures, ← c .before .before .before .right .ensures, c .before .before .if1 .taken, ← c .zeros-from .ensures)
+returns c = simp (← c .before .before .before .before .shape-of .ensures, ← c .before .before .before .right .ensures, c .before .before .if1 .taken, ← c .before .byte-in .ensures, ← c .zeros-from .ensures)
 
 returns-2 : tie.Need-returns-2
 unfolding head-right
 returns-2 c = simp (← c .before .before .shape-of .ensures, ← c .before .right .ensures, c .if1 .left)
 
 pub head-right-spec : {M : Type 1} → statement M
-head-right-spec = tie.close (tie.spec shape-of-requires right-requires shared-slice-read-result zeros-from-requires returns returns-2)
+head-right-spec = tie.close (tie.spec shape-of-requires right-requires byte-in-requires zeros-from-requires returns returns-2)

@@ -2,7 +2,7 @@
 use Prim.Native.Nat.{_≤_, _+_, _-_}
 use native.Mathlib.Omega.{arith}
 use native.Mathlib.Nat.{add-zero, sub-zero}
-use mathlib.Core.Path.{_≡_, _∙_}
+use mathlib.Core.Path.{_≡_, sym, _∙_}
 use borrow.Author.Tests.{eq-eqb, ne-eqb}
 use Rattle.sheet.specs.Tests.{all-from, zero-at}
 use Rattle.sheet.proofs.tests.Turns.{all-turn, all-stop, all-end}
@@ -18,17 +18,17 @@ abbrev μ-loop : tie.MeasureT-loop
 loop-holds : tie.Need-loop-holds Inv-loop μ-loop
 loop-holds c = (omega arith, rw (sub-zero, add-zero))
 
-add-if1 : tie.Need-add-if1 Inv-loop μ-loop
-add-if1 c = omega arith
+add-byte-in : tie.Need-add-byte-in Inv-loop μ-loop
+add-byte-in c = omega arith
 
-shared-slice-read-if1 : tie.Need-shared-slice-read-if1 Inv-loop μ-loop
-shared-slice-read-if1 c = omega arith
+byte-in-requires : tie.Need-byte-in-requires Inv-loop μ-loop
+byte-in-requires c = omega arith
 
 returns : tie.Need-returns Inv-loop μ-loop
 returns c =
     let b = c .before .before .before in
-    let a = b .before .args in
-    all-stop (zero-at (a .request .now)) (a .n - (b .loop .i + 1)) _ _ (omega arith) (ne-eqb _ _ (c .if1 .taken)) ∙ b .loop .inv .1
+    let a = b .before .before .args in
+    all-stop (zero-at (a .request .now)) (a .n - (b .loop .i + 1)) _ _ (omega arith) (ne-eqb _ _ (λ q. c .if1 .taken (c .before .byte-in .ensures ∙ q))) ∙ b .loop .inv .1
 
 add-i : tie.Need-add-i Inv-loop μ-loop
 add-i c = omega arith
@@ -39,12 +39,12 @@ loop-less c = omega arith
 loop-again : tie.Need-loop-again Inv-loop μ-loop
 loop-again c =
     let b = c .before .before .before in
-    let a = b .before .args in
-    (omega arith, all-turn (zero-at (a .request .now)) _ _ _ _ (omega arith) (omega arith) (eq-eqb _ _ (c .if1 .left)) ∙ b .loop .inv .1)
+    let a = b .before .before .args in
+    (omega arith, all-turn (zero-at (a .request .now)) _ _ _ _ (omega arith) (omega arith) (eq-eqb _ _ (sym (c .before .byte-in .ensures) ∙ c .if1 .left)) ∙ b .loop .inv .1)
 
 returns-2 : tie.Need-returns-2 Inv-loop μ-loop
 returns-2 c =
-    let a = c .before .before .args in
+    let a = c .before .before .before .args in
     all-end (zero-at (a .request .now)) _ _ (omega arith) ∙ c .before .loop .inv .1
 
 pub zeros-from-spec : {M : Type 1} → statement M
@@ -54,8 +54,8 @@ zeros-from-spec =
     Inv-loop
     μ-loop
     loop-holds
-    add-if1
-    shared-slice-read-if1
+    add-byte-in
+    byte-in-requires
     returns
     add-i
     loop-less
