@@ -1,6 +1,7 @@
 // The error of a rounded product, `fma(a, b, -(a * b))`: by Dekker's halves where both operands are
 // zero or from 2^-400 to 2^400 in magnitude, and by the fused product elsewhere.
 ghost use mathlib.Core.Path.{_≡_};
+ghost use mathlib.Core.Bool.{true};
 ghost use Rattle.float.specs.ProductError as ProductError;
 use crate::mul_add::mul_add;
 
@@ -18,7 +19,7 @@ fn sized(m: f64) -> bool
 }
 
 // Whether Dekker's halves serve an operand.
-fn in_range(x: f64) -> bool
+pub fn in_range(x: f64) -> bool
     ensures { λ r. ⌜ r ≡ ProductError.in-range x ⌝ }
 {
     if x < 0.0 {
@@ -50,21 +51,29 @@ pub fn halved_operand(x: f64) -> Halves
     }
 }
 
+// The error of a product, where Dekker's halves serve both operands.
+pub fn error_by_halves(a: f64, b: Halves) -> f64
+    requires { ⌜ (b ≡ ProductError.halves (b .whole)) × (ProductError.in-range a ≡ true) × (b .fine ≡ true) ⌝ }
+    ensures { λ r. ⌜ r ≡ ProductError.product-error a (b .whole) ⌝ }
+{
+    let p = a * b.whole;
+    let c = 134217729.0 * a;
+    let high = c - (c - a);
+    let low = a - high;
+    (((high * b.high - p) + high * b.low) + low * b.high) + low * b.low
+}
+
 // The error of a product with an operand whose halves are at hand.
 pub fn product_error_by(a: f64, b: Halves) -> f64
     requires { ⌜ b ≡ ProductError.halves (b .whole) ⌝ }
     ensures { λ r. ⌜ r ≡ ProductError.product-error a (b .whole) ⌝ }
 {
-    let p = a * b.whole;
     if in_range(a) {
         if b.fine {
-            let c = 134217729.0 * a;
-            let high = c - (c - a);
-            let low = a - high;
-            return (((high * b.high - p) + high * b.low) + low * b.high) + low * b.low;
+            return error_by_halves(a, b);
         }
     }
-    mul_add(a, b.whole, -p)
+    mul_add(a, b.whole, -(a * b.whole))
 }
 
 // a * b - p for the rounded product p = a * b, rounded.

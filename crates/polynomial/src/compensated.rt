@@ -1,11 +1,13 @@
 // Compensated numbers, from src/singularity/j1j2free.rs: a rounded value and its residual rounding
 // error, by value.
 ghost use mathlib.Core.Path.{_≡_};
-ghost use Rattle.float.specs.ProductError.{halves};
+ghost use mathlib.Core.Bool.{true};
+ghost use Rattle.float.specs.ProductError.{halves, in-range};
 ghost use Rattle.polynomial.specs.Compensated as Of;
 use float::product_error::Halves;
+use float::product_error::error_by_halves;
+use float::product_error::in_range;
 use float::product_error::product_error;
-use float::product_error::product_error_by;
 
 pub struct Compensated {
     pub high: f64,
@@ -53,13 +55,13 @@ impl Compensated {
         }
     }
 
-    // The product with a float whose halves are at hand.
-    pub fn times_by(self, x: Halves) -> Self
-        requires { ⌜ x ≡ halves (x .whole) ⌝ }
+    // The product with a float, where Dekker's halves serve both it and the high part.
+    pub fn times_by_halves(self, x: Halves) -> Self
+        requires { ⌜ (x ≡ halves (x .whole)) × (in-range (self .high) ≡ true) × (x .fine ≡ true) ⌝ }
         ensures { λ r. ⌜ r ≡ Of.times self (Of.from (x .whole)) ⌝ }
     {
         let product = self.high * x.whole;
-        let error = product_error_by(self.high, x)
+        let error = error_by_halves(self.high, x)
             + self.high * 0.0
             + self.low * x.whole
             + self.low * 0.0;
@@ -68,6 +70,19 @@ impl Compensated {
             high,
             low: error - (high - product),
         }
+    }
+
+    // The product with a float whose halves are at hand.
+    pub fn times_by(self, x: Halves) -> Self
+        requires { ⌜ x ≡ halves (x .whole) ⌝ }
+        ensures { λ r. ⌜ r ≡ Of.times self (Of.from (x .whole)) ⌝ }
+    {
+        if in_range(self.high) {
+            if x.fine {
+                return self.times_by_halves(x);
+            }
+        }
+        self.times(Compensated::from(x.whole))
     }
 
     // Both components rounded to one float.

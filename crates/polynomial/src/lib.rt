@@ -5,6 +5,7 @@ pub mod arithmetic;
 pub mod compensated;
 pub mod curve;
 pub mod cuts;
+pub mod halving;
 pub mod interface;
 pub mod norm;
 pub mod operation;

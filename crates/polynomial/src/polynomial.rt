@@ -4,10 +4,12 @@ ghost use mathlib.Core.Path.{_≡_};
 ghost use Prim.Native.Nat.{_+_, _-_, _≤_, _<_};
 ghost use lib.ListN.{take};
 ghost use Rattle.polynomial.specs.Polynomial as Of;
+ghost use Rattle.polynomial.specs.Inside.{Known};
 use crate::compensated::Compensated;
 use float::number::abs;
 use float::number::is_finite;
 use float::product_error::halved_operand;
+use float::product_error::in_range;
 
 // The value at x of the first n coefficients, by compensated Horner arithmetic.
 pub fn evaluate(p: [Compensated; 9], n: usize, x: f64) -> f64
@@ -23,6 +25,47 @@ pub fn evaluate(p: [Compensated; 9], n: usize, x: f64) -> f64
         sum = sum.times_by(point).plus(c);
     }
     sum.value()
+}
+
+// The values at three points, or none of them.
+pub enum Three {
+    Values(f64, f64, f64),
+    Unknown,
+}
+
+// The values at x, y and z, worked out side by side; none where Dekker's halves do not serve. The
+// tests stand between the products, so that these are not put into pairs.
+pub fn evaluate_three(p: [Compensated; 9], n: usize, x: f64, y: f64, z: f64) -> Three
+    requires { ⌜ n ≤ 9 ⌝ }
+    ensures { λ r. ⌜ Known (Of.evaluate (take n p)) x y z r ⌝ }
+{
+    let at_x = halved_operand(x);
+    let at_y = halved_operand(y);
+    let at_z = halved_operand(z);
+    if !(at_x.fine & at_y.fine & at_z.fine) {
+        return Three::Unknown;
+    }
+    let mut a = Compensated::from(0.0);
+    let mut b = a;
+    let mut d = a;
+    let mut i = n;
+    while 0 < i {
+        i -= 1;
+        let c = p[i];
+        if !in_range(a.high) {
+            return Three::Unknown;
+        }
+        a = a.times_by_halves(at_x).plus(c);
+        if !in_range(b.high) {
+            return Three::Unknown;
+        }
+        b = b.times_by_halves(at_y).plus(c);
+        if !in_range(d.high) {
+            return Three::Unknown;
+        }
+        d = d.times_by_halves(at_z).plus(c);
+    }
+    Three::Values(a.value(), b.value(), d.value())
 }
 
 // The coefficients' magnitudes, added up as the value at x is.

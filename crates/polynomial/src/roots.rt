@@ -13,13 +13,13 @@ ghost use Rattle.polynomial.specs.Inside.{Ready, crossed};
 use crate::compensated::Compensated;
 use crate::cuts::Put;
 use crate::cuts::insert;
+use crate::halving::bisect;
 use crate::polynomial::all_finite;
 use crate::polynomial::derivative;
 use crate::polynomial::evaluate;
 use crate::polynomial::trimmed;
 use crate::polynomial::value_near;
 use float::number::is_sign_positive;
-use float::number::middle;
 
 // Two neighbouring points, and the values there.
 pub struct Interval {
@@ -27,34 +27,6 @@ pub struct Interval {
     pub hi: f64,
     pub u: f64,
     pub v: f64,
-}
-
-// Halves the interval until no float lies strictly inside; the value at `from` is positive where
-// `positive` says so.
-fn bisect(p: [Compensated; 9], n: usize, from: f64, to: f64, positive: bool) -> f64
-    requires { ⌜ (n ≤ 9) × Span 2 from to ⌝ }
-    ensures { λ r. ⌜ r ≡ Roots.bisected (Of.evaluate (take n p)) positive from to ⌝ }
-{
-    let mut lo = from;
-    let mut hi = to;
-    loop {
-        let m = middle(lo, hi);
-        if m == lo {
-            return m;
-        }
-        if m == hi {
-            return m;
-        }
-        let value = evaluate(p, n, m);
-        if value == 0.0 {
-            return middle(m, m);
-        }
-        if is_sign_positive(value) == positive {
-            lo = m;
-        } else {
-            hi = m;
-        }
-    }
 }
 
 // Whether two values have different signs, and neither is zero.

@@ -1,23 +1,29 @@
 -- `Compensated::times_by` meets its contract. Assumes nothing.
-use mathlib.Core.Path.{_≡_, ap₂}
-use lib.Ieee.{Float}
+use mathlib.Core.Path.{_≡_, sym, ap, _∙_}
 use borrow.Author.Needs.{needs}
-use Rattle.float.specs.Number.{_⊕_, _⊗_}
-use Rattle.float.specs.Laws.Zero.{zero-bits}
-use Rattle.polynomial.specs.Compensated.{rounded, times}
+use Rattle.polynomial.specs.Compensated.{times}
 use Rattle.polynomial.proofs.compensated.Compensated.times_by.Statement.{statement}
 use Rattle.polynomial.proofs.compensated.Compensated.times_by.Tie as tie
 
-product-error-by-requires : tie.Need-product-error-by-requires
-product-error-by-requires c κs = search needs
+in-range-requires : tie.Need-in-range-requires
+in-range-requires c κs = search needs
+
+times-by-halves-requires : tie.Need-times-by-halves-requires
+times-by-halves-requires c κs =
+    let r = c .before .before in
+    (r .before .pre, sym (r .in-range .ensures) ∙ c .before .if1 .taken, c .if2 .taken)
 
 returns : tie.Need-returns
-unfolding times
-returns c =
-    let e = c .before .before .before .before in
-    let a = e .before .before .before .args .self in
-    let b = e .before .before .before .args .x .whole in
-    ap₂ (λ (x o : Float). rounded (a .high ⊗ b) (x ⊕ a .high ⊗ o ⊕ a .low ⊗ b ⊕ a .low ⊗ o)) (e .product-error-by .ensures) zero-bits
+returns c = c .times-by-halves .ensures
+
+from-requires : tie.Need-from-requires
+from-requires c κs = search needs
+
+times-requires : tie.Need-times-requires
+times-requires c κs = search needs
+
+returns-2 : tie.Need-returns-2
+returns-2 c = c .times .ensures ∙ ap (times _) (c .before .from .ensures)
 
 pub times-by-spec : {M : Type 1} → statement M
-times-by-spec = tie.close (tie.spec product-error-by-requires returns)
+times-by-spec = tie.close (tie.spec in-range-requires times-by-halves-requires returns from-requires times-requires returns-2)

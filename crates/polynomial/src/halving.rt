@@ -1,0 +1,99 @@
+// Halving an interval until no float lies strictly inside. Mostly two turns at a time: the values at
+// the middle and at both middles that can come next are worked out side by side.
+ghost use mathlib.Core.Path.{_≡_};
+ghost use Prim.Native.Nat.{_≤_};
+ghost use lib.ListN.{take};
+ghost use Rattle.polynomial.specs.Polynomial as Of;
+ghost use Rattle.polynomial.specs.Roots as Roots;
+ghost use Rattle.float.specs.Laws.Middle.{Span};
+ghost use Rattle.polynomial.specs.Inside as Inside;
+use crate::compensated::Compensated;
+use crate::polynomial::Three;
+use crate::polynomial::evaluate;
+use crate::polynomial::evaluate_three;
+use float::number::is_sign_positive;
+use float::number::middle;
+
+// What a turn says: the result, or which half to go on in.
+pub enum Turn {
+    Done(f64),
+    Upper,
+    Lower,
+}
+
+// What turns leave: the result, or an interval to go on in.
+pub enum Left {
+    Result(f64),
+    Between(f64, f64),
+}
+
+// A turn at the middle m of lo and hi, where the value is v.
+fn turned(lo: f64, hi: f64, m: f64, v: f64, positive: bool) -> Turn
+    ensures { λ r. ⌜ r ≡ Inside.turned lo hi m v positive ⌝ }
+{
+    if m == lo {
+        return Turn::Done(m);
+    }
+    if m == hi {
+        return Turn::Done(m);
+    }
+    if v == 0.0 {
+        return Turn::Done(middle(m, m));
+    }
+    if is_sign_positive(v) == positive {
+        return Turn::Upper;
+    }
+    Turn::Lower
+}
+
+// What that turn leaves.
+fn halved(lo: f64, hi: f64, m: f64, v: f64, positive: bool) -> Left
+    ensures { λ r. ⌜ r ≡ Inside.halved lo hi m v positive ⌝ }
+{
+    let turn = turned(lo, hi, m, v, positive);
+    match turn {
+        Turn::Done(x) => Left::Result(x),
+        Turn::Upper => Left::Between(m, hi),
+        Turn::Lower => Left::Between(lo, m),
+    }
+}
+
+// What a turn leaves or, where the three values are known, two turns.
+fn narrowed(p: [Compensated; 9], n: usize, lo: f64, hi: f64, positive: bool) -> Left
+    requires { ⌜ (n ≤ 9) × Span 2 lo hi ⌝ }
+    ensures { λ r. ⌜ Inside.Leaves (Of.evaluate (take n p)) positive lo hi r ⌝ }
+{
+    let m = middle(lo, hi);
+    let below = middle(lo, m);
+    let above = middle(m, hi);
+    let values = evaluate_three(p, n, below, m, above);
+    let Three::Values(u, v, w) = values else {
+        return halved(lo, hi, m, evaluate(p, n, m), positive);
+    };
+    let turn = turned(lo, hi, m, v, positive);
+    match turn {
+        Turn::Done(x) => Left::Result(x),
+        Turn::Upper => halved(m, hi, above, w, positive),
+        Turn::Lower => halved(lo, m, below, u, positive),
+    }
+}
+
+// Halves the interval until no float lies strictly inside; the value at `from` is positive where
+// `positive` says so.
+pub fn bisect(p: [Compensated; 9], n: usize, from: f64, to: f64, positive: bool) -> f64
+    requires { ⌜ (n ≤ 9) × Span 2 from to ⌝ }
+    ensures { λ r. ⌜ r ≡ Roots.bisected (Of.evaluate (take n p)) positive from to ⌝ }
+{
+    let mut lo = from;
+    let mut hi = to;
+    loop {
+        let left = narrowed(p, n, lo, hi, positive);
+        match left {
+            Left::Result(x) => return x,
+            Left::Between(x, y) => {
+                lo = x;
+                hi = y;
+            }
+        }
+    }
+}
