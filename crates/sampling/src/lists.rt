@@ -14,7 +14,7 @@ pub struct Lists {
 }
 
 // How many samples n cuts give.
-pub(crate) fn sample_count(n: usize) -> usize
+pub fn sample_count(n: usize) -> usize
     requires { ⌜ n ≤ 2 ^ 60 ⌝ }
     ensures { λ r. ⌜ r ≡ Of.sample-count n ⌝ }
 {

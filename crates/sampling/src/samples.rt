@@ -1,14 +1,17 @@
 // From the boundary angles of one free joint to its samples, from `sample_angles` of
 // src/singularity/continuum.rs.
 ghost use mathlib.Core.Path.{_≡_};
+ghost use mathlib.Core.List.{[], _∷_};
 ghost use Prim.Native.Nat.{_≤_};
 ghost use lib.ListN.{length, take, getD};
 ghost use lib.Ieee.{nan};
 ghost use Rattle.polynomial.specs.Laws.Held.{Kept};
-ghost use Rattle.sampling.specs.Grown.{Grown};
+ghost use Rattle.sampling.specs.Grown.{Grown, counted};
 ghost use Rattle.sampling.specs.Samples as Of;
 use crate::intervals::Range;
-use crate::work::push;
+use crate::work::number_of;
+use crate::work::put_in;
+use crate::work::put_of;
 use float::number::abs;
 use float::number::is_finite;
 use float::number::maximum;
@@ -17,12 +20,12 @@ use float::number::minimum;
 use polynomial::cuts::Put;
 
 // An angle counts where it lies in the interval.
-fn inside(work: &mut [f64], cuts: Put, lower: f64, upper: f64, angle: f64) -> Put
-    ensures { λ r. ⌜ Grown (Of.inside lower upper angle) (now (work .entry)) cuts (now (work .exit)) r ⌝ }
+fn inside(work: &mut [f64], cuts: usize, lower: f64, upper: f64, angle: f64) -> usize
+    ensures { λ r. ⌜ Grown (Of.inside lower upper angle) (now (work .entry)) (counted cuts (now (work .entry))) (now (work .exit)) (counted r (now (work .exit))) ⌝ }
 {
     if lower <= angle {
         if angle <= upper {
-            return push(work, cuts, angle);
+            return put_in(work, cuts, angle);
         }
         return cuts;
     }
@@ -30,8 +33,8 @@ fn inside(work: &mut [f64], cuts: Put, lower: f64, upper: f64, angle: f64) -> Pu
 }
 
 // An angle, a turn below, as it is and a turn above.
-fn turns(work: &mut [f64], cuts: Put, lower: f64, upper: f64, angle: f64) -> Put
-    ensures { λ r. ⌜ Grown (Of.turns lower upper angle) (now (work .entry)) cuts (now (work .exit)) r ⌝ }
+fn turns(work: &mut [f64], cuts: usize, lower: f64, upper: f64, angle: f64) -> usize
+    ensures { λ r. ⌜ Grown (Of.turns lower upper angle) (now (work .entry)) (counted cuts (now (work .entry))) (now (work .exit)) (counted r (now (work .exit))) ⌝ }
 {
     let below = inside(work, cuts, lower, upper, angle + -1.0 * 6.283185307179586);
     let same = inside(work, below, lower, upper, angle + 0.0 * 6.283185307179586);
@@ -50,19 +53,19 @@ pub(crate) fn all_turns(
     requires { ⌜ n ≤ length (now angles) ⌝ }
     ensures { λ r. ⌜ Grown (Of.all-turns lower upper (take n (now (angles .entry)))) (now (work .entry)) cuts (now (work .exit)) r ⌝ }
 {
-    let mut state = cuts;
+    let mut state = number_of(cuts, work.len());
     let mut i = 0;
     while i < n {
         let angle = angles[i];
         i += 1;
         state = turns(work, state, lower, upper, angle);
     }
-    state
+    put_of(state, work.len())
 }
 
 // A root counts if it is finite.
-fn windings(work: &mut [f64], cuts: Put, lower: f64, upper: f64, root: f64) -> Put
-    ensures { λ r. ⌜ Grown (Of.windings lower upper root) (now (work .entry)) cuts (now (work .exit)) r ⌝ }
+fn windings(work: &mut [f64], cuts: usize, lower: f64, upper: f64, root: f64) -> usize
+    ensures { λ r. ⌜ Grown (Of.windings lower upper root) (now (work .entry)) (counted cuts (now (work .entry))) (now (work .exit)) (counted r (now (work .exit))) ⌝ }
 {
     if is_finite(root) {
         return turns(work, cuts, lower, upper, root);
@@ -71,9 +74,16 @@ fn windings(work: &mut [f64], cuts: Put, lower: f64, upper: f64, root: f64) -> P
 }
 
 // Those of the first n roots.
-fn all_windings(work: &mut [f64], cuts: Put, lower: f64, upper: f64, roots: &[f64], n: usize) -> Put
+fn all_windings(
+    work: &mut [f64],
+    cuts: usize,
+    lower: f64,
+    upper: f64,
+    roots: &[f64],
+    n: usize,
+) -> usize
     requires { ⌜ n ≤ length (now roots) ⌝ }
-    ensures { λ r. ⌜ Grown (Of.all-windings lower upper (take n (now (roots .entry)))) (now (work .entry)) cuts (now (work .exit)) r ⌝ }
+    ensures { λ r. ⌜ Grown (Of.all-windings lower upper (take n (now (roots .entry)))) (now (work .entry)) (counted cuts (now (work .entry))) (now (work .exit)) (counted r (now (work .exit))) ⌝ }
 {
     let mut state = cuts;
     let mut i = 0;
@@ -101,9 +111,10 @@ pub(crate) fn interval_cuts(
         Range::Between(a, b) => {
             let lower = near + a;
             let upper = near + b;
-            let first = push(work, Put::Count(0), lower);
-            let ends = push(work, first, upper);
-            all_windings(work, ends, lower, upper, roots, n)
+            let first = put_in(work, 0, lower);
+            let ends = put_in(work, first, upper);
+            let all = all_windings(work, ends, lower, upper, roots, n);
+            put_of(all, work.len())
         }
     }
 }
@@ -114,6 +125,25 @@ fn inset(lower: f64, upper: f64) -> f64
 {
     let most = 1.4210854715202004e-14 * (1.0 + maximum(abs(lower), abs(upper)));
     minimum(most, (upper - lower) / 4.0)
+}
+
+// Three samples.
+pub struct Three {
+    pub first: f64,
+    pub second: f64,
+    pub third: f64,
+}
+
+// The three samples between two neighbours.
+pub fn between(lower: f64, upper: f64) -> Three
+    ensures { λ r. ⌜ r .first ∷ (r .second ∷ (r .third ∷ [])) ≡ Of.between lower upper ⌝ }
+{
+    let by = inset(lower, upper);
+    Three {
+        first: lower + by,
+        second: middle(lower, upper),
+        third: upper - by,
+    }
 }
 
 // Of the three samples between two neighbours, the first (0), the second (1) or the third.

@@ -31,20 +31,25 @@ lifted q j z e a b h = (
 wide : (q : ℕ) → q < 2 ^ 53 → q < 2 ^ 64
 wide q h = omega arith
 
+returns : tie.Need-returns
+returns c = omega arith
+
 cast-result : tie.Need-cast-result
-cast-result c = omega (arith, leading-le 64 (c .args .q))
+cast-result c = omega (arith, leading-le 64 (c .before .args .q))
 
 sub-result : tie.Need-sub-result
 sub-result c =
-    let q = c .args .q in
-    let t = leading-top 64 q (c .pre .0) (wide q (c .pre .1)) in
-    omega (arith, t .1, place q (t .0) (t .2) (c .pre .1))
+    let a = c .before in
+    let q = a .args .q in
+    let t = leading-top 64 q (a .pre .0) (wide q (a .pre .1)) in
+    omega (arith, t .1, place q (t .0) (t .2) (a .pre .1))
 
-returns : tie.Need-returns
-returns c =
-    let q = c .args .q in
-    let t = leading-top 64 q (c .pre .0) (wide q (c .pre .1)) in
-    lifted q (t .0) (leadingZeros 64 q) (t .1) (t .2) (t .3) (place q (t .0) (t .2) (c .pre .1))
+returns-2 : tie.Need-returns-2
+returns-2 c =
+    let a = c .before in
+    let q = a .args .q in
+    let t = leading-top 64 q (a .pre .0) (wide q (a .pre .1)) in
+    lifted q (t .0) (leadingZeros 64 q) (t .1) (t .2) (t .3) (place q (t .0) (t .2) (a .pre .1))
 
 pub lift-spec : {M : Type 1} → statement M
-lift-spec = tie.close (tie.spec cast-result sub-result returns)
+lift-spec = tie.close (tie.spec returns cast-result sub-result returns-2)

@@ -1,11 +1,13 @@
 -- `sampling::samples::all_turns` meets its contract. The loop's invariant: where those of the angles that are left come to a slice, all come to it. Assumes nothing.
-use Prim.Native.Nat.{_-_, _≤_}
+use Prim.Native.Nat.{ℕ, _-_, _≤_}
 use native.Mathlib.Omega.{arith}
-use mathlib.Core.Path.{_≡_, refl, _∙_}
+use mathlib.Core.Path.{_≡_, refl, sym, subst₂, _∙_}
 use lib.ListN.{length, take}
 use lib.Seq.{slice}
 use borrow.Author.Needs.{needs}
-use Rattle.sampling.specs.Laws.Grown.{Leads, leads-all, leads-next, leads-end}
+use Rattle.sampling.specs.Laws.Grown.{Leads, leads-all, leads-next, leads-end, from-number}
+use Rattle.sampling.specs.Grown.{Grown, counted}
+use Rattle.polynomial.specs.declared.cuts.Put.{Put}
 use Rattle.sampling.specs.Laws.Samples.{turns-next, turns-end}
 use Rattle.sampling.specs.Samples as Of
 use Rattle.sampling.proofs.samples.all_turns.Statement.{statement}
@@ -13,10 +15,13 @@ use Rattle.sampling.proofs.samples.all_turns.Tie as tie
 
 abbrev Inv-loop : tie.InvT-loop
 Inv-loop work₀ lower upper angles n state₀ i₀ work state i =
-    (i ≤ n) × (length work ≡ length work₀) × Leads (Of.all-turns lower upper (take n angles)) (Of.all-turns lower upper (slice i n angles)) work₀ state₀ work state
+    (i ≤ n) × (length work ≡ length work₀) × Leads (Of.all-turns lower upper (take n angles)) (Of.all-turns lower upper (slice i n angles)) work₀ (counted state₀ work₀) work (counted state work)
 
 abbrev μ-loop : tie.MeasureT-loop
 μ-loop work₀ lower upper angles n state₀ i₀ work state i = n - i
+
+number-of-requires : tie.Need-number-of-requires Inv-loop μ-loop
+number-of-requires c κs = search needs
 
 loop-holds : tie.Need-loop-holds Inv-loop μ-loop
 loop-holds c = (search needs, refl, leads-all)
@@ -40,20 +45,26 @@ loop-again : tie.Need-loop-again Inv-loop μ-loop
 loop-again c =
     let w = c .before .before in
     let l = w .before .before .before .before in
-    let a = l .before .before .before .args in (
+    let a = l .before .before .before .before .args in (
       search needs,
       w .turns .ensures .same ∙ l .loop .inv .1,
       leads-next (l .loop .inv .2) (turns-next (a .lower) (a .upper) (a .angles .now) (l .loop .i) (a .n) (search needs) (search needs)) (w .turns .ensures),
     )
 
+put-of-requires : tie.Need-put-of-requires Inv-loop μ-loop
+put-of-requires c κs = search needs
+
 same-length : tie.Need-same-length Inv-loop μ-loop
-same-length c = c .before .loop .inv .1
+same-length c = c .before .before .loop .inv .1
 
 returns : tie.Need-returns Inv-loop μ-loop
 returns c =
-    let l = c .before in
-    let a = l .before .before .before .args in
-    leads-end (l .loop .inv .2) (turns-end (a .lower) (a .upper) (a .angles .now) (l .loop .i) (a .n) (omega arith))
+    let l = c .before .before in
+    let a = l .before .before .before .before .args in
+    let g = leads-end (l .loop .inv .2) (turns-end (a .lower) (a .upper) (a .angles .now) (l .loop .i) (a .n) (omega arith)) in
+    from-number (a .cuts)
+    (subst₂ (λ (k : ℕ) (t : Put). Grown (Of.all-turns (a .lower) (a .upper) (take (a .n) (a .angles .now))) (a .work .now) (counted k (a .work .now)) (l .loop .work) t)
+    (l .before .number-of .ensures) (sym (c .put-of .ensures)) g)
 
 pub all-turns-spec : {M : Type 1} → statement M
-all-turns-spec = tie.close (tie.spec Inv-loop μ-loop loop-holds mul-angle shared-slice-read-angle add-i turns-requires loop-less loop-again same-length returns)
+all-turns-spec = tie.close (tie.spec Inv-loop μ-loop number-of-requires loop-holds mul-angle shared-slice-read-angle add-i turns-requires loop-less loop-again put-of-requires same-length returns)

@@ -5,15 +5,15 @@ use Rattle.sampling.specs.Samples.{inside}
 use Rattle.sampling.proofs.samples.inside.Statement.{statement}
 use Rattle.sampling.proofs.samples.inside.Tie as tie
 
-push-requires : tie.Need-push-requires
-push-requires c = search needs
+put-in-requires : tie.Need-put-in-requires
+put-in-requires c = search needs
 
 same-length : tie.Need-same-length
 same-length c = search needs
 
 returns : tie.Need-returns
 unfolding inside
-returns c = simp (c .before .before .before .before .before .if1 .taken, c .before .before .before .before .if2 .taken) (c .before .before .push .ensures)
+returns c = simp (c .before .before .before .before .before .if1 .taken, c .before .before .before .before .if2 .taken) (c .before .before .put-in .ensures)
 
 returns-2 : tie.Need-returns-2
 unfolding inside
@@ -24,4 +24,4 @@ unfolding inside
 returns-3 c = simp (c .if1 .left) none
 
 pub inside-spec : {M : Type 1} → statement M
-inside-spec = tie.close (tie.spec push-requires same-length returns returns-2 returns-3)
+inside-spec = tie.close (tie.spec put-in-requires same-length returns returns-2 returns-3)
