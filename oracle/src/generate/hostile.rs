@@ -16,16 +16,18 @@ const MOST: usize = 4096;
 /// One call of Sampling, Check or Roots.
 pub fn case(seed: u64, index: u64) -> Case {
     let random = &mut Random::new(seed, index);
+    // Kind 3 takes a thousand times as long.
+    let kinds: &[u8] = if random.once_in(100) { &[3] } else { &[1, 2] };
     match random.below(5) {
-        0 | 1 => Case::Sample(sampling(random)),
-        2 | 3 => Case::Check(check(random)),
+        0 | 1 => Case::Sample(sampling(random, kinds)),
+        2 | 3 => Case::Check(check(random, kinds)),
         _ => Case::Roots(roots(random)),
     }
 }
 
 /// A call of Sampling.
-fn sampling(random: &mut Random) -> requests::Call {
-    let request = request(random);
+fn sampling(random: &mut Random, kinds: &[u8]) -> requests::Call {
+    let request = request(random, kinds);
     let needs = <[u8; SIZE]>::try_from(&request[..])
         .ok()
         .and_then(|bytes| operations::sampled(&bytes).ok())
@@ -39,8 +41,8 @@ fn sampling(random: &mut Random) -> requests::Call {
 }
 
 /// A call of Check.
-fn check(random: &mut Random) -> sheets::Call {
-    let (sheet, cuts) = sheet(random);
+fn check(random: &mut Random, kinds: &[u8]) -> sheets::Call {
+    let (sheet, cuts) = sheet(random, kinds);
     let work = length(random, cuts);
     sheets::Call { sheet, work }
 }
@@ -65,24 +67,26 @@ fn roots(random: &mut Random) -> roots::Call {
     call
 }
 
-/// Bytes for Sampling: any, or a request of the differential runs, mostly
-/// changed.
-pub fn request(random: &mut Random) -> Vec<u8> {
+/// Bytes for Sampling: any, or a request of the differential runs of one of
+/// these kinds, mostly changed.
+pub fn request(random: &mut Random, kinds: &[u8]) -> Vec<u8> {
     if random.once_in(8) {
         return any_bytes(random);
     }
-    let mut bytes = right_request(random);
-    changes(random, &mut bytes, right_request);
+    let right = |random: &mut Random| requests::request(random.bits(), 0, kinds);
+    let mut bytes = right(random);
+    changes(random, &mut bytes, right);
     bytes
 }
 
-/// Bytes for Check: any, or a right sheet, mostly changed, and the cuts of that.
-pub fn sheet(random: &mut Random) -> (Vec<u8>, usize) {
+/// Bytes for Check: any, or a sheet of one of these kinds, mostly changed; and
+/// the cuts of the right one.
+pub fn sheet(random: &mut Random, kinds: &[u8]) -> (Vec<u8>, usize) {
     if random.once_in(8) {
         return (any_bytes(random), 1);
     }
-    let (mut bytes, cuts) = right_sheet(random);
-    changes(random, &mut bytes, |random| right_sheet(random).0);
+    let (mut bytes, cuts) = right_sheet(random, kinds);
+    changes(random, &mut bytes, |random| right_sheet(random, kinds).0);
     (bytes, cuts)
 }
 
@@ -99,24 +103,9 @@ pub fn lengthen(random: &mut Random, bytes: &mut Vec<u8>) {
     }
 }
 
-/// A kind; the third takes a thousand times as long.
-fn kind(random: &mut Random) -> u8 {
-    if random.once_in(100) {
-        3
-    } else {
-        random.pick(&[1, 2])
-    }
-}
-
-/// A request of the differential runs.
-fn right_request(random: &mut Random) -> Vec<u8> {
-    let kind = kind(random);
-    requests::request(random.bits(), 0, &[kind])
-}
-
 /// A sheet as Sampling writes it, and its cuts.
-fn right_sheet(random: &mut Random) -> (Vec<u8>, usize) {
-    let kind = kind(random);
+fn right_sheet(random: &mut Random, kinds: &[u8]) -> (Vec<u8>, usize) {
+    let kind = random.pick(kinds);
     let request = requests::accepted(random, kind).bytes;
     sheets::written(&request).unwrap_or_else(|| (request.to_vec(), 1))
 }
@@ -156,14 +145,14 @@ fn hard(random: &mut Random) -> u64 {
 }
 
 /// Makes none to three changes.
-fn changes(random: &mut Random, bytes: &mut Vec<u8>, other: fn(&mut Random) -> Vec<u8>) {
+fn changes(random: &mut Random, bytes: &mut Vec<u8>, other: impl Fn(&mut Random) -> Vec<u8>) {
     for _ in 0..random.below(4) {
-        change(random, bytes, other);
+        change(random, bytes, &other);
     }
 }
 
 /// Makes one change.
-fn change(random: &mut Random, bytes: &mut Vec<u8>, other: fn(&mut Random) -> Vec<u8>) {
+fn change(random: &mut Random, bytes: &mut Vec<u8>, other: &impl Fn(&mut Random) -> Vec<u8>) {
     let size = bytes.len();
     let count = (size.saturating_sub(FRAME) / 8) as u32;
     match random.below(24) {
