@@ -3,13 +3,16 @@
 //! every byte of every lent slice, what stands beside the slice, and the input.
 //! Half of the slices are alone in their allocation, so that memcheck sees what
 //! is read beyond them. Prints the calls and answers by number; at the first
-//! fault, the case as `corpus` reads it, with exit status 1.
+//! fault, the case as `corpus` reads it, with exit status 1. If a call dies or
+//! does not end, its case is the first line of `target/fuzz-SEED.case`.
 
 use lemongully_oracle::corpus::Case;
 use lemongully_oracle::generate::{Random, hostile, requests, roots, sheets};
 use lemongully_oracle::operations::{FRAME, check, roots_op, sample};
 use lemongully_oracle::{linked, request};
 use std::collections::BTreeMap;
+use std::fs::File;
+use std::io::{Seek, Write};
 use std::panic::{AssertUnwindSafe, catch_unwind};
 use std::process::ExitCode;
 use std::time::{Duration, Instant};
@@ -214,13 +217,23 @@ fn read(arguments: &[String]) -> Option<(Duration, u64)> {
     Some((Duration::from_secs(arguments[0].parse().ok()?), seed))
 }
 
+/// Writes the case that is under way over the one before; not a file anew, for
+/// which the disk would be waited on.
+fn note(file: &mut File, case: &Case) -> std::io::Result<()> {
+    file.rewind()?;
+    file.write_all(format!("fault {}\n", case.line()).as_bytes())
+}
+
 /// Calls until the time is over, or to the first fault.
 fn fuzz(time: Duration, seed: u64) -> Result<Counts, String> {
+    let path = format!("{}/target/fuzz-{seed}.case", env!("CARGO_MANIFEST_DIR"));
+    let mut file = File::create(&path).map_err(|error| format!("{path}: {error}"))?;
     let start = Instant::now();
     let mut counts = Counts::new();
     for index in (0..).take_while(|_| start.elapsed() < time) {
         let case = catch_unwind(|| hostile::case(seed, index))
             .map_err(|_| format!("call {index}: a panic before the call"))?;
+        note(&mut file, &case).map_err(|error| format!("{path}: {error}"))?;
         let number = run(&mut Random::new(!seed, index), &case)
             .map_err(|fault| format!("call {index}: {fault}\nfault {}", case.line()))?;
         let answers = counts.entry(case.operation()).or_default();
