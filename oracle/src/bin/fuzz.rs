@@ -104,14 +104,16 @@ fn answers(linked: i64, oracle: i64, most: usize, refusals: [i64; 2]) -> Found {
 }
 
 /// What was written is what the oracle writes, and stands in the first places.
-fn written<T: Place>(lents: [&mut Lent<T>; 3], size: usize) -> Result<(), String> {
-    let [found, oracle, before] = lents;
-    demand(
-        found.same(oracle),
-        "the output or its margin is not as the oracle's",
-    )?;
+fn written<T: Place>(
+    found: &mut Lent<T>,
+    oracle: &Lent<T>,
+    mut before: Lent<T>,
+    size: usize,
+) -> Result<(), String> {
+    let differs = "the output or its margin is not as the oracle's";
+    demand(found.same(oracle), differs)?;
     before.slice()[..size].copy_from_slice(&found.slice()[..size]);
-    demand(found.same(before), "the rest of the output was written to")
+    demand(found.same(&before), "the rest of the output was written to")
 }
 
 /// Every work place is +0.0, and the margin as before.
@@ -134,7 +136,7 @@ fn sampling(random: &mut Random, call: &requests::Call) -> Found {
     let most = call.output.saturating_sub(FRAME) / 8;
     answers(number, expected, most, [1, 11])?;
     let size = usize::try_from(number).map_or(0, |count| 8 * count + FRAME);
-    written([&mut output, &mut oracle, &mut before.2.clone()], size)?;
+    written(&mut output, &oracle, before.2, size)?;
     if number >= 0 {
         let sheet = &output.slice()[..size];
         let checked = linked::sheet::check(sheet, work.slice());
@@ -176,7 +178,7 @@ fn finding(random: &mut Random, call: &roots::Call) -> Found {
     let expected = roots_op(&call.coefficients, lower, upper, oracle.slice());
     answers(number, expected, call.result, [21, 24])?;
     let size = usize::try_from(number).unwrap_or(0);
-    written([&mut result, &mut oracle, &mut before.1.clone()], size)?;
+    written(&mut result, &oracle, before.1, size)?;
     Ok(number)
 }
 
