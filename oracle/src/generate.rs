@@ -2,6 +2,7 @@
 
 pub mod aimed;
 pub mod floats;
+pub mod hostile;
 pub mod limits;
 pub mod parts;
 pub mod requests;

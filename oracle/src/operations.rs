@@ -16,9 +16,9 @@ use crate::singularity::{j1free, j2free};
 pub const TRAILER: usize = 16;
 /// The bytes of a sheet beside its angles.
 pub const FRAME: usize = request::SIZE + TRAILER;
-/// The work places that the program lends.
+/// The work places that a program lends.
 pub const PROGRAM_WORK: usize = 4096;
-/// The longest input that the program takes.
+/// The longest sheet that a program takes or makes.
 pub const PROGRAM_INPUT: usize = 65536;
 
 /// Angles of a request, and what was noted while they were found.
@@ -216,7 +216,19 @@ pub fn check(sheet: &[u8], work: &mut [f64]) -> i64 {
     if same { count as i64 } else { -36 }
 }
 
-/// What the program prints for this standard input.
+/// What `make_sheet` writes to standard output and to standard error for this
+/// standard input.
+pub fn maker_output(input: &[u8]) -> (Vec<u8>, String) {
+    let mut sheet = vec![0; PROGRAM_INPUT];
+    let answer = sample(input, &mut vec![0.0; PROGRAM_WORK], &mut sheet);
+    if answer < 0 {
+        return (Vec::new(), format!("refused {}\n", -answer));
+    }
+    sheet.truncate(8 * answer as usize + FRAME);
+    (sheet, String::new())
+}
+
+/// What `check_sheet` prints for this standard input.
 pub fn program_output(input: &[u8]) -> String {
     if input.len() > PROGRAM_INPUT {
         return "too long\n".to_string();

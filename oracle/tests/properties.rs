@@ -2,7 +2,7 @@
 
 use lemongully_oracle::corpus::{self, Answer, Case};
 use lemongully_oracle::generate::requests::{self, Draft};
-use lemongully_oracle::generate::{Random, roots, sheets};
+use lemongully_oracle::generate::{Random, hostile, roots, sheets};
 use lemongully_oracle::operations::{self, FRAME};
 use lemongully_oracle::request::{self, SIZE};
 use std::collections::BTreeSet;
@@ -10,6 +10,7 @@ use std::collections::BTreeSet;
 const SEED: u64 = 20;
 const ONE_FREE: u64 = 20_000;
 const TWO_FREE: u64 = 250;
+const HOSTILE: u64 = 3_000;
 
 /// Requests of 264 bytes, accepted or not.
 fn requests() -> impl Iterator<Item = [u8; SIZE]> {
@@ -221,6 +222,26 @@ fn any_bytes_are_answered() {
         operations::check(&bytes, work);
         corpus::floor_and_trigonometry([(); 3].map(|()| random.bits()));
     }
+}
+
+#[test]
+fn hostile_calls_reach_every_answer() {
+    let mut accepted = BTreeSet::new();
+    let mut refusals = BTreeSet::new();
+    for index in 0..HOSTILE {
+        let case = hostile::case(SEED, index);
+        let number = case.answer().number;
+        if number < 0 {
+            refusals.insert(-number);
+        } else {
+            accepted.insert(case.operation());
+        }
+    }
+    // Refusal 9 is not known to occur.
+    let expected = [(1..=8), (10..=11), (21..=24), (31..=36)];
+    let expected: Vec<i64> = expected.into_iter().flatten().collect();
+    assert_eq!(refusals.into_iter().collect::<Vec<_>>(), expected);
+    assert_eq!(accepted.len(), 3);
 }
 
 #[test]

@@ -1,18 +1,54 @@
-//! Times the operation Sampling of the linked library beside the oracle's, on
-//! the same accepted requests, kind by kind: ordinary ones and those that the
-//! differential runs aim at hard cases. Prints the median and the 99 % of the
-//! times of a request, each the least of three calls, and the ratios.
+//! Times the operations Sampling and Roots of the linked library beside the
+//! oracle's, on the same accepted calls, and prints the tables of docs/SPEED.md:
+//! Sampling by kind, for ordinary requests and for those that the differential
+//! runs aim at hard cases; Roots by number of coefficients. Times are the
+//! processor's, so that other programs count little: library and Rust in turn,
+//! call by call, and the least of three for each.
 
-use lemongully_oracle::generate::{Random, limits, requests};
+use lemongully_oracle::generate::{Random, limits, requests, roots};
 use lemongully_oracle::linked;
-use lemongully_oracle::operations::sample;
+use lemongully_oracle::operations::{PROGRAM_INPUT, PROGRAM_WORK, roots_op, sample};
 use lemongully_oracle::request::{FROM, OFFSETS, REFERENCES, SIGNS, TO};
 use std::hint::black_box;
-use std::time::Instant;
 
 const REPETITIONS: usize = 3;
 
-type Sample = fn(&[u8], &mut [f64], &mut [u8]) -> i64;
+/// Nanoseconds that a measurement takes at least, so that reading the clock
+/// counts little.
+const LEAST: f64 = 5e4;
+
+/// What operations are lent.
+struct Room {
+    places: Vec<f64>,
+    bytes: Vec<u8>,
+}
+
+impl Room {
+    fn new() -> Self {
+        Self {
+            places: vec![0.0; PROGRAM_WORK],
+            bytes: vec![0; PROGRAM_INPUT],
+        }
+    }
+}
+
+/// An operation of the library and of the oracle.
+struct Sides<T> {
+    library: fn(&T, &mut Room) -> i64,
+    rust: fn(&T, &mut Room) -> i64,
+}
+
+const SAMPLING: Sides<Vec<u8>> = Sides {
+    library: |request, room| linked::sheet::sample(request, &mut room.places, &mut room.bytes),
+    rust: |request, room| sample(request, &mut room.places, &mut room.bytes),
+};
+
+const ROOTS: Sides<roots::Call> = Sides {
+    library: |call, room| {
+        linked::polynomial::roots(&call.coefficients, call.lower, call.upper, &mut room.places)
+    },
+    rust: |call, room| roots_op(&call.coefficients, call.lower, call.upper, &mut room.places),
+};
 
 /// A request with limits, plain signs and offsets and references in one turn.
 fn ordinary(kind: u8, index: u64) -> Vec<u8> {
@@ -36,56 +72,120 @@ fn adversarial(kind: u8, index: u64) -> Vec<u8> {
     requests::request(7, index, &[kind])
 }
 
-/// Requests that are accepted.
-fn accepted(request: fn(u8, u64) -> Vec<u8>, kind: u8, count: usize) -> Vec<Vec<u8>> {
-    let (mut work, mut output) = (vec![0.0; 4096], vec![0; 65536]);
-    (0..)
-        .map(|index| request(kind, index))
-        .filter(|request| sample(request, &mut work, &mut output) >= 0)
-        .take(count)
-        .collect()
+/// A request by kind and index.
+type Request = fn(u8, u64) -> Vec<u8>;
+
+const SORTS: [(&str, Request); 2] = [("ordinary", ordinary), ("adversarial", adversarial)];
+
+/// Nanoseconds that the processor has worked for this thread (Linux).
+fn processor_time() -> f64 {
+    unsafe extern "C" {
+        fn clock_gettime(clock: i32, seconds_and_nanoseconds: *mut [i64; 2]) -> i32;
+    }
+    const OF_THREAD: i32 = 3;
+    let mut time = [0; 2];
+    // SAFETY: the function writes the two numbers alone.
+    assert_eq!(unsafe { clock_gettime(OF_THREAD, &mut time) }, 0);
+    let [seconds, nanoseconds] = time.map(|part| part as f64);
+    1e9 * seconds + nanoseconds
 }
 
-/// Nanoseconds for each request, in order of size.
-fn times(operation: Sample, requests: &[Vec<u8>]) -> Vec<f64> {
-    let (mut work, mut output) = (vec![0.0; 4096], vec![0; 65536]);
-    let mut times: Vec<f64> = requests
-        .iter()
-        .map(|request| {
-            (0..REPETITIONS)
-                .map(|_| {
-                    let start = Instant::now();
-                    black_box(operation(black_box(request), &mut work, &mut output));
-                    start.elapsed().as_nanos() as f64
-                })
-                .fold(f64::INFINITY, f64::min)
+/// Nanoseconds of so many equal calls, for each.
+fn time<T>(side: fn(&T, &mut Room) -> i64, call: &T, room: &mut Room, count: u32) -> f64 {
+    let start = processor_time();
+    for _ in 0..count {
+        black_box(side(black_box(call), room));
+    }
+    (processor_time() - start) / f64::from(count)
+}
+
+/// Nanoseconds of library and Rust for each call, in order of size.
+type Times = [Vec<f64>; 2];
+
+impl<T> Sides<T> {
+    /// The first calls that are accepted.
+    fn accepted(&self, calls: impl Iterator<Item = T>, count: usize) -> Vec<T> {
+        let room = &mut Room::new();
+        calls
+            .filter(|call| (self.rust)(call, room) >= 0)
+            .take(count)
+            .collect()
+    }
+
+    /// The least times of one call.
+    fn least(&self, call: &T, room: &mut Room) -> [f64; 2] {
+        let mut count = 1;
+        while time(self.rust, call, room, count) * f64::from(count) < LEAST {
+            count *= 2;
+        }
+        let mut least = [f64::INFINITY; 2];
+        for _ in 0..REPETITIONS {
+            for (least, side) in std::iter::zip(&mut least, [self.library, self.rust]) {
+                *least = least.min(time(side, call, room, count));
+            }
+        }
+        least
+    }
+
+    fn times(&self, calls: &[T]) -> Times {
+        let room = &mut Room::new();
+        let least: Vec<[f64; 2]> = calls.iter().map(|call| self.least(call, room)).collect();
+        [0, 1].map(|side| {
+            let mut times: Vec<f64> = least.iter().map(|least| least[side]).collect();
+            times.sort_by(f64::total_cmp);
+            times
         })
-        .collect();
-    times.sort_by(f64::total_cmp);
-    times
+    }
 }
 
-fn row(kind: u8, sort: &str, requests: &[Vec<u8>]) {
-    let library = times(linked::sheet::sample, requests);
-    let rust = times(sample, requests);
-    let at = |times: &[f64], share: f64| times[(share * (times.len() - 1) as f64) as usize] / 1e3;
-    let total = |times: &[f64]| times.iter().sum::<f64>();
-    println!(
-        "kind {kind}, {sort}: median {:.1} and {:.1} us, ratio {:.2}; 99 % {:.1} and {:.1} us, ratio {:.2}; all together {:.2}",
-        at(&library, 0.5),
-        at(&rust, 0.5),
-        at(&library, 0.5) / at(&rust, 0.5),
-        at(&library, 0.99),
-        at(&rust, 0.99),
-        at(&library, 0.99) / at(&rust, 0.99),
-        total(&library) / total(&rust),
-    );
+/// The head of a table whose first columns have these names.
+fn head(names: &[&str]) {
+    let figures = "median, library and Rust | ratio | 99 %, library and Rust | ratio";
+    println!("| {} | {figures} | all together |", names.join(" | "));
+    println!("{}|", "|---".repeat(names.len() + 5));
+}
+
+/// Two times in a unit for both, and their ratio.
+fn pair([library, rust]: [f64; 2]) -> String {
+    let (unit, name) = match rust {
+        ..1e3 => (1.0, "ns"),
+        ..1e6 => (1e3, "µs"),
+        _ => (1e6, "ms"),
+    };
+    let ratio = library / rust;
+    format!(
+        "{:.1} and {:.1} {name} | {ratio:.2}",
+        library / unit,
+        rust / unit
+    )
+}
+
+/// A line of a table.
+fn row(names: &[&str], times: &Times) {
+    let at = |share: f64| {
+        let of = |times: &Vec<f64>| times[(share * (times.len() - 1) as f64) as usize];
+        pair(times.each_ref().map(of))
+    };
+    let [library, rust] = times.each_ref().map(|times| times.iter().sum::<f64>());
+    let (names, all) = (names.join(" | "), library / rust);
+    println!("| {names} | {} | {} | {all:.2} |", at(0.5), at(0.99));
 }
 
 fn main() {
-    println!("library and Rust, {REPETITIONS} calls a request");
-    for (kind, count) in [(1, 5_000), (2, 5_000), (3, 200)] {
-        row(kind, "ordinary", &accepted(ordinary, kind, count));
-        row(kind, "adversarial", &accepted(adversarial, kind, count));
+    head(&["kind", "requests"]);
+    for (kind, count) in [(1, 2_000), (2, 2_000), (3, 200)] {
+        for (sort, request) in SORTS {
+            let requests = (0..).map(|index| request(kind, index));
+            let requests = SAMPLING.accepted(requests, count);
+            row(&[&kind.to_string(), sort], &SAMPLING.times(&requests));
+        }
+    }
+    println!();
+    head(&["coefficients"]);
+    for coefficients in 2..=9 {
+        let calls = (0..).map(|index| roots::call(1, index));
+        let calls = calls.filter(|call| call.coefficients.len() == 2 * coefficients);
+        let calls = ROOTS.accepted(calls, 1_000);
+        row(&[&coefficients.to_string()], &ROOTS.times(&calls));
     }
 }
