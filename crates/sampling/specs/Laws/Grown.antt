@@ -9,7 +9,7 @@ use lib.Ieee.{Float, binary64, fits}
 use Rattle.polynomial.specs.declared.cuts.Put.{Put}
 use Rattle.polynomial.specs.declared.cuts.Put.the-variants.{Count, Full}
 use Rattle.polynomial.specs.Insert.{pushAnswer, pushRoom}
-use Rattle.polynomial.specs.Laws.Cuts.{Fit, fit-append}
+use Rattle.polynomial.specs.Laws.Cuts.{fit-append}
 use Rattle.polynomial.specs.Laws.Held.{Kept, kept-none, kept-within, kept-push}
 use Rattle.sampling.specs.Grown.{Grown}
 
