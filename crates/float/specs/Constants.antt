@@ -1,6 +1,5 @@
 -- The bits of the constants that 01 gives by them. Assumes nothing.
 use mathlib.Core.Path.{_≡_, refl}
-use Prim.Native.Nat.{ℕ}
 use lib.Ieee.{binary64, toBits}
 use Rattle.float.specs.Trig.{I, H, L, P}
 

@@ -1,5 +1,5 @@
 -- Trigonometry (01, module 2): exact sequences of f64 steps, each rounding once, in 01's order. Definitions only. `Constants` shows the bits of I, H, L and P.
-use mathlib.Core.Bool.{Bool, true, false, _||_, cond}
+use mathlib.Core.Bool.{true, false, _||_, cond}
 use mathlib.Core.List.{List, [], _∷_}
 use Prim.Native.Nat.{ℕ, zero, suc, _-_, _*_, _%_}
 use lib.IntN.{ℤ, pos, negsuc}

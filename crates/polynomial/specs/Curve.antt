@@ -1,5 +1,5 @@
 -- Curves A(q1) cos(t) + B(q1) sin(t) + C(q1) = 0 and the roots of a squared norm (01, module 3), named as in the Rust. Definitions only.
-use mathlib.Core.Bool.{Bool, true, false, _&&_}
+use mathlib.Core.Bool.{Bool, true, _&&_}
 use mathlib.Core.List.{List, [], _∷_, _++_}
 use lib.Dec.{leb}
 use lib.ListN.{length}

@@ -1,5 +1,5 @@
 -- A list of angles, sorted and with no value twice: Rust's `v.sort_by(f64::total_cmp); v.dedup();`. Definitions only.
-use mathlib.Core.Bool.{Bool, true, false, cond}
+use mathlib.Core.Bool.{cond}
 use mathlib.Core.List.{List, [], _∷_}
 use lib.Ieee.{Float, eq}
 use Rattle.float.specs.Number.{total-le}

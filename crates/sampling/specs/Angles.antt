@@ -1,6 +1,6 @@
 -- A job's angles: kind 1's those of free joint 1, kind 2's those of free joint 2, kind 3's the slices of joint 1 where joints 1 and 2 are free (01, modules 5 and 6). m is the matrix of the target's rotation. Every field of the job is taken as given. Definitions only.
 use Prim.Native.Nat.{ℕ}
-use mathlib.Core.Bool.{Bool, true, false}
+use mathlib.Core.Bool.{Bool}
 use mathlib.Core.List.{List}
 use lib.Dec.{eqb}
 use lib.Ieee.{Float}
@@ -12,7 +12,6 @@ use Rattle.sampling.specs.J1j2free as Two
 use Rattle.sampling.specs.declared.job.Job.{Job}
 use Rattle.sampling.specs.declared.pose.Matrix.{Matrix}
 use Rattle.sampling.specs.declared.sample_angles.Free.{Free}
-use Rattle.sampling.specs.declared.j1j2free.Folded.{Folded}
 
 -- joint 1 free, joint 2 free
 unfoldable pub first-free : Job → Matrix → Free

@@ -1,10 +1,10 @@
 -- First harmonics of a free model angle, shared by joints 1 and 2: continuum.rs of the Rust up to its boundary lines (01, module 5). Definitions only.
-use mathlib.Core.Bool.{Bool, true, false}
+use mathlib.Core.Bool.{false}
 use mathlib.Core.List.{List, [], _∷_}
 use lib.IntN.{negsuc}
 use lib.Ieee.{Float, fin, neg, eq, lt}
 use lib.Ieee.Scale.{finite}
-use Rattle.float.specs.Number.{_⊕_, _⊖_, _⊗_, _⊘_, abs, clamp, zero-float, one-float}
+use Rattle.float.specs.Number.{_⊕_, _⊖_, _⊗_, _⊘_, abs, clamp, zero-float}
 use Rattle.float.specs.Trig.{hypot, atan2, acos, sin-cos}
 use Rattle.polynomial.specs.Angle.{wrapped-angle}
 use Rattle.sampling.specs.Constraints.{pick}

@@ -1,5 +1,4 @@
 -- Allowed displacements from a reference, bounded to the nearest full turn: `wrist_limit_intervals` of the Rust (01, module 4). A limit interval is either none or a pair of angles. Definitions only.
-use mathlib.Core.Bool.{Bool, true, false}
 use lib.Ieee.{Float, le, neg}
 use lib.Ieee.Scale.{finite}
 use Rattle.float.specs.Number.{_⊕_, _⊖_, _⊗_, minimum, maximum, zero-float}

@@ -1,5 +1,5 @@
 -- Free joint 1: the columns of the arm's rotation as functions of it, j1free.rs of the Rust (01, module 5). Definitions only.
-use lib.Ieee.{Float, neg}
+use lib.Ieee.{neg}
 use Rattle.float.specs.Number.{_⊕_, zero-float, one-float}
 use Rattle.float.specs.Trig.{sin-cos}
 use Rattle.sampling.specs.Pose.{vector, negated}

@@ -1,5 +1,5 @@
 -- Free joint 2: the columns of the arm's rotation as functions of it, j2free.rs of the Rust (01, module 5). Definitions only.
-use lib.Ieee.{Float, neg}
+use lib.Ieee.{neg}
 use Rattle.float.specs.Number.{zero-float, one-float}
 use Rattle.float.specs.Trig.{sin-cos}
 use Rattle.float.specs.declared.trig.SinCos.{SinCos}

@@ -1,5 +1,5 @@
 -- A joint of a job, and the continuous interval of its model angle: `limits` of j1j2free.rs (01, module 4). Definitions only.
-use mathlib.Core.Bool.{Bool, true, false}
+use mathlib.Core.Bool.{Bool}
 use lib.Ieee.{Float, lt, isNan}
 use lib.Ieee.Scale.{finite}
 use Rattle.float.specs.Number.{_⊕_, _⊖_, _⊗_, minimum, zero-float}

@@ -1,11 +1,9 @@
 -- What `plan_of` asks of a job and promises of its angles.
 use Prim.Native.Nat.{ℕ}
 use mathlib.Core.Path.{_≡_}
-use mathlib.Core.Bool.{Bool, true, false}
 use mathlib.Core.Logic.{_⊎_}
 use mathlib.Core.List.{List}
-use lib.Dec.{T, leb, eqb}
-use lib.ListN.{length}
+use lib.Dec.{T, leb}
 use lib.Ieee.{Float, neg}
 use lib.Ieee.Scale.{finite}
 use Rattle.float.specs.Number.{one-float}

@@ -1,5 +1,5 @@
 -- The pose: `try_normalize_dquat` of the Rust, and the rotation matrix, dot product and length by 01's formulas (module 4). Definitions only.
-use mathlib.Core.Bool.{Bool, true, false}
+use mathlib.Core.Bool.{Bool, false}
 use lib.Ieee.{Float, binary64, le, neg}
 use lib.Ieee.Scale.{finite}
 use Rattle.float.specs.Number.{_⊕_, _⊖_, _⊗_, _⊘_, zero-float, one-float}

@@ -1,6 +1,5 @@
 -- The boundary angles of joints 4 and 6, in the order in which the Rust finds them: `sample_angles` of continuum.rs (01, module 5). Definitions only.
-use mathlib.Core.Bool.{Bool, true, false}
-use mathlib.Core.List.{List, [], _∷_, _++_}
+use mathlib.Core.List.{List, [], _++_}
 use lib.Ieee.{Float, neg}
 use lib.Ieee.Scale.{finite}
 use Rattle.float.specs.Number.{_⊕_, _⊗_, one-float}

@@ -17,9 +17,6 @@ module _ (n d : ℕ) where
   parts : n / b * b + n % b ≡ n
   parts = div-add-mod' n b
 
-  rest-lt : n % b < b
-  rest-lt = mod-lt n (pow-pos (suc d))
-
   b-two : 2 ≤ b
   b-two = le-trans (mul-le-mul-left 2 (pow-pos d)) (le-of-eq (sym (pow-succ' 2 d)))
 

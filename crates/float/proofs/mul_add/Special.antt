@@ -1,15 +1,15 @@
 -- `mul-add` at binary64 by the parts of its three operands; and where one of them is not finite or is a zero. Assumes nothing.
-use mathlib.Core.Path.{_≡_, refl, sym, ap, _∙_, subst}
+use mathlib.Core.Path.{_≡_, refl, sym, ap, _∙_}
 use mathlib.Core.Logic.{_⊎_, inl, inr}
-use mathlib.Core.Bool.{Bool, true, false, not, _&&_, _||_, Bool·beq, true≢false, false≢true}
+use mathlib.Core.Bool.{Bool, true, false, not, true≢false}
 use Prim.Native.Nat.{ℕ, _*_, _^_, _<_}
-use native.Mathlib.Nat.{eq-zero-or-pos, mul-assoc, mul-right-comm, mul-mul-mul-comm, zero-mul, mul-one, mul-pos, lt-irrefl, zero-lt-suc, eq-of-mul-eq-mul-right}
+use native.Mathlib.Nat.{eq-zero-or-pos, mul-assoc, mul-right-comm, mul-mul-mul-comm, zero-mul, mul-one, mul-pos, zero-lt-suc, eq-of-mul-eq-mul-right}
 use native.Mathlib.Omega.{arith}
 use lib.IntN.{ℤ, pos}
-use lib.Dec.{T, eqb, eqb→eq}
+use lib.Dec.{T}
 use lib.Pow.{pow-pos}
-use lib.Ieee.{Float, nan, inf, fin, binary64, unlike, up, down, sum, add, sub, mul, eq, ne, level, ofBits}
-use lib.Ieee.Fits.{up-pos, down-pos}
+use lib.Ieee.{Float, nan, inf, fin, binary64, unlike, up, down, sum, add, mul, eq, ofBits}
+use lib.Ieee.Fits.{down-pos}
 use lib.Ieee.Exact.{HasValue}
 use lib.Ieee.Scale.{finite}
 use Rattle.float.specs.MulAdd.{mul-add}

@@ -1,17 +1,14 @@
 -- `sum` of `lib.Ieee` by cases, and of equal fractions; and what `combine` gives is it. Assumes nothing.
 use mathlib.Core.Path.{_≡_, refl, sym, ap, _∙_, subst}
 use mathlib.Core.Logic.{_⊎_, inl, inr}
-use mathlib.Core.Bool.{Bool, true, false, _&&_, Bool·beq, cond}
+use mathlib.Core.Bool.{Bool, true, false, Bool·beq}
 use Prim.Native.Nat.{ℕ, suc, _+_, _-_, _*_, _%_, _^_, _≤_, _<_, compare, Ordering, Ordering·lt, Ordering·eq, Ordering·gt}
-use native.Mathlib.Nat.{le-of-eq, lt-of-lt-of-le, lt-of-le-of-lt, add-mul, add-comm, mul-comm, mul-sub, zero-mul, mul-lt-mul-of-pos-right, lt-of-mul-lt-mul-right, zero-lt-suc}
+use native.Mathlib.Nat.{le-of-eq, lt-of-lt-of-le, lt-of-le-of-lt, add-mul, add-comm, mul-comm, mul-sub, mul-lt-mul-of-pos-right, lt-of-mul-lt-mul-right}
 use native.Mathlib.Omega.{arith}
-use lib.IntN.{pos}
-use lib.Dec.{ltb}
 use lib.Pow.{pow-pos}
-use borrow.Author.Tests.{lt-ltb, le-ltb}
-use lib.Ieee.{Float, fin, binary64, round, sum}
+use lib.Ieee.{Float, binary64, round, sum}
 use lib.Ieee.Scale.{round-same}
-use Rattle.float.specs.Laws.Zero.{round-of-zero, sum-same-sign, sum-less, sum-more, sum-none}
+use Rattle.float.specs.Laws.Zero.{sum-same-sign, sum-less, sum-more, sum-none}
 use Rattle.float.specs.Jam.{jam}
 use Rattle.float.proofs.Compare.{Cmp, cmp}
 use Rattle.float.specs.Parts.{Combines}

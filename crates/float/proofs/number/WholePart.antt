@@ -1,21 +1,21 @@
 -- What `floor` gives: of x cut to a whole number toward zero, one less where x is below that number. Assumes nothing.
 use mathlib.Core.Path.{_≡_, refl, sym, ap, subst, _∙_}
-use mathlib.Core.Bool.{Bool, true, false, cond, true≢false, false≢true, _||_}
-use Prim.Native.Nat.{ℕ, zero, suc, _+_, _-_, _*_, _/_, _%_, _^_, _≤_, _<_, zero-le, min}
-use native.Mathlib.Nat.{le-trans, le-of-lt, le-of-eq, lt-of-le-of-lt, lt-of-lt-of-le, lt-irrefl, zero-lt-suc, mul-pos, mul-one, one-mul, zero-mul, mul-assoc, mul-right-comm, mul-le-mul-right, mul-lt-mul-of-pos-right, le-of-mul-le-mul-right, lt-of-mul-lt-mul-right, eq-of-mul-eq-mul-right, div-add-mod', div-le-self, mod-one}
+use mathlib.Core.Bool.{Bool, true, false, true≢false, false≢true}
+use Prim.Native.Nat.{ℕ, zero, suc, _+_, _-_, _*_, _/_, _%_, _^_, _≤_, _<_, min}
+use native.Mathlib.Nat.{le-trans, le-of-lt, le-of-eq, lt-of-le-of-lt, lt-of-lt-of-le, lt-irrefl, zero-lt-suc, mul-pos, mul-one, one-mul, zero-mul, mul-right-comm, le-of-mul-le-mul-right, lt-of-mul-lt-mul-right, eq-of-mul-eq-mul-right, div-add-mod', div-le-self, mod-one}
 use native.Mathlib.Omega.{arith}
 use lib.IntN.{ℤ, pos, negsuc, negℤ, _-ℤ_}
-use lib.Dec.{T, leb, ltb, eqb, ltb→lt, eqb→eq, lit<}
+use lib.Dec.{T, ltb, eqb, ltb→lt, eqb→eq}
 use lib.Signed.{mag}
-use borrow.Author.Tests.{lt-ltb, le-ltb, ltb-true}
+use borrow.Author.Tests.{lt-ltb, le-ltb}
 use lib.Ieee.{Float, nan, inf, fin, binary64, up, down, round, lt, le, fits, ofInt, toSigned}
-use lib.Ieee.Fits.{down-pos, and-l, and-r, eq→eqb}
+use lib.Ieee.Fits.{down-pos, and-l, eq→eqb}
 use lib.Ieee.Back.{round-whole}
 use lib.Ieee.Exact.{HasValue}
 use lib.Ieee.Scale.{round-same}
 use Rattle.float.specs.Number.{floor, minus}
-use Rattle.float.specs.Laws.Le.{Le, le→Le}
-use Rattle.float.specs.Laws.Within.{held, fits→held, exact-self}
+use Rattle.float.specs.Laws.Le.{le→Le}
+use Rattle.float.specs.Laws.Within.{fits→held, exact-self}
 
 -- a fraction in other numbers
 another : (z : Float) (s : Bool) (a c q : ℕ) → 0 < c → q * c ≡ a → HasValue z s a c → HasValue z s q 1

@@ -215,16 +215,3 @@ acos-within x h = atan2-within (other-side x) x (other-side-within h .real) (h .
 pub asin-within : (x : Float) → Within one-float x → Within seven-float (asin x)
 unfolding asin
 asin-within x h = atan2-within x (other-side x) (h .real) (other-side-within h .real)
-
--- ---- the sums that wrap such angles stay far below 32, where sine and cosine end
--- an angle of a chart: its origin and twice an arctangent
-pub chart-within : (o x : Float) → Within four-float o → T (not (isNan x)) → Within (fin false 10 (pos 0)) (o ⊕ two-float ⊗ atan x)
-chart-within o x h n = add-within binary64 (fin false 10 (pos 0)) tt h (mul-within binary64 (fin false 6 (pos 0)) tt (numeral two-float two-float tt) (atan-within x n))
-
--- a phase and an offset from it
-pub phase-within : (y x z : Float) → T (finite y) → T (finite x) → Within one-float z
-    → Within (fin false 14 (pos 0)) (atan2 y x ⊖ acos z) × Within (fin false 14 (pos 0)) (atan2 y x ⊕ acos z)
-phase-within y x z p q h =
-    let a = atan2-within y x p q in
-    let b = acos-within z h in
-    (sub-within binary64 (fin false 14 (pos 0)) tt a b, add-within binary64 (fin false 14 (pos 0)) tt a b)

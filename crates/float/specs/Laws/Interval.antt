@@ -1,17 +1,17 @@
 -- Intervals of values, signs included: `In lo hi x` says that x is finite and lo ≤ x ≤ hi. Each rule takes the ends of the operands' intervals to the ends of the result's,
 -- which for numerals `tt` computes (the declaration says `unfolding add` and so on). The ends asked for may be wider than those computed. Assumes nothing.
-use mathlib.Core.Path.{_≡_, refl, sym, ap, _∙_, subst}
-use Prim.Native.Nat.{ℕ, zero, suc, _+_, _*_, _≤_, _<_}
-use native.Mathlib.Nat.{le-refl, le-of-lt, le-of-mul-le-mul-right, mul-le-mul-right, add-mul, mul-assoc, mul-comm, mul-left-comm, mul-right-comm, mul-pos, mul-one}
+use mathlib.Core.Path.{_≡_, ap, _∙_}
+use Prim.Native.Nat.{ℕ, _+_, _*_, _≤_, _<_}
+use native.Mathlib.Nat.{le-refl, le-of-lt, le-of-mul-le-mul-right, mul-le-mul-right, add-mul, mul-right-comm}
 use native.Mathlib.Omega.{arith}
 use mathlib.Core.Logic.{_⊎_, inl, inr}
 use mathlib.Core.Bool.{Bool, true, false, not, _&&_}
 use lib.Dec.{T, leb, leb→le, nleb→lt}
-use lib.Ieee.{Float, nan, inf, fin, Format, neg, add, sub, mul, div, le}
+use lib.Ieee.{Float, nan, inf, fin, Format, neg, add, sub, mul, le}
 use lib.Ieee.Fits.{and-l, and-r}
 use lib.Ieee.Scale.{finite}
-use lib.Ieee.Positive.{num, den, den-pos}
-use Rattle.float.specs.Laws.Le.{pl, mi, Le, le→Le, Le→le, neg-Le, plain, add-mono, sub-mono, mul-mono-by, div-mono-by}
+use lib.Ieee.Positive.{den, den-pos}
+use Rattle.float.specs.Laws.Le.{pl, mi, Le, le→Le, plain, add-mono, sub-mono, mul-mono-by}
 use Rattle.float.specs.Laws.Within.{Within, Le→within, within→Le}
 
 -- ---- the order is an order

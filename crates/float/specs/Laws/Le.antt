@@ -1,20 +1,19 @@
 -- The order of finite values with signs, and that `add`, `sub`, `neg`, a product and a quotient by what is not negative keep it, rounding included.
 -- A finite value is (pl - mi) / den: `pl` is its size where it is not negative and 0 otherwise, `mi` the other way round. So an order of values is an
 -- inequality of sums of products. `srnd` rounds such a difference; a sum is that, but for the sign of a zero. Assumes nothing.
-use mathlib.Core.Path.{_≡_, refl, sym, ap, ap₂, _∙_, subst}
+use mathlib.Core.Path.{_≡_, sym, ap, ap₂, _∙_, subst}
 use mathlib.Core.Logic.{_⊎_, inl, inr}
-use Prim.Native.Nat.{ℕ, zero, suc, _+_, _-_, _*_, _^_, _≤_, _<_, zero-le}
-use native.Mathlib.Nat.{le-trans, le-of-eq, le-of-lt, zero-mul, mul-zero, mul-one, one-mul, mul-pos, mul-assoc, mul-comm, mul-left-comm, mul-right-comm, add-mul, mul-add, mul-sub, zero-add, add-zero, zero-lt-suc, lt-irrefl, eq-or-lt-of-le, le-of-mul-le-mul-right, mul-le-mul-right, add-le-add}
+use Prim.Native.Nat.{ℕ, zero, suc, _+_, _-_, _*_, _^_, _≤_, _<_}
+use native.Mathlib.Nat.{le-of-lt, zero-mul, one-mul, mul-pos, mul-assoc, mul-comm, mul-left-comm, add-mul, mul-sub, zero-lt-suc, lt-irrefl, eq-or-lt-of-le, le-of-mul-le-mul-right, mul-le-mul-right}
 use native.Mathlib.Omega.{arith}
-use mathlib.Core.Bool.{Bool, true, false, not, _&&_, _||_, Bool·beq, cond}
-use lib.IntN.{ℤ, pos, negsuc}
+use mathlib.Core.Bool.{Bool, true, false, not, _&&_, _||_, cond}
 use lib.Dec.{T, ltb, eqb, leb, ltb→lt, lt→ltb, nltb→le, leb→le, nleb→lt, eqb→eq}
-use lib.Ieee.{Float, nan, inf, fin, Format, unlike, up, down, below, level, odd, units, round, neg, sum, add, sub, mul, div, lt, eq, le}
-use lib.Ieee.Fits.{up-pos, down-pos, and-l, and-r, and-i, eq→eqb}
+use lib.Ieee.{Float, nan, inf, fin, Format, unlike, up, down, below, level, odd, units, round, neg, sum, add, sub, mul, div, le}
+use lib.Ieee.Fits.{down-pos, and-l, and-r, and-i, eq→eqb}
 use lib.Ieee.Order.{round-mono}
-use lib.Ieee.Scale.{round-same, finite}
+use lib.Ieee.Scale.{finite}
 use lib.Ieee.Positive.{num, den, den-pos}
-use Rattle.float.specs.Laws.Sign.{strip, Alike, zeroF, round-zero, round-neg, neg-neg}
+use Rattle.float.specs.Laws.Sign.{strip, Alike, round-zero, round-neg}
 
 abbrev pub pl : Float → ℕ
 pl nan = 0
@@ -265,9 +264,6 @@ strip-Le-r {x} {y = fin false zero e} h =
     let k : pl x ≤ mi x = zero-above (0 * den x) (0 * up e * den x) (down e) (pl x) (mi x) (down-pos e) (zero-mul (den x)) (none (up e) (den x)) (h .cross) in
     record { first = h .first; second = tt; cross = omega arith }
 strip-Le-r {x} {y = fin s (suc m) e} h = h
-
-zero-grow : (d p n : ℕ) → n ≤ p → n * d ≤ p * d
-zero-grow d p n h = mul-le-mul-right d h
 
 pub unstrip-Le-l : (x : Float) {y : Float} → Le (strip x) y → Le x y
 unfolding strip

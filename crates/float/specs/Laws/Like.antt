@@ -1,23 +1,15 @@
 -- The operations respect `Like`, so they see only the numbers and not the sign of a zero; and `Opp x x'`, x' is minus x as a number, goes through `add`, `sub`, `mul`.
 -- Assumes nothing.
-use mathlib.Core.Path.{_≡_, refl, sym, ap, ap₂, _∙_, subst}
-use Prim.Native.Nat.{ℕ, zero, suc, _+_, _-_, _*_, _^_, _≤_, _<_}
-use native.Mathlib.Nat.{zero-mul, mul-zero, mul-one, one-mul, mul-pos, mul-assoc, mul-comm, mul-left-comm, mul-right-comm, zero-add, add-zero, sub-zero, sub-self, zero-lt-suc, lt-irrefl}
+use mathlib.Core.Path.{_≡_, refl, sym, ap, ap₂, _∙_}
+use Prim.Native.Nat.{ℕ, zero, suc, _+_, _-_, _*_, _≤_, _<_}
+use native.Mathlib.Nat.{zero-mul, mul-zero, mul-one, one-mul, mul-pos, mul-assoc, mul-comm, mul-left-comm, zero-lt-suc}
 use native.Mathlib.Omega.{arith}
-use mathlib.Core.Bool.{Bool, true, false, not, _&&_, _||_, Bool·beq, cond}
-use lib.IntN.{ℤ, pos, negsuc}
-use lib.Dec.{T, ltb, eqb, leb, ltb→lt, nltb→le}
-use lib.Ieee.{Float, nan, inf, fin, Format, unlike, up, down, round, neg, sum, add, sub, mul, div, lt, eq, le}
-use lib.Ieee.Fits.{up-pos, down-pos}
+use mathlib.Core.Bool.{Bool, true, false, not, _&&_, Bool·beq, cond}
+use lib.Dec.{T, ltb, ltb→lt, nltb→le}
+use lib.Ieee.{Float, nan, inf, fin, Format, unlike, up, down, round, neg, sum, add, sub, mul}
+use lib.Ieee.Fits.{down-pos}
 use lib.Ieee.Scale.{round-same}
-use Rattle.float.specs.Laws.Sign.{strip, Alike, zeroF, round-zero, round-neg, neg-neg, add-neg, mul-neg-l, mul-neg-r, strip-neg}
-
-pub strip-strip : (x : Float) → strip (strip x) ≡ strip x
-unfolding strip
-strip-strip nan = refl
-strip-strip (inf s) = refl
-strip-strip (fin s zero e) = refl
-strip-strip (fin s (suc m) e) = refl
+use Rattle.float.specs.Laws.Sign.{strip, Alike, round-zero, add-neg, mul-neg-l, mul-neg-r}
 
 -- ---- a product
 pub zero-l : (u v : ℕ) → 0 * u * v ≡ 0
@@ -146,9 +138,6 @@ pub record Opp (x x' : Float) : Type 0 where
 pub like-refl : (x : Float) → Like x x
 like-refl x = record { same = refl }
 
-pub opp-neg : (x : Float) → Opp x (neg x)
-opp-neg x = record { turned = refl }
-
 pub add-like : (f : Format) {x x' y y' : Float} → Like x x' → Like y y' → Like (add f x y) (add f x' y')
 add-like f {x} {x'} {y} {y'} p q = record { same = add-strip f x y ∙ ap₂ (λ (a b : Float). strip (add f a b)) (p .same) (q .same) ∙ sym (add-strip f x' y') }
 
@@ -193,10 +182,6 @@ mul-opp-l f {x} {x'} {y} {y'} p q = to-opp (like-trans (mul-like f (from-opp p) 
 
 pub mul-opp-r : (f : Format) {x x' y y' : Float} → Like x x' → Opp y y' → Opp (mul f x y) (mul f x' y')
 mul-opp-r f {x} {x'} {y} {y'} p q = to-opp (like-trans (mul-like f (like-sym p) (from-opp q)) (of-eq (mul-neg-r f x y)))
-
-pub mul-opp-both : (f : Format) {x x' y y' : Float} → Opp x x' → Opp y y' → Like (mul f x y) (mul f x' y')
-mul-opp-both f {x} {x'} {y} {y'} p q =
-    like-sym (like-trans (mul-like f (from-opp p) (from-opp q)) (of-eq (mul-neg-l f x (neg y) ∙ ap neg (mul-neg-r f x y) ∙ neg-neg (mul f x y))))
 
 pub neg-opp : {x x' : Float} → Opp x x' → Opp (neg x) (neg x')
 neg-opp p = to-opp (neg-like (from-opp p))

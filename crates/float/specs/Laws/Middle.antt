@@ -20,8 +20,7 @@ use Rattle.float.specs.Laws.Sign.{Alike}
 use Rattle.float.specs.Laws.Le.{pl, mi, Le, le→Le, srnd, srnd-mono, le-alike, finite-alike, signed-pos, signed-neg, add-srnd, div-srnd}
 use Rattle.float.specs.Laws.Within.{Within, within→Le, Le→within, fits→held, exact-self}
 use Rattle.float.specs.Laws.Interval.{In, Le-trans, between-finite}
-use Rattle.float.specs.Laws.Units.{Is, Is-alike, Is-neg, plus-Is, minus-Is, sum-eq, srnd-same}
-use Rattle.float.specs.Laws.Error.{Le-Is, flat}
+use Rattle.float.specs.Laws.Units.{Is, Is-alike, Is-neg, plus-Is, minus-Is, sum-eq, srnd-same, flat, Le-Is}
 use Rattle.float.specs.Laws.Whole.{plus-units, minus-units, amount, fits-amount, whole-is, Le-units, eq-units, lt-units, width, width-within}
 
 -- ---- a sum and a half as rounded numbers of units

@@ -1,17 +1,16 @@
 -- The fused product does not see the sign of a zero (`Like`), and minus goes through it (`Opp`). Assumes nothing.
 -- The laws are proved of `by-parts`, another text of it, by the product and then the addend: `mul-add-is` says that the two are one.
-use mathlib.Core.Path.{_≡_, refl, sym, ap, ap₂, _∙_, subst}
-use Prim.Native.Nat.{ℕ, zero, suc, _+_, _*_, _<_}
-use native.Mathlib.Nat.{zero-mul, mul-zero, mul-one, mul-pos, mul-assoc, mul-comm, mul-left-comm, zero-lt-suc}
+use mathlib.Core.Path.{_≡_, refl, sym, ap, _∙_}
+use Prim.Native.Nat.{ℕ, zero, suc, _*_, _<_}
+use native.Mathlib.Nat.{zero-mul, mul-one, mul-pos, mul-assoc, mul-comm, mul-left-comm, zero-lt-suc}
 use mathlib.Core.Bool.{Bool, true, false, not, Bool·beq, cond}
-use lib.IntN.{ℤ, pos}
 use lib.Dec.{eqb}
-use lib.Ieee.{Float, nan, inf, fin, Format, unlike, up, down, round, neg, sum, add, mul}
-use lib.Ieee.Fits.{up-pos, down-pos}
+use lib.Ieee.{Float, nan, inf, fin, Format, unlike, up, down, neg, sum, add}
+use lib.Ieee.Fits.{down-pos}
 use lib.Ieee.Scale.{round-same}
 use Rattle.float.specs.MulAdd.{mul-add}
-use Rattle.float.specs.Laws.Sign.{strip, Alike, zeroF, sum-neg, neg-neg, unlike-l, unlike-r}
-use Rattle.float.specs.Laws.Like.{Like, Opp, first-zero, second-zero, from-opp, to-opp, like-trans, like-sym, zero-l, zero-r, neg-strip}
+use Rattle.float.specs.Laws.Sign.{strip, Alike, sum-neg, unlike-l, unlike-r}
+use Rattle.float.specs.Laws.Like.{Like, Opp, first-zero, second-zero, from-opp, to-opp, like-trans, like-sym, zero-l, zero-r}
 
 -- ±a / c, exact, plus z
 unfoldable pub plus : Format → Bool → ℕ → ℕ → Float → Float

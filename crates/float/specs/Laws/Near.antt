@@ -1,8 +1,8 @@
 -- Rounding to nearest in whole numbers: a value of Z * 2 ^ i units, with Z from 2 ^ (prec - 1 + t) up and below 2 ^ (prec + t), rounds to q * 2 ^ t * 2 ^ i units,
 -- where q = `closest Z (2 ^ t)` is within a half of Z / 2 ^ t. For products and differences: `mul-near`, `sub-near`. Assumes nothing.
-use mathlib.Core.Path.{_≡_, refl, sym, ap, ap₂, _∙_, subst}
-use Prim.Native.Nat.{ℕ, zero, suc, _+_, _-_, _*_, _/_, _%_, _^_, _≤_, _<_, compare, Ordering, Ordering·lt, Ordering·eq, Ordering·gt}
-use native.Mathlib.Nat.{le-trans, le-of-eq, le-of-lt, lt-of-lt-of-le, lt-of-le-of-lt, lt-of-not-le, not-le-of-lt, zero-mul, mul-one, one-mul, mul-pos, mul-assoc, mul-comm, mul-left-comm, mul-right-comm, add-mul, mul-add, lt-irrefl, le-of-mul-le-mul-right, mul-le-mul-right, mul-lt-mul-of-pos-right, mul-div-cancel, div-add-mod', mod-lt, div-lt-iff-lt-mul, zero-add, add-zero}
+use mathlib.Core.Path.{_≡_, sym, ap, _∙_, subst}
+use Prim.Native.Nat.{ℕ, suc, _+_, _-_, _*_, _/_, _%_, _^_, _≤_, _<_, compare, Ordering, Ordering·lt, Ordering·eq, Ordering·gt}
+use native.Mathlib.Nat.{le-trans, le-of-eq, lt-of-lt-of-le, lt-of-le-of-lt, lt-of-not-le, not-le-of-lt, mul-pos, mul-assoc, mul-comm, add-mul, lt-irrefl, le-of-mul-le-mul-right, mul-le-mul-right, mul-lt-mul-of-pos-right, mul-div-cancel, div-add-mod', mod-lt, div-lt-iff-lt-mul, zero-add}
 use native.Mathlib.Omega.{arith}
 use mathlib.Core.Bool.{Bool, true, false, not, cond}
 use lib.Dec.{T, isLe, isEq, leb, eqb, leb→le, nleb→lt, eqb→eq, eqb-refl}
@@ -13,10 +13,9 @@ use lib.Ieee.Digits.{size-lt, size-le}
 use lib.Ieee.Fits.{two, two-le-pos}
 use lib.Ieee.Exact.{HasValue}
 use lib.Ieee.Nearest.{closest, closest-same}
-use lib.Ieee.Order.{drop, kept}
-use lib.Ieee.Scale.{grid, overflow, round-val, finite}
+use lib.Ieee.Order.{drop}
+use lib.Ieee.Scale.{grid, overflow, round-val}
 use lib.Ieee.Positive.{den, den-pos}
-use Rattle.float.specs.Laws.Sign.{Alike}
 use Rattle.float.specs.Laws.Le.{pl, mi, srnd, add-srnd}
 use Rattle.float.specs.Laws.Units.{Is, Is-alike, Is-neg, plus-Is, spread, mul-srnd', mul-value, sum-eq}
 

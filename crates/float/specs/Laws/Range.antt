@@ -8,10 +8,10 @@ use lib.IntN.{ℤ}
 use lib.Dec.{T, nltb→le}
 use lib.Ieee.{Float, nan, inf, fin, up, down, below, lt, eq, le}
 use lib.Ieee.Scale.{finite}
-use lib.Ieee.Positive.{num, den}
+use lib.Ieee.Positive.{num}
 use Rattle.float.specs.Number.{abs}
 use Rattle.float.specs.Laws.Le.{pl, mi, Le, le→Le, plain}
-use Rattle.float.specs.Laws.Within.{Within, Beyond}
+use Rattle.float.specs.Laws.Within.{Within}
 
 -- one product a side
 plain-le : (a b c d : ℕ) → a + 0 * b ≤ c + 0 * d → a ≤ c
@@ -27,13 +27,6 @@ under (inf s) m e p q h = absurd p
 under (fin true n d) m e p q h = absurd q
 under (fin false n d) m e p q h =
     record { real = tt; size = plain-le (num (fin false m e) * down d) (down e) (num (fin false n d) * down e) (down d) (le→Le (fin false m e) (fin false n d) tt tt (is (fin false m e) (fin false n d) h) .cross) }
-
-pub over : (B : Float) (m : ℕ) (e : ℤ) → T (finite B) → T (plain B) → le B (fin false m e) ≡ true → Beyond B (fin false m e)
-over nan m e p q h = absurd p
-over (inf s) m e p q h = absurd p
-over (fin true n d) m e p q h = absurd q
-over (fin false n d) m e p q h =
-    record { real = tt; size = plain-le (num (fin false n d) * down e) (down d) (num (fin false m e) * down d) (down e) (le→Le (fin false n d) (fin false m e) tt tt (is (fin false n d) (fin false m e) h) .cross) }
 
 -- |x| ≤ B
 pub abs-within : (B x : Float) → T (finite B) → T (plain B) → le (abs x) B ≡ true → Within B x

@@ -4,25 +4,25 @@
 use mathlib.Core.Path.{_≡_, refl, sym, ap, _∙_, subst}
 use mathlib.Core.List.{List, [], _∷_}
 use Prim.Native.Nat.{ℕ, zero, suc, _+_, _-_, _*_, _^_, _≤_, _<_}
-use native.Mathlib.Nat.{le-of-suc-le-suc, eq-or-lt-of-le, mul-one}
+use native.Mathlib.Nat.{le-of-suc-le-suc, eq-or-lt-of-le}
 use native.Mathlib.Omega.{arith}
-use mathlib.Core.Logic.{_⊎_, inl, inr}
+use mathlib.Core.Logic.{inl, inr}
 use mathlib.Core.Bool.{Bool, true, false, not, _&&_, cond}
 use lib.IntN.{ℤ, pos, negsuc, negℤ, sucℤ}
 use lib.Signed.{mag}
 use lib.Dec.{T, T-not, leb}
-use lib.Ieee.{Float, nan, inf, fin, binary64, neg, add, sub, mul, lt, le, ofInt}
+use lib.Ieee.{Float, fin, binary64, neg, add, sub, mul, lt, le, ofInt}
 use lib.Ieee.Bits.{is-true}
 use lib.Ieee.Fits.{and-l, and-r}
 use lib.Ieee.Scale.{finite}
-use lib.Ieee.Positive.{num, den}
+use lib.Ieee.Positive.{num}
 use Rattle.float.specs.Number.{_⊕_, _⊗_, floor, floor-i64, zero-float, end-float}
 use Rattle.float.specs.Trig.{I, H, L, half, widest, turns, reduced}
 use Rattle.float.specs.Laws.Floor.{Floor, int, floor-is}
 use Rattle.float.specs.Laws.Range.{nlt→Le}
-use Rattle.float.specs.Laws.Le.{Le, le→Le, Le→le, plain, neg-finite, add-mono, sub-mono, mul-mono-by}
-use Rattle.float.specs.Laws.Within.{Within, weaken, add-within, mul-within, numeral, Le→within}
-use Rattle.float.specs.Laws.Interval.{Le-refl, Le-trans, Le-total, In, in-of, in-self, in-wider, add-in, sub-in, mul-in-by, within-in, in-within}
+use Rattle.float.specs.Laws.Le.{Le, le→Le, Le→le, neg-finite, add-mono, mul-mono-by}
+use Rattle.float.specs.Laws.Within.{Within, add-within, mul-within, numeral, Le→within}
+use Rattle.float.specs.Laws.Interval.{Le-refl, Le-trans, Le-total, In, in-self, in-wider, add-in, sub-in, mul-in-by, within-in}
 
 -- ---- the bound on |r|, and half the width of an interval
 abbrev pub R : Float

@@ -21,8 +21,7 @@ use Rattle.float.specs.Sqrt.{root, rootOf, sqrt}
 use Rattle.float.specs.Laws.Le.{Le, plain, units-plain}
 use Rattle.float.specs.Laws.Within.{Within, Beyond, Held, held, held-finite, held-units, fits→held, value-cross, value-finite, pos-of, div-exact, Le→beyond, beyond→Le}
 use Rattle.float.specs.Laws.Interval.{Le-trans}
-use Rattle.float.specs.Laws.Units.{Is, plus-Is}
-use Rattle.float.specs.Laws.Error.{Le-Is}
+use Rattle.float.specs.Laws.Units.{Is, plus-Is, Le-Is}
 use Rattle.float.specs.Laws.Grow.{square-is, square-plus, minus-zero}
 
 -- ---- `root` is the whole part of the root

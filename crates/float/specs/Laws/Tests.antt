@@ -1,17 +1,15 @@
 -- The tests of code in the words of the definitions: the sign's bit, `<` and `==` beside the total order, and `x != x`. Assumes nothing.
 use mathlib.Core.Path.{_≡_, refl, sym, ap, subst, _∙_}
-use mathlib.Core.Bool.{Bool, true, false, not, _&&_, _||_, Bool·beq, cond}
-use Prim.Native.Nat.{ℕ, zero, suc, _+_, _*_, _/_, _%_, _^_, _≤_, _<_}
-use native.Mathlib.Nat.{le-antisymm}
+use mathlib.Core.Bool.{Bool, true, false, not, _||_, cond}
+use Prim.Native.Nat.{ℕ, zero, suc, _+_, _*_, _/_, _%_, _^_, _<_}
 use native.Mathlib.Omega.{arith}
-use borrow.Author.Tests.{ne-eqb, not-true, not-false}
-use lib.Dec.{T, leb, ltb, eqb, ltb→lt, leb→le, eqb-refl}
+use borrow.Author.Tests.{ne-eqb}
+use lib.Dec.{T, leb, eqb, ltb→lt, eqb-refl}
 use lib.Ieee.{Float, nan, inf, fin, Format, binary64, lt, eq, ne, isNan, up, down, below, level, fits, prec, low, ones, hid, top, odd, ofFields, toBits, ofBits}
-use lib.Ieee.Fits.{and-i, eq→eqb}
-use lib.Ieee.Bits.{is-true, is-false, ofBits-toBits}
+use lib.Ieee.Bits.{is-true, ofBits-toBits}
 use lib.Ieee.Compare.{differs-from-itself}
 use Rattle.float.specs.Number.{total-le, negative}
-use Rattle.float.specs.Laws.Total.{apart, total-le-total, total-le-eq, eq-comm, eq-both}
+use Rattle.float.specs.Laws.Total.{apart, total-le-eq, eq-comm, eq-both}
 
 -- ---- the sign's bit
 
@@ -68,16 +66,6 @@ lt-numbers (inf s) (fin t n d) h = (tt, tt)
 lt-numbers (fin s m e) nan h = absurd h
 lt-numbers (fin s m e) (inf t) h = (tt, tt)
 lt-numbers (fin s m e) (fin t n d) h = (tt, tt)
-
-pub eq-numbers : (x y : Float) → T (eq x y) → T (not (isNan x)) × T (not (isNan y))
-unfolding eq isNan
-eq-numbers nan y h = absurd h
-eq-numbers (inf s) nan h = absurd h
-eq-numbers (inf s) (inf t) h = (tt, tt)
-eq-numbers (inf s) (fin t n d) h = (tt, tt)
-eq-numbers (fin s m e) nan h = absurd h
-eq-numbers (fin s m e) (inf t) h = (tt, tt)
-eq-numbers (fin s m e) (fin t n d) h = (tt, tt)
 
 -- only NaN does not equal itself
 pub eq-self : (x : Float) → eq x x ≡ not (isNan x)

@@ -3,10 +3,9 @@
 -- Three values at a time are mapped to numbers, their places on a line, such that `total-le` is `≤` of the places and `eq` their equality after
 -- the places of -0 and +0 are made one. Assumes nothing.
 use mathlib.Core.Path.{_≡_, refl, sym, ap, subst, _∙_}
-use mathlib.Core.Logic.{_⊎_, inl, inr}
 use mathlib.Core.Bool.{Bool, true, false, not, _&&_, _||_, Bool·beq, cond}
-use Prim.Native.Nat.{ℕ, suc, _+_, _-_, _*_, _/_, _^_, _≤_, _<_, min}
-use native.Mathlib.Nat.{le-antisymm, zero-mul, add-mul, mul-right-comm, mul-pos, mul-lt-mul-of-pos-right, mul-le-mul-right}
+use Prim.Native.Nat.{ℕ, _+_, _-_, _*_, _/_, _^_, _≤_, _<_, min}
+use native.Mathlib.Nat.{le-antisymm, zero-mul, add-mul, mul-right-comm, mul-lt-mul-of-pos-right, mul-le-mul-right}
 use native.Mathlib.Decide.{decLt}
 use native.Mathlib.Omega.{arith}
 use borrow.Author.Tests.{lt-ltb, le-ltb, le-leb, lt-leb, eq-eqb, ne-eqb, leb-false}
@@ -14,7 +13,7 @@ use lib.Dec.{T, leb, ltb, eqb, leb→le, le→leb, eqb→eq}
 use lib.IntN.{ℤ}
 use lib.Ieee.{Float, nan, inf, fin, binary64, lt, eq, isNan, up, down, below, level, fits, size, top, hid, toBits, ofBits}
 use lib.Ieee.Nearest.{div-same}
-use lib.Ieee.Bits.{is-true, is-false, ofBits-toBits}
+use lib.Ieee.Bits.{is-true, ofBits-toBits}
 use lib.Ieee.Fits.{and-i, and-l, and-r, eq→eqb, down-pos}
 use lib.Ieee.Positive.{num, den, den-pos}
 use Rattle.float.specs.Number.{total-le, negative}
@@ -209,9 +208,6 @@ number-place B X nan h = absurd (omega arith)
 number-place B X (inf s) h = tt
 number-place B X (fin s m e) h = tt
 
-not-true : (b : Bool) → T b → b ≡ false → ⊥
-not-true b t e = subst T e t
-
 module _ (x y z : Float) where
   abbrev X : ℕ
   X = num x * den y * den z
@@ -261,9 +257,6 @@ module _ (x y z : Float) where
   eq-yx : eq y x ≡ not (isNan y) && eqb (joined most Q) (joined most P)
   eq-yx = eq-place most (den z) (den-pos z) y x Y X refl refl hy hx
 
-  eq-yz : eq y z ≡ not (isNan y) && eqb (joined most Q) (joined most R)
-  eq-yz = eq-place most (den x) (den-pos x) y z Y Z (mul-right-comm (num y) (den z) (den x)) (mul-right-comm (num z) (den y) (den x)) hy hz
-
   eq-zy : eq z y ≡ not (isNan z) && eqb (joined most R) (joined most Q)
   eq-zy = eq-place most (den x) (den-pos x) z y Z Y (mul-right-comm (num z) (den y) (den x)) (mul-right-comm (num y) (den z) (den x)) hz hy
 
@@ -299,16 +292,6 @@ module _ (x y z : Float) where
       let j : joined most R ≡ joined most P = c .1 in
       let same′ : joined most Q ≡ joined most P = omega arith in
       subst T (sym eq-yx) (and-i (not (isNan y)) (eqb (joined most Q) (joined most P)) (number-place most Y y (omega arith)) (eq→eqb same′))
-
-  pub between-high : T (total-le x y) → T (total-le y z) → T (eq z x) → T (eq z y)
-  between-high p q e =
-      let a : P ≤ Q = leb→le P Q (subst T total-le-xy p) in
-      let b : Q ≤ R = leb→le Q R (subst T total-le-yz q) in
-      let c = of-eq-zx e in
-      let l : R < most + most + 4 = c .0 in
-      let j : joined most R ≡ joined most P = c .1 in
-      let same′ : joined most R ≡ joined most Q = omega arith in
-      subst T (sym eq-zy) (and-i (not (isNan z)) (eqb (joined most R) (joined most Q)) (number-place most Z z (omega arith)) (eq→eqb same′))
 
   eq-trans′ : T (eq z x) → T (eq x y) → T (eq z y)
   eq-trans′ p q =

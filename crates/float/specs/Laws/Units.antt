@@ -1,21 +1,20 @@
 -- Exact arithmetic. `Is f x p n i`: x is finite and its value is (p - n) * 2 ^ i units of the format's smallest value, for whole numbers p and n.
 -- A sum, a difference or a product whose exact value is such a number with fewer than prec digits is that value: `Is-add`, `Is-sub`, `Is-mul`.
--- `srnd-same`: a rounded difference sees only its value. Assumes nothing.
+-- `srnd-same`: a rounded difference sees only its value. `Is-Le`, `Le-Is`: the order of such values is that of their units. Assumes nothing.
 use mathlib.Core.Path.{_≡_, refl, sym, ap, ap₂, _∙_, subst}
 use Prim.Native.Nat.{ℕ, zero, suc, _+_, _-_, _*_, _^_, _≤_, _<_}
-use native.Mathlib.Nat.{le-trans, le-of-eq, le-of-lt, le-antisymm, lt-of-lt-of-le, lt-of-le-of-lt, zero-mul, mul-zero, mul-one, one-mul, mul-pos, mul-assoc, mul-comm, mul-left-comm, mul-right-comm, add-mul, mul-add, mul-sub, zero-lt-suc, lt-irrefl, le-of-mul-le-mul-right, mul-le-mul-right, mul-lt-mul-of-pos-right, eq-of-mul-eq-mul-right, mul-mul-mul-comm}
+use native.Mathlib.Nat.{le-trans, le-of-eq, le-of-lt, lt-of-lt-of-le, zero-mul, mul-one, mul-pos, mul-assoc, mul-comm, mul-left-comm, mul-right-comm, add-mul, mul-add, mul-sub, zero-lt-suc, lt-irrefl, le-of-mul-le-mul-right, mul-le-mul-right, mul-lt-mul-of-pos-right, eq-of-mul-eq-mul-right}
 use native.Mathlib.Omega.{arith}
 use mathlib.Core.Bool.{Bool, true, false, not, cond}
-use lib.IntN.{ℤ, pos, negsuc}
 use lib.Dec.{T, leb, leb→le, nleb→lt}
 use lib.Pow.{pow-add, pow-pos, pow-mono}
-use lib.Ieee.{Float, nan, inf, fin, Format, prec, emax, low, unlike, up, down, round, neg, add, sub, mul}
-use lib.Ieee.Fits.{up-pos, down-pos}
+use lib.Ieee.{Float, nan, inf, fin, Format, prec, emax, low, up, down, round, neg, add, sub, mul}
+use lib.Ieee.Fits.{down-pos}
 use lib.Ieee.Exact.{HasValue, round-exact}
 use lib.Ieee.Scale.{round-same, finite}
-use lib.Ieee.Positive.{num, den, den-pos}
-use Rattle.float.specs.Laws.Sign.{strip, Alike, zeroF, round-zero}
-use Rattle.float.specs.Laws.Le.{pl, mi, srnd, signed-pos, signed-neg, add-srnd, finite-alike, neg-finite}
+use lib.Ieee.Positive.{den, den-pos}
+use Rattle.float.specs.Laws.Sign.{strip, Alike}
+use Rattle.float.specs.Laws.Le.{pl, mi, Le, srnd, signed-pos, signed-neg, add-srnd, neg-finite}
 
 pub record Is (f : Format) (x : Float) (p n i : ℕ) : Type 0 where
   pub real : T (finite x)
@@ -298,3 +297,53 @@ srnd-same f p n c q m d C D e = go (leb n p) (leb m q) (leb→le n p) (nleb→lt
     go false true a b g h =
         let l : n ≤ p = follow q m c p n d D (g tt) (sym e) in
         absurd (lt-irrefl p (lt-of-lt-of-le (b tt) l))
+
+-- ---- the order, by units
+across : (u d w p n a b : ℕ) → a * u + n * d ≡ p * d + b * u → a * w * u + n * (d * w) ≡ p * (d * w) + b * w * u
+across u d w p n a b h = one a n ∙ ap (λ (z : ℕ). z * w) h ∙ two p b
+  where
+    one : (s t : ℕ) → s * w * u + t * (d * w) ≡ (s * u + t * d) * w
+    one s t = simp (add-mul, mul-assoc, mul-comm, mul-left-comm)
+
+    two : (s t : ℕ) → (s * d + t * u) * w ≡ s * (d * w) + t * w * u
+    two s t = simp (add-mul, mul-assoc, mul-comm, mul-left-comm)
+
+pub flat : (f : Format) (x : Float) (p n : ℕ) → Is f x p n 0 → pl x * 2 ^ low f + n * den x ≡ p * den x + mi x * 2 ^ low f
+flat f x p n k = ap (λ (z : ℕ). pl x * 2 ^ low f + z * den x) (sym (mul-one n)) ∙ k .value ∙ ap (λ (z : ℕ). z * den x + mi x * 2 ^ low f) (mul-one p)
+
+module _ (f : Format) (x y : Float) (p n q m : ℕ) (h : Is f x p n 0) (k : Is f y q m 0) where
+  abbrev u : ℕ
+  u = 2 ^ low f
+
+  abbrev d : ℕ
+  d = den x * den y
+
+  left-units : pl x * den y * u + n * d ≡ p * d + mi x * den y * u
+  left-units = across u (den x) (den y) p n (pl x) (mi x) (flat f x p n h)
+
+  right-units : pl y * den x * u + m * d ≡ q * d + mi y * den x * u
+  right-units = subst (λ (z : ℕ). pl y * den x * u + m * z ≡ q * z + mi y * den x * u) (mul-comm (den y) (den x)) (across u (den y) (den x) q m (pl y) (mi y) (flat f y q m k))
+
+  pub Is-Le : p + m ≤ q + n → Le x y
+  Is-Le l =
+      let a = left-units in
+      let b = right-units in
+      let c : (p + m) * d ≤ (q + n) * d = mul-le-mul-right d l in
+      let e = add-mul p m d in
+      let g = add-mul q n d in
+      let i = add-mul (pl x * den y) (mi y * den x) u in
+      let j = add-mul (pl y * den x) (mi x * den y) u in
+      let s : (pl x * den y + mi y * den x) * u ≤ (pl y * den x + mi x * den y) * u = omega arith in
+      record { first = h .real; second = k .real; cross = le-of-mul-le-mul-right s (pow-pos (low f)) }
+
+  pub Le-Is : Le x y → p + m ≤ q + n
+  Le-Is l =
+      let a = left-units in
+      let b = right-units in
+      let c : (pl x * den y + mi y * den x) * u ≤ (pl y * den x + mi x * den y) * u = mul-le-mul-right u (l .cross) in
+      let e = add-mul p m d in
+      let g = add-mul q n d in
+      let i = add-mul (pl x * den y) (mi y * den x) u in
+      let j = add-mul (pl y * den x) (mi x * den y) u in
+      let s : (p + m) * d ≤ (q + n) * d = omega arith in
+      le-of-mul-le-mul-right s (mul-pos (den-pos x) (den-pos y))

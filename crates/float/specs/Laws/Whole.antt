@@ -19,8 +19,7 @@ use Rattle.float.specs.Laws.Tests.{lt-not-eq, lt-before, total-le-lt}
 use Rattle.float.specs.Laws.Le.{Le, le→Le, Le→le, or-r, or-split}
 use Rattle.float.specs.Laws.Within.{Within, within→Le, fits→held, drop-pow}
 use Rattle.float.specs.Laws.Range.{lt→Le, nlt→Le}
-use Rattle.float.specs.Laws.Units.{Is, Is-neg}
-use Rattle.float.specs.Laws.Error.{Is-Le, Le-Is}
+use Rattle.float.specs.Laws.Units.{Is, Is-neg, Is-Le, Le-Is}
 
 -- ---- the counts
 -- m * 2 ^ e in units
@@ -64,20 +63,6 @@ whole-is f (fin false m e) t p = record { real = tt; value = let a = fits-amount
 -- a power of two, with no bound on it
 pub power-is : (f : Format) (k : ℕ) → Is f (fin false 1 (pos k)) (2 ^ (low f + k)) 0 0
 power-is f k = record { real = tt; value = let a = pow-add 2 (low f) k in let b = mul-comm (2 ^ low f) (2 ^ k) in omega arith }
-
-pub plus-neg : (f : Format) (x : Float) → plus-units f (neg x) ≡ minus-units f x
-unfolding neg
-plus-neg f nan = refl
-plus-neg f (inf s) = refl
-plus-neg f (fin true m e) = refl
-plus-neg f (fin false m e) = refl
-
-pub minus-neg : (f : Format) (x : Float) → minus-units f (neg x) ≡ plus-units f x
-unfolding neg
-minus-neg f nan = refl
-minus-neg f (inf s) = refl
-minus-neg f (fin true m e) = refl
-minus-neg f (fin false m e) = refl
 
 -- ---- the comparisons
 not-both : (x y : Float) → T (lt x y) → T (lt y x) → ⊥

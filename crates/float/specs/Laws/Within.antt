@@ -2,22 +2,21 @@
 -- A rule for an operation takes bounds of the operands and any B that the format holds and that the exact bound does not pass: rounding does not cross a value of the format.
 -- For numerals X, Y, B each test is closed, so `tt` proves it by computation. Assumes nothing.
 use mathlib.Core.Path.{_≡_, refl, sym, ap, ap₂, _∙_, subst}
-use Prim.Native.Nat.{ℕ, zero, suc, _+_, _-_, _*_, _%_, _^_, _≤_, _<_, zero-le}
-use native.Mathlib.Nat.{le-trans, le-refl, le-of-eq, le-of-lt, lt-of-lt-of-le, lt-of-le-of-lt, zero-mul, mul-zero, mul-one, one-mul, mul-pos, mul-assoc, mul-comm, mul-left-comm, mul-right-comm, add-mul, mul-add, mul-sub, zero-lt-suc, lt-irrefl, le-of-mul-le-mul-right, mul-le-mul-right, mul-le-mul-left, mul-le-mul, mul-lt-mul-of-pos-right, eq-of-mul-eq-mul-right, lt-of-mul-lt-mul-right}
+use Prim.Native.Nat.{ℕ, zero, suc, _+_, _-_, _*_, _%_, _^_, _≤_, _<_}
+use native.Mathlib.Nat.{le-trans, le-of-eq, lt-of-lt-of-le, lt-of-le-of-lt, zero-mul, mul-one, one-mul, mul-pos, mul-assoc, mul-comm, mul-left-comm, mul-right-comm, add-mul, mul-sub, zero-lt-suc, lt-irrefl, le-of-mul-le-mul-right, mul-le-mul-right, mul-le-mul, mul-lt-mul-of-pos-right, lt-of-mul-lt-mul-right}
 use native.Mathlib.Omega.{arith}
-use mathlib.Core.Logic.{_⊎_, inl, inr}
-use mathlib.Core.Bool.{Bool, true, false, not, _&&_, _||_, Bool·beq, cond, true≢false}
+use mathlib.Core.Bool.{Bool, true, false, not, _&&_, Bool·beq, cond}
 use lib.IntN.{ℤ, pos, negsuc}
-use lib.Dec.{T, ltb, eqb, leb, ltb→lt, lt→ltb, nltb→le, leb→le, le→leb, nleb→lt, eqb→eq, lit≤, lit<}
-use lib.Pow.{pow-add, pow-pos, pow-mono, pow-lt}
-use lib.Ieee.{Float, nan, inf, fin, Format, binary32, binary64, prec, emax, low, unlike, up, down, round, neg, sum, add, sub, mul, div, lt, eq, le, fits}
-use lib.Ieee.Fits.{up-pos, down-pos, and-l, and-r, and-i, eq→eqb}
+use lib.Dec.{T, ltb, eqb, leb, ltb→lt, lt→ltb, leb→le, le→leb, nleb→lt, eqb→eq}
+use lib.Pow.{pow-add, pow-pos, pow-lt}
+use lib.Ieee.{Float, nan, inf, fin, Format, prec, emax, low, unlike, up, down, round, neg, sum, add, sub, mul, div, le, fits}
+use lib.Ieee.Fits.{down-pos, and-l, and-r, and-i}
 use lib.Ieee.Exact.{HasValue, round-exact}
 use lib.Ieee.Order.{round-mono}
 use lib.Ieee.Scale.{finite, overflow}
 use lib.Ieee.Positive.{num, den, den-pos, through}
-use Rattle.float.specs.Laws.Sign.{round-neg, neg-neg, strip, Alike}
-use Rattle.float.specs.Laws.Le.{pl, mi, Le, le→Le, Le→le, neg-Le, plain, round-plain, neg-finite}
+use Rattle.float.specs.Laws.Sign.{round-neg, neg-neg}
+use Rattle.float.specs.Laws.Le.{pl, mi, Le, le→Le, neg-Le, plain, round-plain, neg-finite}
 
 pub record Within (B x : Float) : Type 0 where
   pub real : T (finite x)
@@ -455,21 +454,3 @@ beyond→Le {B = fin false m e} {x = nan} p q r h = absurd r
 beyond→Le {B = fin false m e} {x = inf s} p q r h = absurd (h .real)
 beyond→Le {B = fin false m e} {x = fin true n d} p q r h = absurd r
 beyond→Le {B = fin false m e} {x = fin false n d} p q r h = record { first = tt; second = tt; cross = let k = h .size in omega arith }
-
--- ---- the sign of a zero does not matter
-strip-within : (B x : Float) → Within B x → Within B (strip x)
-unfolding strip
-strip-within B nan h = h
-strip-within B (inf s) h = h
-strip-within B (fin s zero e) h = record { real = tt; size = le-trans (le-of-eq (zero-mul (den B))) zero-le }
-strip-within B (fin s (suc m) e) h = h
-
-unstrip-within : (B x : Float) → Within B (strip x) → Within B x
-unfolding strip
-unstrip-within B nan h = h
-unstrip-within B (inf s) h = h
-unstrip-within B (fin s zero e) h = record { real = tt; size = le-trans (le-of-eq (ap (λ (z : ℕ). z * den B) (zero-mul (up e)) ∙ zero-mul (den B))) zero-le }
-unstrip-within B (fin s (suc m) e) h = h
-
-pub within-alike : {B x y : Float} → Alike x y → Within B x → Within B y
-within-alike {B} {x} {y} h k = unstrip-within B y (subst (λ (z : Float). Within B z) h (strip-within B x k))

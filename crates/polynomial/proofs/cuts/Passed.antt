@@ -3,7 +3,7 @@ use mathlib.Core.Path.{_≡_, refl, sym, ap, subst, _∙_}
 use mathlib.Core.Bool.{Bool, true, false, not, _||_}
 use borrow.Author.Tests.{not-true, not-false}
 use lib.Dec.{T}
-use lib.Ieee.{Float, nan, lt, eq, ne, isNan}
+use lib.Ieee.{Float, lt, eq, ne, isNan}
 use lib.Ieee.Compare.{differs-from-itself}
 use Rattle.float.specs.Number.{total-le}
 use Rattle.float.specs.Laws.Total.{total-le-total, eq-comm}

@@ -1,19 +1,18 @@
 -- Laws of `sort`, `dedup`, `cuts` and `put`. Those of `put` hold for every value, NaN included. Where values change places,
 -- as in `cuts-perm`, they have to fit the format, so that values which `total_cmp` does not tell apart are one. Assumes nothing.
 use mathlib.Core.Path.{_≡_, refl, sym, ap, subst, _∙_}
-use mathlib.Core.Logic.{_⊎_, inl, inr}
-use mathlib.Core.Bool.{Bool, true, false, not, _||_, cond}
+use mathlib.Core.Bool.{Bool, true, false, not, cond}
 use mathlib.Core.List.{List, [], _∷_, _++_, List·Permᴰ, List·Permᴰ·nil, List·Permᴰ·cons, List·Permᴰ·swap, List·Permᴰ·trans, Permᴰ·symm, Permᴰ·middle, Permᴰ·append-nil}
 use lib.Dec.{T}
 use Prim.Native.Nat.{ℕ, zero, suc, _≤_}
 use native.Mathlib.Nat.{le-refl}
 use native.Mathlib.Omega.{arith}
-use lib.ListN.{length, take, drop, take-append-drop}
+use lib.ListN.{length, drop}
 use lib.Ieee.{Float, binary64, eq, fits, isNan}
 use lib.Ieee.Bits.{is-true}
 use Rattle.float.specs.Number.{total-le}
 use Rattle.polynomial.specs.Cuts.{ins, sort, rest, dedup, cuts, put}
-use Rattle.float.specs.Laws.Total.{total-le-total, total-le-trans, total-le-refl, total-le-antisym, eq-refl, between-low, between-high, eq-sym, eq-comm, eq-cong}
+use Rattle.float.specs.Laws.Total.{total-le-total, total-le-trans, total-le-refl, total-le-antisym, eq-refl, between-low, eq-sym, eq-cong}
 
 -- ---- order
 
@@ -298,21 +297,10 @@ cuts-left a b f g =
 pub cuts-longer-left : (a b : List Float) → Fit a → Fit b → length (cuts a) ≤ length (cuts (a ++ b))
 cuts-longer-left a b f g = rw (cuts-perm (perm-comm a b) (fit-append a b f g)) (cuts-longer b a)
 
-pub fit-take : (k : ℕ) (l : List Float) → Fit l → Fit (take k l)
-fit-take zero l f = tt
-fit-take (suc k) [] f = tt
-fit-take (suc k) (x ∷ l) f = (f .0, fit-take k l (f .1))
-
 pub fit-drop : (k : ℕ) (l : List Float) → Fit l → Fit (drop k l)
 fit-drop zero l f = f
 fit-drop (suc k) [] f = tt
 fit-drop (suc k) (x ∷ l) f = fit-drop k l (f .1)
-
--- a beginning has no more cuts than the whole
-pub cuts-prefix : (k : ℕ) (l : List Float) → Fit l → length (cuts (take k l)) ≤ length (cuts l)
-cuts-prefix k l f =
-    subst (λ (a : List Float). length (cuts (take k l)) ≤ length (cuts a)) (take-append-drop k l)
-    (cuts-longer-left (take k l) (drop k l) (fit-take k l f) (fit-drop k l f))
 
 -- ---- a list that increases strictly is its own list of cuts
 

@@ -71,9 +71,6 @@ module _ (l r₀ r : List Float) (n : ℕ) (v : Float) (f : Fit l) (g : T (fits 
         list = b ∙ rw (now-cuts, same-length, p .0, p .1, t);
       }
 
-  pub held-full : Full ≡ putAnswer r n v → length r₀ < length (cuts (l ++ v ∷ []))
-  held-full a = leb-false _ _ (left (leb (length (cuts (l ++ v ∷ []))) (length r₀)) (length (cuts (l ++ v ∷ []))) (sym answer ∙ sym a))
-
 -- ---- a list that grows, whether or not there are places
 
 -- p is the number of cuts of l, or Full where r₀ has fewer places; in the first case r holds them

@@ -5,7 +5,7 @@ use Prim.Native.Nat.{ℕ, zero, suc, _+_, _-_, _<_}
 use native.Mathlib.Nat.{not-suc-le-zero, le-of-suc-le-suc}
 use native.Mathlib.Numerals.{add-one}
 use native.Mathlib.Omega.{arith}
-use lib.ListN.{length, getD, set, take, drop, replicate, length-drop, drop-of-length-le}
+use lib.ListN.{length, getD, set, take, drop, length-drop, drop-of-length-le}
 use lib.Seq.{paste, paste-suc, length-paste-head, drop-cons, getD-at, getD-drop, take-all, take-suc-set, append-snoc}
 
 module _ {ℓ} {A : Type ℓ} where
@@ -14,15 +14,6 @@ module _ {ℓ} {A : Type ℓ} where
   getD-any [] i d e h = absurd (not-suc-le-zero h)
   getD-any (x ∷ l) zero d e h = refl
   getD-any (x ∷ l) (suc i) d e h = getD-any l i d e (le-of-suc-le-suc h)
-
-  -- ---- a loop that fills a list from the front with one value (`borrow.Author.Fill` has it for numbers)
-  fill-suc : (n : ℕ) (v : A) (d : List A) → n < length d → set (replicate n v ++ drop n d) n v ≡ replicate (suc n) v ++ drop (suc n) d
-  fill-suc n v [] l = absurd (not-suc-le-zero l)
-  fill-suc zero v (x ∷ d) l = refl
-  fill-suc (suc n) v (x ∷ d) l = ap (λ (t : List A). v ∷ t) (fill-suc n v d (le-of-suc-le-suc l))
-
-  pub fill-more : (n : ℕ) (v : A) (d : List A) → n < length d → set (replicate n v ++ drop n d) n v ≡ replicate (n + 1) v ++ drop (n + 1) d
-  fill-more n v d l = rw add-one (fill-suc n v d l)
 
   -- ---- a loop that copies D over the front of d
   copy-suc : (n : ℕ) (D d : List A) (z : A) → n < length D → n < length d → set (take n D ++ drop n d) n (getD D n z) ≡ take (suc n) D ++ drop (suc n) d

@@ -1,25 +1,23 @@
 -- What `insert` has to show at each of its ends, on plain lists: w is the room, its first n places hold the list, and at is where v belongs. Assumes nothing.
-use mathlib.Core.Path.{_≡_, refl, sym, ap, subst, subst₂, _∙_}
-use mathlib.Core.Bool.{Bool, true, false, not, _||_, cond}
-use mathlib.Core.List.{List, [], _∷_, _++_, append-assoc}
+use mathlib.Core.Path.{_≡_, refl, sym, ap, subst, _∙_}
+use mathlib.Core.Bool.{Bool, true, false, _||_}
+use mathlib.Core.List.{List, [], _∷_, _++_}
 use Prim.Native.Nat.{ℕ, zero, suc, _+_, _-_, _≤_, _<_, suc-le-suc}
-use native.Mathlib.Nat.{not-suc-le-zero, le-of-suc-le-suc, zero-lt-suc, add-suc}
+use native.Mathlib.Nat.{not-suc-le-zero, le-of-suc-le-suc, zero-lt-suc}
 use native.Mathlib.Numerals.{add-one}
 use native.Mathlib.Decide.{decLt}
 use native.Mathlib.Omega.{arith}
 use borrow.Author.Tests.{le-leb, lt-leb, not-true, not-false}
-use lib.Dec.{T, leb}
+use lib.Dec.{T}
 use lib.ListN.{length, getD, set, take, drop, length-append, length-drop, length-set, take-append-drop, drop-of-length-le}
-use lib.Seq.{paste, take-take, take-add, drop-at, drop-cons, set-split, set-append-left, getD-take, length-take-le, take-all}
+use lib.Seq.{paste, take-take, take-add, drop-at, drop-cons, set-split, set-append-left, getD-take, length-take-le}
 use lib.Ieee.{Float, nan, eq}
 use lib.Ieee.Bits.{is-true}
-use Rattle.polynomial.specs.declared.cuts.Put.{Put}
 use Rattle.polynomial.specs.declared.cuts.Put.the-variants.{Count, Full}
 use Rattle.float.specs.Number.{total-le}
 use Rattle.polynomial.specs.Cuts.{put}
-use Rattle.float.specs.Laws.Total.{eq-comm, total-le-refl, total-le-total, total-le-trans, between-high}
-use Rattle.polynomial.specs.Laws.Cuts.{From, Sorted}
-use Rattle.polynomial.specs.Insert.{passed, pickPut, grown, putAnswer, putRoom, Found}
+use Rattle.float.specs.Laws.Total.{eq-comm}
+use Rattle.polynomial.specs.Insert.{passed, grown, putAnswer, putRoom, Found}
 
 or-left : (a b : Bool) → a || b ≡ false → a ≡ false
 or-left true b e = e
@@ -148,42 +146,3 @@ module _ (w : List Float) (n : ℕ) (v : Float) (at : ℕ) (le : n ≤ length w)
       let k : at + (n - at + 1) ≡ n + 1 = omega arith in
       let r = fits w n v G (n + 1) (new e) new-length (omega arith) in
       (r .0, (λ j. take at w ++ take (add-one (n - at) j) (v ∷ drop at w) ++ drop (k j) w) ∙ r .1)
-
--- ---- a search by halves
-from-index : (p : Float) (l : List Float) (m : ℕ) → From p l → m < length l → T (total-le p (getD l m nan))
-from-index p [] m f h = absurd (not-suc-le-zero h)
-from-index p (y ∷ l) zero f h = f .0
-from-index p (y ∷ l) (suc m) f h = total-le-trans p y (getD l m nan) (f .0) (from-index y l m (f .1) (le-of-suc-le-suc h))
-
-sorted-index : (l : List Float) (k m : ℕ) → Sorted l → k ≤ m → m < length l → T (total-le (getD l k nan) (getD l m nan))
-sorted-index [] k m s a b = absurd (not-suc-le-zero b)
-sorted-index (x ∷ l) zero zero s a b = total-le-refl x
-sorted-index (x ∷ l) zero (suc m) s a b = from-index x l m s (le-of-suc-le-suc b)
-sorted-index (x ∷ l) (suc k) zero s a b = absurd (not-suc-le-zero a)
-sorted-index (x ∷ l) (suc k) (suc m) s a b = sorted-index l k m (tail x l s) (le-of-suc-le-suc a) (le-of-suc-le-suc b)
-  where
-    tail : (x : Float) (l : List Float) → From x l → Sorted l
-    tail x [] f = tt
-    tail x (y ∷ l) f = f .1
-
--- v goes past what stands before a value that it goes past
-passed-down : (v a b : Float) → T (total-le a b) → passed v b ≡ true → passed v a ≡ true
-unfolding passed
-passed-down v a b h p = go (total-le v a) refl (eq v a) refl
-  where
-    n : total-le v b || eq v b ≡ false
-    n = not-true (total-le v b || eq v b) p
-
-    go : (s : Bool) → total-le v a ≡ s → (t : Bool) → eq v a ≡ t → not (total-le v a || eq v a) ≡ true
-    go true s t e = absurd (subst T (or-left (total-le v b) (eq v b) n) (total-le-trans v a b (subst T (sym s) tt) h))
-    go false s true e = absurd (subst T (or-right (total-le v b) (eq v b) n) (between-high a b v h (total-le-total v b (or-left (total-le v b) (eq v b) n)) (subst T (sym e) tt)))
-    go false s false e = simp (s, e)
-
-pub all-passed : (w : List Float) (n m : ℕ) (v : Float) → n ≤ length w → Sorted (take n w) → m < n → passed v (getD w m nan) ≡ true
-    → (k : ℕ) → k < m + 1 → passed v (getD w k nan) ≡ true
-all-passed w n m v le s h p k l =
-    let t : length (take n w) ≡ n = length-take-le n w le in
-    let a : k < n = omega arith in
-    passed-down v (getD w k nan) (getD w m nan)
-    (subst₂ (λ (x y : Float). T (total-le x y)) (getD-take n w k nan a) (getD-take n w m nan h) (sorted-index (take n w) k m s (omega arith) (omega arith)))
-    p

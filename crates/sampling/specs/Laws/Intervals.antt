@@ -113,7 +113,3 @@ interval-cut c shift lo hi e =
     let y = c .center ⊕ shift ⊕ c .tolerance in
     let k = taken (finite (c .center)) (le zero-float (c .tolerance)) (le (lower-end c shift) (upper-end c shift)) (lower-end c shift) (upper-end c shift) lo hi e in
     rw (k .1, k .2) (cut-within x y (sub-fits binary64 (c .center ⊕ shift) (c .tolerance)) (add-fits binary64 (c .center ⊕ shift) (c .tolerance)) (k .0))
-
--- the order as the code's test
-pub interval-order : (c : Center) (shift lo hi : Float) → interval c shift ≡ Between lo hi → T (le lo hi)
-interval-order c shift lo hi e = Le→le (interval-cut c shift lo hi e .order)

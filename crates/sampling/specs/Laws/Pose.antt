@@ -224,6 +224,3 @@ from-quat-within q h = record {
     z = rest (product (h .x) (h .x)) (product (h .y) (h .y));
   };
 }
-
-pub pose-within : (q u : Quaternion) → Quaternion-fits q → try-normalize q ≡ Unit u → Matrix-within seventeen (from-quat u)
-pose-within q u t e = from-quat-within u (normalize-within q u t e)

@@ -1,5 +1,5 @@
 -- `float::arc::acos` meets its contract. Assumes nothing.
-use mathlib.Core.Path.{_≡_, refl, ap, _∙_}
+use mathlib.Core.Path.{ap, _∙_}
 use lib.Ieee.{Float, ofBits}
 use borrow.Author.Needs.{needs}
 use Rattle.float.specs.Trig.{atan2, acos}

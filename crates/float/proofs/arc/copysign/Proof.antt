@@ -1,11 +1,10 @@
 -- `float::arc::copysign` meets its contract. Assumes nothing.
-use mathlib.Core.Path.{_≡_, refl, sym, ap, _∙_}
-use mathlib.Core.Bool.{Bool, true, false, not, cond}
-use lib.Ieee.{Float, neg}
+use mathlib.Core.Path.{sym, ap, _∙_}
+use mathlib.Core.Bool.{Bool, cond}
+use lib.Ieee.{neg}
 use borrow.Author.Needs.{needs}
 use borrow.Author.Tests.{not-true, not-false}
 use Rattle.float.specs.Number.{abs, negative}
-use Rattle.float.specs.Trig.{copysign}
 use Rattle.float.proofs.arc.copysign.Statement.{statement}
 use Rattle.float.proofs.arc.copysign.Tie as tie
 

@@ -1,5 +1,5 @@
 -- `float::arc::halved` meets its contract. Assumes nothing.
-use mathlib.Core.Path.{_≡_, refl, ap}
+use mathlib.Core.Path.{ap}
 use lib.Ieee.{Float, ofBits}
 use borrow.Author.Needs.{needs}
 use Rattle.float.specs.Number.{_⊕_, _⊘_, one-float}

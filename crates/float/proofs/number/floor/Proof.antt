@@ -3,14 +3,13 @@ use mathlib.Core.Path.{_≡_, refl, sym, ap, subst, _∙_}
 use mathlib.Core.Bool.{Bool, true, false}
 use lib.Dec.{T}
 use lib.IntN.{ℤ, pos, _-ℤ_}
-use lib.Signed.{mag}
 use lib.Ieee.{Float, fin, binary64, neg, le, lt, fits, ofBits, ofInt, toSigned}
 use lib.Ieee.Casts.{toSigned-in}
 use mir.Syntax.{w64}
 use mir.Val.{SFits, toZ, ofZ}
 use mir.ValLaws.{toZ-ofZ}
 use borrow.Author.Needs.{needs}
-use Rattle.float.specs.Number.{floor-i64, floor, zero-float, end-float}
+use Rattle.float.specs.Number.{floor-i64, floor, end-float}
 use Rattle.float.specs.Laws.Zero.{zero-bits}
 use Rattle.float.proofs.number.WholePart.{stay, step, Stepped}
 use Rattle.float.proofs.number.floor.Statement.{statement}

@@ -8,8 +8,8 @@ use mir.Syntax.{w64}
 use mir.Val.{toZ, ofZ}
 use mir.ValLaws.{toZ-ofZ}
 use borrow.Author.Needs.{needs}
-use Rattle.float.specs.Number.{_⊕_, _⊖_, _⊗_, abs, floor-i64}
-use Rattle.float.specs.Trig.{I, H, L, half, widest, turns, reduced, quadrant, sine, cosine, turned, sin-cos}
+use Rattle.float.specs.Number.{abs, floor-i64}
+use Rattle.float.specs.Trig.{widest, turns, reduced, quadrant, sine, cosine, turned, sin-cos}
 use Rattle.float.specs.declared.trig.SinCos.{SinCos}
 use Rattle.float.specs.Laws.Range.{abs-within}
 use Rattle.float.specs.Laws.Reduce.{quad, turns-held}

@@ -1,5 +1,5 @@
 -- `float::trig::sine` meets its contract: each constant of the code is the rounded quotient that the definition names. Assumes nothing.
-use mathlib.Core.Path.{_≡_, refl}
+use mathlib.Core.Path.{refl}
 use lib.Ieee.{neg, sub, round, ofBits}
 use Rattle.float.specs.Trig.{sine, sine-series}
 use Rattle.float.proofs.trig.sine.Statement.{statement}

@@ -1,9 +1,7 @@
 -- `float::trig::turned` meets its contract. Assumes nothing.
 use mathlib.Core.Path.{_≡_, refl, sym, ap}
-use mathlib.Core.Logic.{_⊎_, inl, inr}
 use Prim.Native.Nat.{ℕ, zero, suc}
-use lib.Ieee.{Float, neg}
-use Rattle.float.specs.declared.trig.SinCos.{SinCos}
+use lib.Ieee.{Float}
 use Rattle.float.specs.Trig.{turned}
 use Rattle.float.proofs.trig.turned.Statement.{statement}
 use Rattle.float.proofs.trig.turned.Tie as tie

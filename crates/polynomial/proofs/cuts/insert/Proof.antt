@@ -1,7 +1,7 @@
 -- `polynomial::cuts::insert` meets its contract.
-use mathlib.Core.Path.{_≡_, refl, sym, ap, subst, _∙_}
+use mathlib.Core.Path.{_≡_, refl, sym, subst, _∙_}
 use mathlib.Core.Logic.{⊎-elim}
-use mathlib.Core.Bool.{Bool, true, false, not, _||_}
+use mathlib.Core.Bool.{true, false}
 use mathlib.Core.List.{List}
 use Prim.Native.Nat.{ℕ, _<_}
 use native.Mathlib.Omega.{arith}
@@ -9,7 +9,7 @@ use lib.Dec.{T}
 use lib.ListN.{getD}
 use lib.Ieee.{Float, nan, eq}
 use Rattle.float.specs.Number.{total-le, negative}
-use Rattle.float.specs.Laws.Tests.{eq-numbers, total-le-signs}
+use Rattle.float.specs.Laws.Tests.{total-le-signs}
 use Rattle.polynomial.specs.Laws.Placed.{replaced, kept, full, inserted}
 use borrow.Author.Needs.{needs}
 use Rattle.polynomial.proofs.cuts.insert.Statement.{statement}

@@ -1,12 +1,11 @@
 -- `sampling::critical_slices::angles` meets its contract. The loop's invariant: where the angles of the roots that are left come to a slice, all come to it. Assumes nothing.
 use borrow.Author.Needs.{needs}
-use mathlib.Core.Path.{_≡_, refl, sym, subst, _∙_}
+use mathlib.Core.Path.{_≡_, refl, _∙_}
 use Prim.Native.Nat.{_-_, _≤_}
 use native.Mathlib.Omega.{arith}
 use lib.ListN.{length, take}
 use lib.Seq.{slice}
 use lib.Ieee.{ofBits}
-use Rattle.sampling.specs.Grown.{Grown}
 use Rattle.sampling.specs.CriticalSlices as Of
 use Rattle.sampling.specs.Laws.Grown.{Leads, leads-all, leads-next, leads-end}
 use Rattle.sampling.specs.Laws.CriticalSlices.{angles-next, angles-end}

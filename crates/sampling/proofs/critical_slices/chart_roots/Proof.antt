@@ -1,10 +1,6 @@
 -- `sampling::critical_slices::chart_roots` meets its contract: by what the root finder says of its answer. Assumes nothing.
 use borrow.Author.Needs.{needs}
-use mathlib.Core.Path.{_≡_, sym, subst}
-use mathlib.Core.List.{List}
-use lib.ListN.{take}
-use lib.Ieee.{Float}
-use Rattle.sampling.specs.Grown.{Grown}
+use mathlib.Core.Path.{sym}
 use Rattle.sampling.specs.CriticalSlices.{angles, chart-roots, chart-holds}
 use Rattle.sampling.specs.Laws.Grown.{none}
 use Rattle.sampling.proofs.critical_slices.Inner.{refused, holds, within, list}

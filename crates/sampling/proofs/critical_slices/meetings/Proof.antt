@@ -4,7 +4,7 @@ use mathlib.Core.Path.{_≡_, refl, ap, subst, _∙_}
 use mathlib.Core.Bool.{_&&_}
 use Prim.Native.Nat.{_-_, _≤_}
 use native.Mathlib.Omega.{arith}
-use lib.ListN.{length, take}
+use lib.ListN.{length}
 use lib.Seq.{slice}
 use mathlib.Core.List.{List}
 use Rattle.polynomial.specs.declared.compensated.Compensated.{Compensated}

@@ -1,6 +1,6 @@
 -- `sampling::plan::count` meets its contract: by what came of the cuts. Assumes nothing.
 use borrow.Author.Needs.{needs}
-use mathlib.Core.Path.{_≡_, sym, ap, subst, _∙_}
+use mathlib.Core.Path.{sym, ap, subst, _∙_}
 use native.Mathlib.Omega.{arith}
 use lib.ListN.{length}
 use Rattle.sampling.specs.Stream.{start}

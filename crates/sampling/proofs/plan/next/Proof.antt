@@ -1,6 +1,6 @@
 -- `sampling::plan::next` meets its contract: by what came of the cuts. Assumes nothing.
 use borrow.Author.Needs.{needs}
-use mathlib.Core.Path.{_≡_, sym, subst}
+use mathlib.Core.Path.{sym, subst}
 use Rattle.sampling.specs.Plan.{to-come, Ready, Gives}
 use Rattle.sampling.specs.declared.plan.Plan.{Plan}
 use Rattle.sampling.proofs.plan.next.Statement.{statement}

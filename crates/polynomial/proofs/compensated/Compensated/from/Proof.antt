@@ -1,5 +1,5 @@
 -- `Compensated::from` meets its contract. Assumes nothing.
-use mathlib.Core.Path.{_≡_, refl}
+use mathlib.Core.Path.{refl}
 use lib.Ieee.{ofBits}
 use Rattle.polynomial.proofs.compensated.Compensated.from.Statement.{statement}
 use Rattle.polynomial.proofs.compensated.Compensated.from.Tie as tie

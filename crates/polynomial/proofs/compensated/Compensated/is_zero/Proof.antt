@@ -1,5 +1,5 @@
 -- `Compensated::is_zero` meets its contract. Assumes nothing.
-use mathlib.Core.Path.{_≡_, sym}
+use mathlib.Core.Path.{sym}
 use Rattle.float.specs.Laws.Zero.{zero-bits}
 use Rattle.polynomial.proofs.compensated.Compensated.is_zero.Statement.{statement}
 use Rattle.polynomial.proofs.compensated.Compensated.is_zero.Tie as tie

@@ -1,5 +1,5 @@
 -- `Compensated::plus` meets its contract. Assumes nothing.
-use mathlib.Core.Path.{_≡_, refl}
+use mathlib.Core.Path.{refl}
 use Rattle.polynomial.specs.Compensated.{plus}
 use Rattle.polynomial.proofs.compensated.Compensated.plus.Statement.{statement}
 use Rattle.polynomial.proofs.compensated.Compensated.plus.Tie as tie

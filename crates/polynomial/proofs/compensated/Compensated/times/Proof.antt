@@ -1,5 +1,5 @@
 -- `Compensated::times` meets its contract. Assumes nothing.
-use mathlib.Core.Path.{_≡_, ap}
+use mathlib.Core.Path.{ap}
 use lib.Ieee.{Float}
 use borrow.Author.Needs.{needs}
 use Rattle.float.specs.Number.{_⊕_, _⊗_}
