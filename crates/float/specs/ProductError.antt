@@ -10,20 +10,23 @@ use Rattle.float.specs.declared.product_error.Halves.{Halves}
 abbrev pub product-error : Float → Float → Float
 product-error a b = mul-add binary64 a b (neg (mul binary64 a b))
 
--- 2 ^ 400 and 2 ^ -400
+-- 2 ^ 400, and the least magnitudes, 2 ^ -200 and 2 ^ -768: of an operand, and of one in its halves
 abbrev pub most : Float
 most = fin false 1 (pos 400)
 
 abbrev pub least : Float
-least = fin false 1 (negsuc 399)
+least = fin false 1 (negsuc 199)
 
--- Whether Dekker's halves serve an operand: it is zero, or from 2 ^ -400 to 2 ^ 400 in magnitude. `sized` tests a magnitude.
-unfoldable pub sized : Float → Bool
-sized m = cond (le m most) (cond (le least m) true (eq m zero-float)) false
+abbrev pub least-halved : Float
+least-halved = fin false 1 (negsuc 767)
 
-unfoldable pub in-range : Float → Bool
+-- Whether Dekker's halves serve an operand: it is zero, or from `low` to 2 ^ 400 in magnitude. `sized` tests a magnitude.
+unfoldable pub sized : Float → Float → Bool
+sized low m = cond (le m most) (cond (le low m) true (eq m zero-float)) false
+
+unfoldable pub in-range : Float → Float → Bool
 unfolding sized
-in-range x = cond (lt x zero-float) (sized (neg x)) (sized x)
+in-range low x = cond (lt x zero-float) (sized low (neg x)) (sized low x)
 
 -- The halves of an operand, by Dekker's split at 2 ^ 27 + 1, and whether they serve it: for one that meets many others.
 abbrev pub splitter : Float
@@ -36,4 +39,4 @@ abbrev pub low-half : Float → Float
 low-half x = x ⊖ high-half x
 
 unfoldable pub halves : Float → Halves
-halves x = record { whole = x; high = high-half x; low = low-half x; fine = in-range x }
+halves x = record { whole = x; high = high-half x; low = low-half x; fine = in-range least-halved x }

@@ -1,16 +1,16 @@
-// The error of a rounded product, `fma(a, b, -(a * b))`: by Dekker's halves where both operands are
-// zero or from 2^-400 to 2^400 in magnitude, and by the fused product elsewhere.
+// The error of a rounded product, `fma(a, b, -(a * b))`: by Dekker's halves where a is zero or from
+// 2^-200 to 2^400 in magnitude, and b zero or from 2^-768 to 2^400, and by the fused product elsewhere.
 ghost use mathlib.Core.Path.{_≡_};
 ghost use mathlib.Core.Bool.{true};
 ghost use Rattle.float.specs.ProductError as ProductError;
 use crate::mul_add::mul_add;
 
-// Whether a magnitude is zero or from 2^-400 to 2^400.
-fn sized(m: f64) -> bool
-    ensures { λ r. ⌜ r ≡ ProductError.sized m ⌝ }
+// Whether a magnitude is zero or from `low` to 2^400.
+fn sized(low: f64, m: f64) -> bool
+    ensures { λ r. ⌜ r ≡ ProductError.sized low m ⌝ }
 {
     if m <= 2.5822498780869086e120 {
-        if m >= 3.8725919148493183e-121 {
+        if m >= low {
             return true;
         }
         return m == 0.0;
@@ -18,14 +18,21 @@ fn sized(m: f64) -> bool
     false
 }
 
-// Whether Dekker's halves serve an operand.
-pub fn in_range(x: f64) -> bool
-    ensures { λ r. ⌜ r ≡ ProductError.in-range x ⌝ }
+// Whether the magnitude of x is.
+fn within(low: f64, x: f64) -> bool
+    ensures { λ r. ⌜ r ≡ ProductError.in-range low x ⌝ }
 {
     if x < 0.0 {
-        return sized(-x);
+        return sized(low, -x);
     }
-    sized(x)
+    sized(low, x)
+}
+
+// Whether Dekker's halves serve a first operand.
+pub fn in_range(x: f64) -> bool
+    ensures { λ r. ⌜ r ≡ ProductError.in-range ProductError.least x ⌝ }
+{
+    within(6.223015277861142e-61, x)
 }
 
 // An operand with its halves, by Dekker's split at 2^27 + 1, and whether these serve it.
@@ -40,7 +47,7 @@ pub struct Halves {
 pub fn halved_operand(x: f64) -> Halves
     ensures { λ r. ⌜ r ≡ ProductError.halves x ⌝ }
 {
-    let fine = in_range(x);
+    let fine = within(6.441148769597133e-232, x);
     let c = 134217729.0 * x;
     let high = c - (c - x);
     Halves {
@@ -53,7 +60,7 @@ pub fn halved_operand(x: f64) -> Halves
 
 // The error of a product, where Dekker's halves serve both operands.
 pub fn error_by_halves(a: f64, b: Halves) -> f64
-    requires { ⌜ (b ≡ ProductError.halves (b .whole)) × (ProductError.in-range a ≡ true) × (b .fine ≡ true) ⌝ }
+    requires { ⌜ (b ≡ ProductError.halves (b .whole)) × (ProductError.in-range ProductError.least a ≡ true) × (b .fine ≡ true) ⌝ }
     ensures { λ r. ⌜ r ≡ ProductError.product-error a (b .whole) ⌝ }
 {
     let p = a * b.whole;

@@ -2,7 +2,7 @@
 // error, by value.
 ghost use mathlib.Core.Path.{_≡_};
 ghost use mathlib.Core.Bool.{true};
-ghost use Rattle.float.specs.ProductError.{halves, in-range};
+ghost use Rattle.float.specs.ProductError.{halves, least, in-range};
 ghost use Rattle.polynomial.specs.Compensated as Of;
 use float::product_error::Halves;
 use float::product_error::error_by_halves;
@@ -57,7 +57,7 @@ impl Compensated {
 
     // The product with a float, where Dekker's halves serve both it and the high part.
     pub fn times_by_halves(self, x: Halves) -> Self
-        requires { ⌜ (x ≡ halves (x .whole)) × (in-range (self .high) ≡ true) × (x .fine ≡ true) ⌝ }
+        requires { ⌜ (x ≡ halves (x .whole)) × (in-range least (self .high) ≡ true) × (x .fine ≡ true) ⌝ }
         ensures { λ r. ⌜ r ≡ Of.times self (Of.from (x .whole)) ⌝ }
     {
         let product = self.high * x.whole;

@@ -1,4 +1,4 @@
--- For a and b each zero or from 2 ^ -400 to 2 ^ 400 in size, Dekker's error equals the fused product of a, b and minus their rounded product, sign of a zero included.
+-- For a zero or from 2 ^ -(k + 1) to 2 ^ 400 in size, and b zero or from 2 ^ -(l + 1), where k + l is at most 968, Dekker's error equals the fused product of a, b and minus their rounded product, sign of a zero included.
 -- Signs: both forms are odd in a and in b (`Opp`). Zeros: neither form ever gives -0. Assumes nothing.
 use mathlib.Core.Path.{_≡_, refl, sym, ap, ap₂, _∙_, subst}
 use Prim.Native.Nat.{ℕ, zero, suc, _+_, _-_, _*_, _^_, _≤_, _<_, zero-le}
@@ -26,7 +26,7 @@ use Rattle.float.proofs.product_error.Split.{scaled, high, rest, halves
 use Rattle.float.specs.ProductError.{splitter}
 use Rattle.float.proofs.product_error.Dekker.{dekker, step1, step2, step3}
 use Rattle.float.proofs.product_error.Normal.{Normal, normal, in-range-equal}
-use Rattle.float.specs.ProductError.{most, least}
+use Rattle.float.specs.ProductError.{most}
 
 abbrev pub fused : Float → Float → Float
 fused a b = by-parts binary64 a b (neg (mul binary64 a b))
@@ -64,13 +64,13 @@ back a = record { turned = ap strip (sym (neg-neg a)) }
 turn : {x x' y y' : Float} → Opp x x' → Opp y y' → Like x y → Like x' y'
 turn p q h = like-trans (from-opp p) (like-trans (neg-like h) (like-sym (from-opp q)))
 
-by-right : (a b : Float) → Normal a → Normal b ⊎ Normal (neg b) → Like (dekker a b) (fused a b)
-by-right a b x (inl y) = record { same = in-range-equal a b x y }
-by-right a b x (inr y) = turn (dekker-opp-r (like-refl a) (back b)) (fused-opp-r (like-refl a) (back b)) (record { same = in-range-equal a (neg b) x y })
+by-right : {k l : ℕ} (a b : Float) → suc k + suc l ≤ 970 → Normal k a → Normal l b ⊎ Normal l (neg b) → Like (dekker a b) (fused a b)
+by-right a b near x (inl y) = record { same = in-range-equal a b near x y }
+by-right a b near x (inr y) = turn (dekker-opp-r (like-refl a) (back b)) (fused-opp-r (like-refl a) (back b)) (record { same = in-range-equal a (neg b) near x y })
 
-signs-equal : (a b : Float) → Normal a ⊎ Normal (neg a) → Normal b ⊎ Normal (neg b) → Like (dekker a b) (fused a b)
-signs-equal a b (inl x) y = by-right a b x y
-signs-equal a b (inr x) y = turn (dekker-opp-l (back a) (like-refl b)) (fused-opp-l (back a) (like-refl b)) (by-right (neg a) b x y)
+signs-equal : {k l : ℕ} (a b : Float) → suc k + suc l ≤ 970 → Normal k a ⊎ Normal k (neg a) → Normal l b ⊎ Normal l (neg b) → Like (dekker a b) (fused a b)
+signs-equal a b near (inl x) y = by-right a b near x y
+signs-equal a b near (inr x) y = turn (dekker-opp-l (back a) (like-refl b)) (fused-opp-l (back a) (like-refl b)) (by-right (neg a) b near x y)
 
 -- ---- Dekker's error is not -0
 abbrev pow2 : ℕ → Float
@@ -175,20 +175,21 @@ isZero (inf s) = false
 isZero (fin s zero e) = true
 isZero (fin s (suc m) e) = false
 
-pub record Ranged (a : Float) : Type 0 where
+pub record Ranged (k : ℕ) (a : Float) : Type 0 where
+  pub short : suc k ≤ 1000
   pub ok : T (fits binary64 a)
   pub size : Within most a
-  pub kind : T (isZero a) ⊎ Beyond least a
+  pub kind : T (isZero a) ⊎ Beyond (fin false 1 (negsuc k)) a
 
 upright : (m : ℕ) (e : ℤ) → T (plain (neg (fin true m e)))
 unfolding neg
 upright m e = tt
 
-sized : (a : Float) → T (fits binary64 a) → Within most a → Beyond least a → Normal a ⊎ Normal (neg a)
-sized nan t w b = absurd (w .real)
-sized (inf s) t w b = absurd (w .real)
-sized (fin false m e) t w b = inl (normal (fin false m e) (fits→held binary64 (fin false m e) t tt) tt w b)
-sized (fin true m e) t w b = inr (normal (neg (fin true m e)) (fits→held binary64 (neg (fin true m e)) (neg-fits binary64 (fin true m e) t) (neg-finite (fin true m e) tt)) (upright m e) (neg-within w) (neg-beyond b))
+sized : (k : ℕ) → suc k ≤ 1000 → (a : Float) → T (fits binary64 a) → Within most a → Beyond (fin false 1 (negsuc k)) a → Normal k a ⊎ Normal k (neg a)
+sized k short nan t w b = absurd (w .real)
+sized k short (inf s) t w b = absurd (w .real)
+sized k short (fin false m e) t w b = inl (normal k short (fin false m e) (fits→held binary64 (fin false m e) t tt) tt w b)
+sized k short (fin true m e) t w b = inr (normal k short (neg (fin true m e)) (fits→held binary64 (neg (fin true m e)) (neg-fits binary64 (fin true m e) t) (neg-finite (fin true m e) tt)) (upright m e) (neg-within w) (neg-beyond b))
 
 flat : (e : ℤ) → up e * down e ≡ 1 → e ≡ pos 0
 flat (pos zero) h = refl
@@ -211,8 +212,8 @@ unfolding mul sub
 high-zero true = refl
 high-zero false = refl
 
-high-sgn : (a : Float) → Ranged a → negative (high a) ≡ negative a
-high-sgn a r = go (r .kind)
+high-sgn : {k : ℕ} (a : Float) → Ranged k a → negative (high a) ≡ negative a
+high-sgn {k} a r = go (r .kind)
   where
     at-zero : (a : Float) → T (fits binary64 a) → T (isZero a) → negative (high a) ≡ negative a
     at-zero nan t z = absurd z
@@ -220,7 +221,7 @@ high-sgn a r = go (r .kind)
     at-zero (fin s zero e) t z = subst (λ (g : ℤ). negative (high (fin s zero g)) ≡ s) (sym (zero-exp s e t)) (ap negative (high-zero s))
     at-zero (fin s (suc m) e) t z = absurd z
 
-    by-size : Normal a ⊎ Normal (neg a) → negative (high a) ≡ negative a
+    by-size : Normal k a ⊎ Normal k (neg a) → negative (high a) ≡ negative a
     by-size (inl x) =
         let u = x .down in
         let l = x .lo in
@@ -233,9 +234,9 @@ high-sgn a r = go (r .kind)
         minus-sgn (high (neg a)) (high a) (h .0) (x .i + 27) (h .1 .some) (h .1 .top) (high-opp (back a) .turned)
         ∙ sym (minus-sgn (neg a) a (x .A) (x .i) (omega arith) (x .is) (back a .turned))
 
-    go : T (isZero a) ⊎ Beyond least a → negative (high a) ≡ negative a
+    go : T (isZero a) ⊎ Beyond (fin false 1 (negsuc k)) a → negative (high a) ≡ negative a
     go (inl z) = at-zero a (r .ok) z
-    go (inr b) = by-size (sized a (r .ok) (r .size) b)
+    go (inr b) = by-size (sized k (r .short) a (r .ok) (r .size) b)
 
 -- ---- the exact product is a whole number of units
 neg-parts : (x : Float) → (num (neg x) ≡ num x) × (den (neg x) ≡ den x)
@@ -244,13 +245,13 @@ neg-parts nan = (refl, refl)
 neg-parts (inf s) = (refl, refl)
 neg-parts (fin s m e) = (refl, refl)
 
-record Big (a : Float) : Type 0 where
+record Big (k : ℕ) (a : Float) : Type 0 where
   A : ℕ
   i : ℕ
-  far : 622 ≤ i
+  far : 1022 ≤ i + suc k
   is : num a * 2 ^ 1074 ≡ A * 2 ^ i * den a
 
-big : (a : Float) → Normal a ⊎ Normal (neg a) → Big a
+big : {k : ℕ} (a : Float) → Normal k a ⊎ Normal k (neg a) → Big k a
 big a (inl x) = let l = x .lo in record { A = x .A; i = x .i; far = x .up; is = Is-plus a (x .A) (x .i) (omega arith) (x .is) .1 }
 big a (inr x) =
     let l = x .lo in
@@ -271,8 +272,8 @@ product-units n1 d1 n2 d2 u P Q W U h k e =
     two : P * d1 * (Q * d2) ≡ P * Q * (d1 * d2)
     two = native.Mathlib.Nat.mul-mul-mul-comm P d1 Q d2
 
-big-product : (a b : Float) → Big a → Big b → (W : ℕ) × (num a * num b * 2 ^ 1074 ≡ W * (den a * den b))
-big-product a b x y =
+big-product : {p q : ℕ} (a b : Float) → suc p + suc q ≤ 970 → Big p a → Big q b → (W : ℕ) × (num a * num b * 2 ^ 1074 ≡ W * (den a * den b))
+big-product a b near x y =
     let k = x .i + y .i - 1074 in
     let l1 = x .far in
     let l2 = y .far in
@@ -289,16 +290,16 @@ zero-num (inf s) z = absurd z
 zero-num (fin s zero e) z = zero-mul (up e)
 zero-num (fin s (suc m) e) z = absurd z
 
-whole-product : (a b : Float) → Ranged a → Ranged b → (W : ℕ) × (num a * num b * 2 ^ 1074 ≡ W * (den a * den b))
-whole-product a b x y = go (x .kind) (y .kind)
+whole-product : {k l : ℕ} (a b : Float) → suc k + suc l ≤ 970 → Ranged k a → Ranged l b → (W : ℕ) × (num a * num b * 2 ^ 1074 ≡ W * (den a * den b))
+whole-product {k} {l} a b near x y = go (x .kind) (y .kind)
   where
     no-product : num a * num b ≡ 0 → (W : ℕ) × (num a * num b * 2 ^ 1074 ≡ W * (den a * den b))
     no-product h = (0, ap (λ (z : ℕ). z * 2 ^ 1074) h ∙ zero-mul (2 ^ 1074) ∙ sym (zero-mul (den a * den b)))
 
-    go : T (isZero a) ⊎ Beyond least a → T (isZero b) ⊎ Beyond least b → (W : ℕ) × (num a * num b * 2 ^ 1074 ≡ W * (den a * den b))
+    go : T (isZero a) ⊎ Beyond (fin false 1 (negsuc k)) a → T (isZero b) ⊎ Beyond (fin false 1 (negsuc l)) b → (W : ℕ) × (num a * num b * 2 ^ 1074 ≡ W * (den a * den b))
     go (inl z) k = no-product (ap (λ (v : ℕ). v * num b) (zero-num a z) ∙ zero-mul (num b))
     go (inr u) (inl z) = no-product (ap (λ (v : ℕ). num a * v) (zero-num b z) ∙ mul-zero (num a))
-    go (inr u) (inr v) = big-product a b (big a (sized a (x .ok) (x .size) u)) (big b (sized b (y .ok) (y .size) v))
+    go (inr u) (inr v) = big-product a b near (big a (sized k (x .short) a (x .ok) (x .size) u)) (big b (sized l (y .short) b (y .ok) (y .size) v))
 
 -- ---- where an operand is zero, both are zero
 zero-like : (a : Float) → T (isZero a) → Like a zeroF
@@ -379,13 +380,13 @@ fused-zero-r a b z p =
     let h = zero-like b z in
     like-trans (by-parts-like binary64 (like-refl a) h (neg-like (like-trans (mul-like binary64 (like-refl a) h) (mul-zero-r a p)))) (by-parts-zero-r a p)
 
-numbers-equal : (a b : Float) → Ranged a → Ranged b → Like (dekker a b) (fused a b)
-numbers-equal a b x y = go (x .kind) (y .kind)
+numbers-equal : {k l : ℕ} (a b : Float) → suc k + suc l ≤ 970 → Ranged k a → Ranged l b → Like (dekker a b) (fused a b)
+numbers-equal {k} {l} a b near x y = go (x .kind) (y .kind)
   where
-    go : T (isZero a) ⊎ Beyond least a → T (isZero b) ⊎ Beyond least b → Like (dekker a b) (fused a b)
+    go : T (isZero a) ⊎ Beyond (fin false 1 (negsuc k)) a → T (isZero b) ⊎ Beyond (fin false 1 (negsuc l)) b → Like (dekker a b) (fused a b)
     go (inl z) k = like-trans (dekker-zero-l a b z (y .size)) (like-sym (fused-zero-l a b z (y .size .real)))
     go (inr u) (inl z) = like-trans (dekker-zero-r a b z (x .size)) (like-sym (fused-zero-r a b z (x .size .real)))
-    go (inr u) (inr v) = signs-equal a b (sized a (x .ok) (x .size) u) (sized b (y .ok) (y .size) v)
+    go (inr u) (inr v) = signs-equal a b near (sized k (x .short) a (x .ok) (x .size) u) (sized l (y .short) b (y .ok) (y .size) v)
 
 -- ---- two values of the format that are not -0 and are equal as numbers are one
 unstripped : (x : Float) → T (nz x) → T (fits binary64 x) → strip x ≡ x
@@ -418,10 +419,10 @@ by-parts-fits (fin s m e) (inf t) z p q = absurd q
 by-parts-fits (fin s m e) (fin t n d) z p q = plus-fits (unlike s t) (m * up e * (n * up d)) (down e * down d) z
 
 -- ---- the theorem
-pub dekker-is-fused : (a b : Float) → Ranged a → Ranged b → dekker a b ≡ mul-add binary64 a b (neg (mul binary64 a b))
-dekker-is-fused a b x y =
-    let W = whole-product a b x y in
+pub dekker-is-fused : {k l : ℕ} (a b : Float) → suc k + suc l ≤ 970 → Ranged k a → Ranged l b → dekker a b ≡ mul-add binary64 a b (neg (mul binary64 a b))
+dekker-is-fused a b near x y =
+    let W = whole-product a b near x y in
     sym (unstripped (dekker a b) (dekker-nz a b (x .size) (y .size) (high-sgn a x) (high-sgn b y)) (add-fits binary64 (step3 a b) (mul binary64 (rest a) (rest b))))
-    ∙ numbers-equal a b x y .same
+    ∙ numbers-equal a b near x y .same
     ∙ unstripped (fused a b) (fused-nz a b (W .0) (x .size) (y .size) (W .1)) (by-parts-fits a b (neg (mul binary64 a b)) (x .size .real) (y .size .real))
     ∙ mul-add-is binary64 a b (neg (mul binary64 a b))

@@ -1,4 +1,4 @@
--- A binary64 value from 2 ^ -400 to 2 ^ 400 is A * 2 ^ i units with 2 ^ 52 ≤ A < 2 ^ 53 and 622 ≤ i ≤ 1422. So Dekker's error equals the fused one for all such a and b above zero.
+-- A binary64 value from 2 ^ -(k + 1) to 2 ^ 400 is A * 2 ^ i units with 2 ^ 52 ≤ A < 2 ^ 53 and 1021 - k ≤ i ≤ 1422. So Dekker's error equals the fused one for all such a and b above zero, where the two k are small enough.
 -- Assumes nothing.
 use mathlib.Core.Path.{_≡_, refl, sym, ap, _∙_, subst}
 use Prim.Native.Nat.{ℕ, zero, suc, _+_, _-_, _*_, _^_, _≤_, _<_}
@@ -11,7 +11,7 @@ use lib.Pow.{pow-add, pow-pos, pow-mono}
 use lib.Ieee.{Float, nan, inf, fin, binary64, up, down, size, neg, mul}
 use lib.Ieee.Digits.{size-lt, size-le, size-reaches}
 use lib.Ieee.Fits.{and-l, and-r, up-pos, down-pos}
-use Rattle.float.specs.ProductError.{most, least}
+use Rattle.float.specs.ProductError.{most}
 use Rattle.float.specs.Laws.Sign.{Alike}
 use Rattle.float.specs.Laws.Le.{plain}
 use Rattle.float.specs.Laws.Within.{Within, Beyond, held, shift}
@@ -20,12 +20,12 @@ use Rattle.float.specs.Laws.MulAdd.{by-parts}
 use Rattle.float.proofs.product_error.Dekker.{dekker}
 use Rattle.float.proofs.product_error.Equal.{positive-equal}
 
-pub record Normal (a : Float) : Type 0 where
+pub record Normal (k : ℕ) (a : Float) : Type 0 where
   pub A : ℕ
   pub i : ℕ
   pub lo : 2 ^ 52 ≤ A
   pub hi : A < 2 ^ 53
-  pub up : 622 ≤ i
+  pub up : 1022 ≤ i + suc k
   pub down : i ≤ 1422
   pub is : Is binary64 a A 0 i
 
@@ -53,11 +53,11 @@ high-units m u d v w s D e h =
     turn : m * v * d ≡ m * (v * d)
     turn = mul-assoc m v d
 
-pub normal : (a : Float) → T (held binary64 a) → T (plain a) → Within most a → Beyond least a → Normal a
-normal nan t p w b = absurd t
-normal (inf s) t p w b = absurd t
-normal (fin true m e) t p w b = absurd p
-normal (fin false m e) t p w b =
+pub normal : (k : ℕ) → suc k ≤ 1000 → (a : Float) → T (held binary64 a) → T (plain a) → Within most a → Beyond (fin false 1 (negsuc k)) a → Normal k a
+normal k short nan t p w b = absurd t
+normal k short (inf s) t p w b = absurd t
+normal k short (fin true m e) t p w b = absurd p
+normal k short (fin false m e) t p w b =
     let B1 = ltb m (2 ^ 53) in
     let C1 = leb (down e) (2 ^ 1074) in
     let D1 = ltb (m * up e) (2 ^ 1024 * down e) in
@@ -65,12 +65,13 @@ normal (fin false m e) t p w b =
     let sh = shift e 1074 (leb→le (down e) (2 ^ 1074) (and-l C1 D1 (and-r B1 (C1 && D1) t))) in
     let j = sh .0 in
     let z = size m in
-    let big : 2 ^ 1074 ≤ m * 2 ^ j * 2 ^ 400 = low-units m (up e) (down e) (2 ^ j) (2 ^ 1074) (2 ^ 400) (down-pos e) (sh .1) (le-trans (le-of-eq (sym (one-mul (down e)))) (b .size)) in
-    let big' : 2 ^ 674 ≤ m * 2 ^ j = le-of-mul-le-mul-right big (pow-pos 400) in
+    let big : 2 ^ 1074 ≤ m * 2 ^ j * 2 ^ suc k = low-units m (up e) (down e) (2 ^ j) (2 ^ 1074) (2 ^ suc k) (down-pos e) (sh .1) (le-trans (le-of-eq (sym (one-mul (down e)))) (b .size)) in
+    let whole-power : 1074 - suc k + suc k ≡ 1074 = omega arith in
+    let big' : 2 ^ (1074 - suc k) ≤ m * 2 ^ j = le-of-mul-le-mul-right (le-trans (le-of-eq (sym (pow-add 2 (1074 - suc k) (suc k)) ∙ ap (λ (x : ℕ). 2 ^ x) whole-power)) big) (pow-pos (suc k)) in
     let small : m * 2 ^ j ≤ 2 ^ 400 * 2 ^ 1074 = high-units m (up e) (down e) (2 ^ j) (2 ^ 1074) (2 ^ 400) (down-pos e) (sh .1) (le-trans (le-of-eq (sym (mul-one (m * up e)))) (w .size)) in
     let z53 : z ≤ 53 = size-le m 53 few in
-    let over : 674 < z + j = pow-back 674 (z + j) (lt-of-le-of-lt big' (lt-of-lt-of-le (mul-lt-mul-of-pos-right (size-lt m) (pow-pos j)) (le-of-eq (sym (pow-add 2 z j))))) in
-    let zp : 0 < z = some m j big' in
+    let over : 1074 - suc k < z + j = pow-back (1074 - suc k) (z + j) (lt-of-le-of-lt big' (lt-of-lt-of-le (mul-lt-mul-of-pos-right (size-lt m) (pow-pos j)) (le-of-eq (sym (pow-add 2 z j))))) in
+    let zp : 0 < z = some (1074 - suc k) m j big' in
     let reach : 2 ^ (z - 1) ≤ m = size-reaches m (z - 1) (omega arith) in
     let under : z - 1 + j ≤ 1474 = pow-back-le (z - 1 + j) 1474 (le-trans (le-of-eq (pow-add 2 (z - 1) j)) (le-trans (mul-le-mul-right (2 ^ j) reach) small)) in
     let i = j + z - 53 in
@@ -93,13 +94,13 @@ normal (fin false m e) t p w b =
     whole z k = omega arith
 
     -- m is not 0
-    some : (m j : ℕ) → 2 ^ 674 ≤ m * 2 ^ j → 0 < size m
-    some zero j h = absurd (lt-irrefl 0 (lt-of-lt-of-le (pow-pos 674) (le-trans h (le-of-eq (zero-mul (2 ^ j))))))
-    some (suc m) j h = lt-of-not-le (λ (g : size (suc m) ≤ 0). not-le-of-lt (lt-of-lt-of-le (size-lt (suc m)) (pow-mono g)) (native.Mathlib.Nat.zero-lt-suc m))
+    some : (q m j : ℕ) → 2 ^ q ≤ m * 2 ^ j → 0 < size m
+    some q zero j h = absurd (lt-irrefl 0 (lt-of-lt-of-le (pow-pos q) (le-trans h (le-of-eq (zero-mul (2 ^ j))))))
+    some q (suc m) j h = lt-of-not-le (λ (g : size (suc m) ≤ 0). not-le-of-lt (lt-of-lt-of-le (size-lt (suc m)) (pow-mono g)) (native.Mathlib.Nat.zero-lt-suc m))
 
 -- ---- for a and b above zero in the range
-pub in-range-equal : (a b : Float) → Normal a → Normal b → Alike (dekker a b) (by-parts binary64 a b (neg (mul binary64 a b)))
-in-range-equal a b x y =
+pub in-range-equal : {k l : ℕ} (a b : Float) → suc k + suc l ≤ 970 → Normal k a → Normal l b → Alike (dekker a b) (by-parts binary64 a b (neg (mul binary64 a b)))
+in-range-equal a b near x y =
     let l1 = x .up in
     let l2 = y .up in
     let u1 = x .down in

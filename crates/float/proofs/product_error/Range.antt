@@ -5,13 +5,13 @@ use mathlib.Core.Bool.{Bool, true, false, cond, false≢true}
 use Prim.Native.Nat.{ℕ, zero, suc, _+_, _*_, _≤_, _<_, zero-le}
 use native.Mathlib.Nat.{le-trans, le-of-eq, zero-mul, mul-one, add-zero, zero-add, lt-irrefl, lt-of-lt-of-le}
 use native.Mathlib.Omega.{arith}
-use lib.IntN.{ℤ, pos}
+use lib.IntN.{ℤ, pos, negsuc}
 use lib.Dec.{T}
 use borrow.Author.Tests.{ltb-true, ltb-false}
 use lib.Ieee.{Float, nan, inf, fin, binary64, up, down, neg, lt, le, eq, fits, ofBits}
 use lib.Ieee.Positive.{num, den}
 use Rattle.float.specs.Number.{zero-float}
-use Rattle.float.specs.ProductError.{most, least, sized, in-range}
+use Rattle.float.specs.ProductError.{most, sized, in-range}
 use Rattle.float.specs.Laws.Le.{Le, le→Le}
 use Rattle.float.specs.Laws.Within.{Within, Beyond}
 use Rattle.float.specs.Laws.Zero.{zero-bits, zero-of, no-up}
@@ -27,33 +27,37 @@ plain-le a b c d h = let p : 0 * b ≡ 0 = zero-mul b in let q : 0 * d ≡ 0 = z
 under : (m : ℕ) (e : ℤ) → le (fin false m e) most ≡ true → Within most (fin false m e)
 under m e h = record { real = tt; size = plain-le (num (fin false m e) * den most) (down e) (num most * down e) (den most) (le→Le (fin false m e) most tt tt (is (fin false m e) most h) .cross) }
 
-over : (m : ℕ) (e : ℤ) → le least (fin false m e) ≡ true → Beyond least (fin false m e)
-over m e h = record { real = tt; size = plain-le (num least * down e) (den least) (num (fin false m e) * den least) (down e) (le→Le least (fin false m e) tt tt (is least (fin false m e) h) .cross) }
+-- 2 ^ -(k + 1)
+abbrev low : ℕ → Float
+low k = fin false 1 (negsuc k)
+
+over : (k m : ℕ) (e : ℤ) → le (low k) (fin false m e) ≡ true → Beyond (low k) (fin false m e)
+over k m e h = record { real = tt; size = plain-le (num (low k) * down e) (den (low k)) (num (fin false m e) * den (low k)) (down e) (le→Le (low k) (fin false m e) tt tt (is (low k) (fin false m e) h) .cross) }
 
 none : (s : Bool) (m : ℕ) (e : ℤ) → m ≡ 0 → T (isZero (fin s m e))
 none s m e h = subst (λ (n : ℕ). T (isZero (fin s n e))) (sym h) tt
 
-abbrev Kind : Float → Type 0
-Kind x = Within most x × (T (isZero x) ⊎ Beyond least x)
+abbrev Kind : ℕ → Float → Type 0
+Kind k x = Within most x × (T (isZero x) ⊎ Beyond (low k) x)
 
-sized-is : (m : ℕ) (e : ℤ) → sized (fin false m e) ≡ true → Kind (fin false m e)
+sized-is : (k m : ℕ) (e : ℤ) → sized (low k) (fin false m e) ≡ true → Kind k (fin false m e)
 unfolding sized
-sized-is m e h = go (le (fin false m e) most) (le least (fin false m e)) refl refl h
+sized-is k m e h = go (le (fin false m e) most) (le (low k) (fin false m e)) refl refl h
   where
-    go : (a b : Bool) → le (fin false m e) most ≡ a → le least (fin false m e) ≡ b → cond a (cond b true (eq (fin false m e) zero-float)) false ≡ true → Kind (fin false m e)
+    go : (a b : Bool) → le (fin false m e) most ≡ a → le (low k) (fin false m e) ≡ b → cond a (cond b true (eq (fin false m e) zero-float)) false ≡ true → Kind k (fin false m e)
     go false b p q h = absurd (false≢true h)
-    go true true p q h = (under m e p, inr (over m e q))
+    go true true p q h = (under m e p, inr (over k m e q))
     go true false p q h = (under m e p, inl (none false m e (zero-of false m e (ap (eq (fin false m e)) zero-bits ∙ h))))
 
 -- minus a magnitude has the same size
-turned : (m : ℕ) (e : ℤ) → Kind (fin false m e) → Kind (fin true m e)
-turned m e h = (record { real = tt; size = h .0 .size }, side (h .1))
+turned : (k m : ℕ) (e : ℤ) → Kind k (fin false m e) → Kind k (fin true m e)
+turned k m e h = (record { real = tt; size = h .0 .size }, side (h .1))
   where
     zero-too : (m : ℕ) → T (isZero (fin false m e)) → T (isZero (fin true m e))
     zero-too zero t = tt
     zero-too (suc m) t = absurd t
 
-    side : T (isZero (fin false m e)) ⊎ Beyond least (fin false m e) → T (isZero (fin true m e)) ⊎ Beyond least (fin true m e)
+    side : T (isZero (fin false m e)) ⊎ Beyond (low k) (fin false m e) → T (isZero (fin true m e)) ⊎ Beyond (low k) (fin true m e)
     side (inl t) = inl (zero-too m t)
     side (inr b) = inr (record { real = tt; size = b .size })
 
@@ -72,35 +76,35 @@ minus-zero m e h = no-up m e (small (m * up e) (0 * 1 * down e) (ltb-false 0 (m 
     small : (a b : ℕ) → a * 1 + b ≤ 0 → a ≡ 0
     small a b l = omega arith
 
-kind : (x : Float) → in-range x ≡ true → Kind x
+kind : (k : ℕ) (x : Float) → in-range (low k) x ≡ true → Kind k x
 unfolding in-range
-kind nan h = absurd (false≢true (sym nothing ∙ h))
+kind k nan h = absurd (false≢true (sym nothing ∙ h))
   where
-    nothing : cond (lt nan zero-float) (sized (neg nan)) (sized nan) ≡ false
+    nothing : cond (lt nan zero-float) (sized (low k) (neg nan)) (sized (low k) nan) ≡ false
     nothing = unfold lt le sized neg eq in refl
-kind (inf true) h = absurd (false≢true (sym nothing ∙ h))
+kind k (inf true) h = absurd (false≢true (sym nothing ∙ h))
   where
-    nothing : cond (lt (inf true) zero-float) (sized (neg (inf true))) (sized (inf true)) ≡ false
+    nothing : cond (lt (inf true) zero-float) (sized (low k) (neg (inf true))) (sized (low k) (inf true)) ≡ false
     nothing = unfold lt le sized neg eq in refl
-kind (inf false) h = absurd (false≢true (sym nothing ∙ h))
+kind k (inf false) h = absurd (false≢true (sym nothing ∙ h))
   where
-    nothing : cond (lt (inf false) zero-float) (sized (neg (inf false))) (sized (inf false)) ≡ false
+    nothing : cond (lt (inf false) zero-float) (sized (low k) (neg (inf false))) (sized (low k) (inf false)) ≡ false
     nothing = unfold lt le sized neg eq in refl
-kind (fin true m e) h = go (lt (fin true m e) zero-float) refl h
+kind k (fin true m e) h = go (lt (fin true m e) zero-float) refl h
   where
     minus : neg (fin true m e) ≡ fin false m e
     minus = unfold neg in refl
 
-    go : (b : Bool) → lt (fin true m e) zero-float ≡ b → cond b (sized (neg (fin true m e))) (sized (fin true m e)) ≡ true → Kind (fin true m e)
-    go true p h = turned m e (sized-is m e (ap sized (sym minus) ∙ h))
+    go : (b : Bool) → lt (fin true m e) zero-float ≡ b → cond b (sized (low k) (neg (fin true m e))) (sized (low k) (fin true m e)) ≡ true → Kind k (fin true m e)
+    go true p h = turned k m e (sized-is k m e (ap (sized (low k)) (sym minus) ∙ h))
     go false p h =
         let z = minus-zero m e p in
         (record { real = tt; size = subst (λ (n : ℕ). n * up e * den most ≤ num most * down e) (sym z) (le-trans (le-of-eq (ap (λ (n : ℕ). n * den most) (zero-mul (up e)) ∙ zero-mul (den most))) zero-le) }, inl (none true m e z))
-kind (fin false m e) h = go (lt (fin false m e) zero-float) refl h
+kind k (fin false m e) h = go (lt (fin false m e) zero-float) refl h
   where
-    go : (b : Bool) → lt (fin false m e) zero-float ≡ b → cond b (sized (neg (fin false m e))) (sized (fin false m e)) ≡ true → Kind (fin false m e)
+    go : (b : Bool) → lt (fin false m e) zero-float ≡ b → cond b (sized (low k) (neg (fin false m e))) (sized (low k) (fin false m e)) ≡ true → Kind k (fin false m e)
     go true p h = absurd (below-zero m e p)
-    go false p h = sized-is m e h
+    go false p h = sized-is k m e h
 
-pub ranged : (x : Float) → T (fits binary64 x) → in-range x ≡ true → Ranged x
-ranged x t h = let k = kind x h in record { ok = t; size = k .0; kind = k .1 }
+pub ranged : (k : ℕ) → suc k ≤ 1000 → (x : Float) → T (fits binary64 x) → in-range (low k) x ≡ true → Ranged k x
+ranged k short x t h = let r = kind k x h in record { short = short; ok = t; size = r .0; kind = r .1 }

@@ -1,4 +1,4 @@
--- `float::product_error::halved_operand` meets its contract: the code's constant is 2 ^ 27 + 1. Assumes nothing.
+-- `float::product_error::halved_operand` meets its contract: the code's constants are 2 ^ 27 + 1 and 2 ^ -768. Assumes nothing.
 use mathlib.Core.Path.{_≡_, ap}
 use mathlib.Core.Bool.{Bool}
 use lib.Ieee.{ofBits}
@@ -8,12 +8,12 @@ use Rattle.float.specs.declared.product_error.Halves.{Halves}
 use Rattle.float.proofs.product_error.halved_operand.Statement.{statement}
 use Rattle.float.proofs.product_error.halved_operand.Tie as tie
 
-in-range-requires : tie.Need-in-range-requires
-in-range-requires c κs = search needs
+within-requires : tie.Need-within-requires
+within-requires c κs = search needs
 
 returns : tie.Need-returns
 unfolding halves ofBits
-returns c = let x = c .before .args .x in ap (λ (b : Bool). record { whole = x; high = high-half x; low = low-half x; fine = b }) (c .in-range .ensures)
+returns c = let x = c .before .args .x in ap (λ (b : Bool). record { whole = x; high = high-half x; low = low-half x; fine = b }) (c .within .ensures)
 
 pub halved-operand-spec : {M : Type 1} → statement M
-halved-operand-spec = tie.close (tie.spec in-range-requires returns)
+halved-operand-spec = tie.close (tie.spec within-requires returns)

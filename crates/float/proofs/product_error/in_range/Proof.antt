@@ -1,24 +1,20 @@
--- `float::product_error::in_range` meets its contract. Assumes nothing.
-use mathlib.Core.Path.{_≡_, sym, _∙_}
+-- `float::product_error::in_range` meets its contract: the code's constant is 2 ^ -200. Assumes nothing.
+use mathlib.Core.Path.{_≡_, refl, ap, _∙_}
+use lib.Ieee.{Float, binary64, ofBits}
 use borrow.Author.Needs.{needs}
-use Rattle.float.specs.ProductError.{in-range}
-use Rattle.float.specs.Laws.Zero.{zero-bits}
+use Rattle.float.specs.ProductError.{least, in-range}
 use Rattle.float.proofs.product_error.in_range.Statement.{statement}
 use Rattle.float.proofs.product_error.in_range.Tie as tie
 
-sized-requires : tie.Need-sized-requires
-sized-requires c κs = search needs
+least-is : ofBits binary64 0x3370_0000_0000_0000 ≡ least
+unfolding ofBits
+least-is = refl
+
+within-requires : tie.Need-within-requires
+within-requires c κs = search needs
 
 returns : tie.Need-returns
-unfolding in-range
-returns c = c .sized .ensures ∙ sym (simp (sym zero-bits, c .before .if1 .taken))
-
-sized-requires-2 : tie.Need-sized-requires-2
-sized-requires-2 c κs = search needs
-
-returns-2 : tie.Need-returns-2
-unfolding in-range
-returns-2 c = c .sized2 .ensures ∙ sym (simp (sym zero-bits, c .before .if1 .left))
+returns c = c .within .ensures ∙ ap (λ (l : Float). in-range l (c .before .args .x)) least-is
 
 pub in-range-spec : {M : Type 1} → statement M
-in-range-spec = tie.close (tie.spec sized-requires returns sized-requires-2 returns-2)
+in-range-spec = tie.close (tie.spec within-requires returns)

@@ -1,8 +1,8 @@
--- `float::product_error::sized` meets its contract: the code's constants are 2 ^ 400, 2 ^ -400 and 0. Assumes nothing.
+-- `float::product_error::sized` meets its contract: the code's constants are 2 ^ 400 and 0. Assumes nothing.
 use mathlib.Core.Path.{_≡_, refl, sym, _∙_}
 use lib.Ieee.{binary64, ofBits}
 use Rattle.float.specs.Number.{zero-float}
-use Rattle.float.specs.ProductError.{most, least, sized}
+use Rattle.float.specs.ProductError.{most, sized}
 use Rattle.float.specs.Laws.Zero.{zero-bits}
 use Rattle.float.proofs.product_error.sized.Statement.{statement}
 use Rattle.float.proofs.product_error.sized.Tie as tie
@@ -11,17 +11,13 @@ most-is : ofBits binary64 0x58f0_0000_0000_0000 ≡ most
 unfolding ofBits
 most-is = refl
 
-least-is : ofBits binary64 0x26f0_0000_0000_0000 ≡ least
-unfolding ofBits
-least-is = refl
-
 returns : tie.Need-returns
 unfolding sized
-returns c = sym (simp (sym most-is, sym least-is, c .before .if1 .taken, c .if2 .taken))
+returns c = sym (simp (sym most-is, c .before .if1 .taken, c .if2 .taken))
 
 returns-2 : tie.Need-returns-2
 unfolding sized
-returns-2 c = sym (simp (sym most-is, sym least-is, sym zero-bits, c .before .if1 .taken, c .if2 .left))
+returns-2 c = sym (simp (sym most-is, sym zero-bits, c .before .if1 .taken, c .if2 .left))
 
 returns-3 : tie.Need-returns-3
 unfolding sized
