@@ -1,4 +1,5 @@
 // Requests and sheets, document 01's module 7. specs/Lib.antt says which files define what.
+pub mod angles;
 pub mod bytes;
 pub mod check;
 pub mod fields;

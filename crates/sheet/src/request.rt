@@ -2,7 +2,7 @@
 // field zero.
 ghost use mathlib.Core.Path.{_≡_};
 ghost use mathlib.Core.Bool.{cond};
-ghost use Prim.Native.Nat.{_+_, _<_, _≤_};
+ghost use Prim.Native.Nat.{_+_, _%_, _<_, _≤_};
 ghost use lib.ListN.{length};
 ghost use lib.Seq.{sets};
 ghost use Rattle.sheet.specs.Bytes as Bytes;
@@ -212,15 +212,33 @@ fn kept(read: bool, b: u8) -> u8
     0
 }
 
+// Whether byte i is read, where `before` says it of the byte before: from the rotation on, the eight
+// bytes of a field are read or not together.
+fn read_on(s: Shape, i: usize, before: bool) -> bool
+    requires { ⌜ i < Request.request-size ⌝ }
+    requires { ⌜ (16 < i → 0 < i % 8 → before ≡ Request.byte-read s i) ⌝ }
+    ensures { λ r. ⌜ r ≡ Request.byte-read s i ⌝ }
+{
+    if i < ROTATION {
+        return byte_read(s, i);
+    }
+    if i % 8 == 0 {
+        return byte_read(s, i);
+    }
+    before
+}
+
 // The request with every unread field zero, written from `at` on.
 pub(crate) fn put_blank(out: &mut [u8], at: usize, request: &[u8])
     requires { ⌜ (length (now request) ≡ Request.request-size) × (at + Request.request-size ≤ length (now out)) ⌝ }
     ensures { λ _. ⌜ now (out .exit) ≡ sets (now (out .entry)) at (Request.blank (now (request .entry))) ⌝ }
 {
     let s = shape_of(request);
+    let mut read = true;
     let mut i = 0usize;
     while i < REQUEST {
-        out[at + i] = kept(byte_read(s, i), request[i]);
+        read = read_on(s, i, read);
+        out[at + i] = kept(read, request[i]);
         i += 1;
     }
 }

@@ -13,6 +13,7 @@ ghost use Rattle.sheet.specs.Refusals as Refusals;
 ghost use Rattle.sheet.specs.Sheet as Sheet;
 ghost use Rattle.sheet.specs.Sampling as Sampling;
 ghost use Rattle.sheet.specs.Judge as Judge;
+use crate::angles::put_lists;
 use crate::bytes::clear;
 use crate::bytes::put_float;
 use crate::judge::is_ready;
@@ -47,8 +48,8 @@ pub enum Sampled {
     Output,
 }
 
-// The angles, one after the other, from the start of the output on.
-fn put_angles(output: &mut [u8], work: &[f64], plan: Plan)
+// The angles as `next` gives them, from the start of the output on.
+fn put_stream(output: &mut [u8], work: &[f64], plan: Plan)
     requires { ⌜ Ready plan (now work) ⌝ }
     requires { ⌜ 8 * length (to-come plan (now work) start) ≤ length (now output) ⌝ }
     ensures { λ _. ⌜ now (output .exit) ≡ sets (now (output .entry)) 0 (Bytes.floats-bytes (to-come plan (now (work .entry)) start)) ⌝ }
@@ -68,6 +69,19 @@ fn put_angles(output: &mut [u8], work: &[f64], plan: Plan)
             }
         }
     }
+}
+
+// The angles, one after the other, from the start of the output on.
+fn put_angles(output: &mut [u8], work: &[f64], plan: Plan)
+    requires { ⌜ Ready plan (now work) ⌝ }
+    requires { ⌜ 8 * length (to-come plan (now work) start) ≤ length (now output) ⌝ }
+    ensures { λ _. ⌜ now (output .exit) ≡ sets (now (output .entry)) 0 (Bytes.floats-bytes (to-come plan (now (work .entry)) start)) ⌝ }
+{
+    if let Plan::One(n) = plan {
+        put_lists(output, work, n);
+        return;
+    }
+    put_stream(output, work, plan);
 }
 
 // The sheet: the n angles, the blanked request, the trailer.

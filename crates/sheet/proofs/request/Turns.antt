@@ -1,9 +1,11 @@
 -- The blanked request byte by byte: what the loops that write it and compare it need. Assumes nothing.
-use Prim.Native.Nat.{ℕ, suc, _+_, _≤_, _<_}
+use Prim.Native.Nat.{ℕ, suc, _+_, _-_, _/_, _%_, _≤_, _<_}
 use native.Mathlib.Omega.{arith}
-use mathlib.Core.Path.{_≡_}
+use mathlib.Core.Path.{_≡_, refl, sym, _∙_}
 use mathlib.Core.List.{List, _∷_}
-use mathlib.Core.Bool.{true, false, cond}
+use mathlib.Core.Bool.{Bool, true, false, cond}
+use lib.Dec.{ltb}
+use borrow.Author.Tests.{ltb-true, ltb-false, lt-ltb, le-ltb}
 use lib.ListN.{length, getD, drop, set, drop-of-length-le}
 use lib.Seq.{sets, drop-cons}
 use Rattle.sheet.specs.declared.request.Shape.{Shape}
@@ -43,3 +45,35 @@ module _ (s : Shape) (r : List ℕ) (i : ℕ) (l : i < length r) where
 -- no turn is left
 pub blank-end : (s : Shape) (r : List ℕ) (i : ℕ) → length r ≤ i → true ≡ same-bytes (blank-from s i (drop i r)) (drop i r)
 blank-end s r i h = rw (drop-of-length-le r h, blank-nil) same-nil
+
+-- ---- a field's bytes are read together
+
+test : (i t : ℕ) → t % 8 ≡ 0 → 0 < (i + 1) % 8 → ltb (i + 1) t ≡ ltb i t
+test i t e k = go (ltb i t) refl
+  where
+    go : (b : Bool) → ltb i t ≡ b → ltb (i + 1) t ≡ ltb i t
+    go true q = lt-ltb (i + 1) t (omega (arith, ltb-true i t q)) ∙ sym q
+    go false q = le-ltb (i + 1) t (omega (arith, ltb-false i t q)) ∙ sym q
+
+joint : (i t : ℕ) → t % 8 ≡ 0 → 0 < (i + 1) % 8 → (i + 1 - t) / 8 ≡ (i - t) / 8
+joint i t e k = omega arith
+
+pub same-field : (s : Shape) (i : ℕ) → 16 ≤ i → 0 < (i + 1) % 8 → byte-read s i ≡ byte-read s (i + 1)
+unfolding byte-read
+same-field s i h k =
+    rw (
+      le-ltb i 4 (omega arith),
+      le-ltb (i + 1) 4 (omega arith),
+      le-ltb i 10 (omega arith),
+      le-ltb (i + 1) 10 (omega arith),
+      test i 48 refl k,
+      test i 72 refl k,
+      test i 120 refl k,
+      test i 168 refl k,
+      test i 216 refl k,
+      joint i 48 refl k,
+      joint i 72 refl k,
+      joint i 120 refl k,
+      joint i 168 refl k,
+      joint i 216 refl k,
+    )

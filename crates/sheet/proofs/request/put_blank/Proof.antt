@@ -1,5 +1,5 @@
 -- `sheet::request::put_blank` meets its contract. The invariant: what is still to be stored, stored now, gives what is asked. Assumes nothing.
-use Prim.Native.Nat.{_≤_, _<_, _+_, _-_}
+use Prim.Native.Nat.{_≤_, _<_, _+_, _-_, _%_}
 use native.Mathlib.Omega.{arith}
 use native.Mathlib.Nat.{add-zero}
 use mathlib.Core.Path.{_≡_, refl, ap, _∙_}
@@ -8,26 +8,27 @@ use lib.ListN.{length, getD, drop, length-set}
 use lib.Seq.{sets}
 use borrow.Author.Needs.{needs}
 use Rattle.sheet.specs.declared.request.Shape.{Shape}
-use Rattle.sheet.specs.Request.{blank-from}
-use Rattle.sheet.proofs.request.Turns.{put-turn, put-end}
+use Rattle.sheet.specs.Request.{byte-read, blank-from}
+use Rattle.sheet.proofs.request.Turns.{put-turn, put-end, same-field}
 use Rattle.sheet.proofs.request.put_blank.Statement.{statement}
 use Rattle.sheet.proofs.request.put_blank.Tie as tie
 
 abbrev Inv-loop : tie.InvT-loop
-Inv-loop out₀ at request s i₀ out i =
+Inv-loop out₀ at request s read₀ i₀ out read i =
     (i ≤ 264) × (length out ≡ length out₀) × (sets out (at + i) (blank-from s i (drop i request)) ≡ sets out₀ at (blank-from s 0 request))
+    × (16 < i → 0 < i % 8 → read ≡ byte-read s i)
 
 abbrev μ-loop : tie.MeasureT-loop
-μ-loop out₀ at request s i₀ out i = 264 - i
+μ-loop out₀ at request s read₀ i₀ out read i = 264 - i
 
 shape-of-requires : tie.Need-shape-of-requires Inv-loop μ-loop
 shape-of-requires c κs = search needs
 
 loop-holds : tie.Need-loop-holds Inv-loop μ-loop
-loop-holds c = (omega arith, refl, rw add-zero)
+loop-holds c = (omega arith, refl, rw add-zero, λ h k. absurd (omega (arith, h)))
 
-byte-read-requires : tie.Need-byte-read-requires Inv-loop μ-loop
-byte-read-requires c κs = omega arith
+read-on-requires : tie.Need-read-on-requires Inv-loop μ-loop
+read-on-requires c κs = (omega arith, c .before .loop .inv .3)
 
 shared-slice-read-kept : tie.Need-shared-slice-read-kept Inv-loop μ-loop
 shared-slice-read-kept c = omega arith
@@ -55,8 +56,9 @@ loop-again c =
       omega arith,
       simp length-set (b .loop .inv .1),
       put-turn (b .loop .out) (a .request .now) (a .at) (b .loop .i) (c .kept .result) (b .before .shape-of .result) k
-          (c .kept .ensures ∙ ap (λ (t : Bool). cond t (getD (a .request .now) (b .loop .i) 0) 0) (c .before .before .byte-read .ensures))
+          (c .kept .ensures ∙ ap (λ (t : Bool). cond t (getD (a .request .now) (b .loop .i) 0) 0) (c .before .before .read-on .ensures))
           ∙ b .loop .inv .2,
+      λ h m. c .before .before .read-on .ensures ∙ same-field (b .before .shape-of .result) (b .loop .i) (omega (arith, h)) m,
     )
 
 same-length : tie.Need-same-length Inv-loop μ-loop
@@ -78,7 +80,7 @@ put-blank-spec =
     μ-loop
     shape-of-requires
     loop-holds
-    byte-read-requires
+    read-on-requires
     shared-slice-read-kept
     kept-requires
     add-out

@@ -1,121 +1,42 @@
--- `sheet::sample::put_angles` meets its contract. The invariant: what is still to come, stored now, gives what is asked. The measure is what is still to come. Assumes nothing.
-use Prim.Native.Nat.{ℕ, _+_, _*_, _≤_}
-use native.Mathlib.Omega.{arith}
-use mathlib.Core.Path.{_≡_, refl, ap, subst, _∙_}
-use mathlib.Core.List.{List, [], _∷_}
+-- `sheet::sample::put_angles` meets its contract: of one free joint by its lists, else as they come. Assumes nothing.
+use Prim.Native.Nat.{_*_, _≤_}
+use mathlib.Core.Path.{sym, ap, subst, _∙_}
 use lib.ListN.{length}
 use lib.Seq.{sets}
-use lib.Ieee.{Float}
 use borrow.Author.Needs.{needs}
 use Rattle.sampling.specs.Stream.{start}
-use Rattle.sampling.specs.Plan.{to-come, Gives}
-use Rattle.sampling.specs.declared.stream.Cursor.{Cursor}
-use Rattle.sampling.specs.declared.stream.Step.{Step}
+use Rattle.sampling.specs.Plan.{to-come, Ready}
+use Rattle.sampling.specs.declared.plan.Plan.{Plan}
 use Rattle.sheet.specs.Bytes.{floats-bytes}
-use Rattle.sheet.specs.Laws.Sampling.{floats-turn, floats-end}
 use Rattle.sheet.proofs.sample.put_angles.Statement.{statement}
 use Rattle.sheet.proofs.sample.put_angles.Tie as tie
 
-abbrev Inv-loop : tie.InvT-loop
-Inv-loop output₀ work plan c₀ at₀ output c at =
-    (length output ≡ length output₀) × (at + 8 * length (to-come plan work c) ≤ length output) × (sets output at (floats-bytes (to-come plan work c)) ≡ sets output₀ 0 (floats-bytes (to-come plan work start)))
+enum-known-plan : tie.Need-enum-known-plan
+enum-known-plan c = search needs
 
-abbrev μ-loop : tie.MeasureT-loop
-μ-loop output₀ work plan c₀ at₀ output c at = length (to-come plan work c)
+put-lists-requires : tie.Need-put-lists-requires
+put-lists-requires c κs =
+    let s = c .before .before .before .before .before .before in
+    let a = s .args in
+    let e = c .before .before .plan .given .1 in
+    (subst (λ (p : Plan). Ready p (a .work .now)) e (s .pre .0), subst (λ (p : Plan). 8 * length (to-come p (a .work .now) start) ≤ length (a .output .now)) e (s .pre .1))
 
--- after a value came
-module _ (c : tie.After-s Inv-loop μ-loop) where
-  abbrev first : tie.Start Inv-loop μ-loop
-  first = c .before .before .before .before .before .before .before
+same-length : tie.Need-same-length
+same-length c = search needs
 
-  abbrev left : Cursor → List Float
-  left = to-come (first .args .plan) (first .args .work .now)
-
-  abbrev at : tie.At-loop Inv-loop μ-loop
-  at = c .before .before .before
-
-  abbrev y : Float
-  y = c .s .given .0 .0
-
-  came : left (at .loop .c) ≡ y ∷ left (c .s .given .0 .1 .0)
-  came = subst (λ (s : Step). Gives (left (at .loop .c)) left s) (c .s .given .1) (c .before .before .next .ensures)
-
-start-requires : tie.Need-start-requires Inv-loop μ-loop
-start-requires c κs = tt
-
-loop-holds : tie.Need-loop-holds Inv-loop μ-loop
-loop-holds c =
-    let b = c .before .before .before in
-    let p = b .args in
-    let e = c .start .ensures in
-    (refl, omega (arith, ap (λ (z : Cursor). length (to-come (p .plan) (p .work .now) z)) e, b .pre .1), ap (λ (z : Cursor). sets (p .output .now) 0 (floats-bytes (to-come (p .plan) (p .work .now) z))) e)
-
-next-requires : tie.Need-next-requires Inv-loop μ-loop
-next-requires c κs = c .before .before .before .before .pre .0
-
-enum-told : tie.Need-enum-told Inv-loop μ-loop
-enum-told c = search needs
-
-same-length : tie.Need-same-length Inv-loop μ-loop
-same-length c = c .before .before .before .loop .inv .0
-
-returns : tie.Need-returns Inv-loop μ-loop
+returns : tie.Need-returns
 returns c =
-    let l = c .before .before .before .loop in
-    let p = c .before .before .before .before .before .before .before .args in
-    let left : Cursor → List Float = to-come (p .plan) (p .work .now) in
-    let e : left (l .c) ≡ [] = subst (λ (s : Step). Gives (left (l .c)) left s) (c .enum-told .given .1) (c .before .before .next .ensures) in
-    floats-end (l .output) (l .at) (left (l .c)) e ∙ l .inv .2
+    let a = c .before .before .before .before .before .before .before .before .before .args in
+    c .before .before .put-lists .ensures ∙ ap (λ (p : Plan). sets (a .output .now) 0 (floats-bytes (to-come p (a .work .now) start))) (sym (c .before .before .before .before .before .plan .given .1))
 
-enum-known-s : tie.Need-enum-known-s Inv-loop μ-loop
-enum-known-s c = search needs
+put-stream-requires : tie.Need-put-stream-requires
+put-stream-requires c κs = search needs
 
-put-float-requires : tie.Need-put-float-requires Inv-loop μ-loop
-put-float-requires c κs =
-    let v = c .before .before in
-    let k = ap length (came v) in
-    let i = at v .loop .inv .1 in
-    omega arith
+same-length-2 : tie.Need-same-length-2
+same-length-2 c = search needs
 
-add-at : tie.Need-add-at Inv-loop μ-loop
-add-at c =
-    let v = c .before .before .before .before .before in
-    let k = ap length (came v) in
-    let i = at v .loop .inv .1 in
-    omega (arith, at v .loop .inv .0, first v .good)
-
-loop-less : tie.Need-loop-less Inv-loop μ-loop
-loop-less c =
-    let v = c .before .before .before .before .before in
-    let k = ap length (came v) in
-    omega arith
-
-loop-again : tie.Need-loop-again Inv-loop μ-loop
-loop-again c =
-    let v = c .before .before .before .before .before in
-    let k = ap length (came v) in
-    let l = at v .loop in
-    let i = l .inv .1 in
-    let n = c .before .before .put-float .kept .0 in (
-      n ∙ l .inv .0,
-      omega (arith, n),
-      ap (λ (o : List ℕ). sets o (l .at + 8) (floats-bytes (left v (v .s .given .0 .1 .0)))) (c .before .before .put-float .ensures) ∙ floats-turn (l .output) (l .at) (y v) (left v (l .c)) _ (came v) ∙ l .inv .2,
-    )
+returns-2 : tie.Need-returns-2
+returns-2 c = c .before .before .put-stream .ensures
 
 pub put-angles-spec : {M : Type 1} → statement M
-put-angles-spec =
-    tie.close
-    (tie.spec
-    Inv-loop
-    μ-loop
-    start-requires
-    loop-holds
-    next-requires
-    enum-told
-    same-length
-    returns
-    enum-known-s
-    put-float-requires
-    add-at
-    loop-less
-    loop-again)
+put-angles-spec = tie.close (tie.spec enum-known-plan put-lists-requires same-length returns put-stream-requires same-length-2 returns-2)
