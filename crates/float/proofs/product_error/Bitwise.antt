@@ -168,7 +168,7 @@ minus-sgn (fin s (suc m) e) y p i P h k = go y k (Is-plus (fin s (suc m) e) p i 
     go (fin r zero g) k z = absurd (subst tell k tt)
     go (fin r (suc n) g) k z = ap negative k ∙ ap not z
 
--- ---- the operands: zero, or from 2 ^ -400 to 2 ^ 400
+-- ---- the operands: zero, or from 2 ^ -(k + 1) to 2 ^ 400
 abbrev pub isZero : Float → Bool
 isZero nan = false
 isZero (inf s) = false
