@@ -9,10 +9,11 @@ use lib.Pow.{pow-pos}
 use lib.Ieee.{nearest}
 use lib.Ieee.Nearest.{closest}
 use Rattle.float.specs.Jam.{jam}
-use Rattle.float.proofs.Compare.{Cmp, cmp, cmp-is}
+use Rattle.float.specs.Laws.Near.{Cmp, cmp}
+use Rattle.float.proofs.Compare.{cmp-is}
 
 -- `closest` from a whole part q and a rest r
-pub closest-at : (a u q r : ℕ) → a ≡ q * u + r → r < u → closest a u ≡ nearest q (compare (r * 2) u)
+closest-at : (a u q r : ℕ) → a ≡ q * u + r → r < u → closest a u ≡ nearest q (compare (r * 2) u)
 closest-at a u q r e h =
     ap (λ (x : ℕ). nearest (x / u) (compare (x % u * 2) u)) e
     ∙ ap (λ (x : ℕ). nearest x (compare ((q * u + r) % u * 2) u)) (digits-div q h)
@@ -49,7 +50,7 @@ same-order t h p b P = go (compare t h) (cmp t h)
     go Ordering·gt l = both Ordering·gt (above l)
 
 -- a in units of b * (2 * h), and a in units of b with what is below cut to whether it is zero, in units of 2 * h
-pub closest-cut : (a b h : ℕ) → 0 < b → 0 < h → closest a (b * (2 * h)) ≡ closest (2 * (a / b) + min 1 (a % b)) (2 * (2 * h))
+closest-cut : (a b h : ℕ) → 0 < b → 0 < h → closest a (b * (2 * h)) ≡ closest (2 * (a / b) + min 1 (a % b)) (2 * (2 * h))
 closest-cut a b h B H =
     let w = a / b in
     let p = a % b in

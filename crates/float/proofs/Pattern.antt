@@ -13,8 +13,8 @@ use lib.Ieee.Fits.{down-pos, odd-fits, inf-fits, nearest-le}
 use lib.Ieee.Exact.{HasValue, odd-sign}
 use lib.Ieee.Nearest.{closest}
 use lib.Ieee.Bits.{ofBits-toBits, nanBits-above}
-use Rattle.float.proofs.Compare.{Cmp, cmp}
 use Rattle.float.proofs.Rounded.{size-is}
+use Rattle.float.specs.Laws.Near.{Cmp, cmp}
 
 -- the sign's weight
 abbrev pub sign : Bool → ℕ

@@ -1,22 +1,16 @@
 -- A finite binary64's sign, digits and place, read from its bit pattern. Assumes nothing.
 use mathlib.Core.Path.{_≡_, refl, sym, ap, _∙_, subst}
-use mathlib.Core.Bool.{Bool, true, false, not, cond}
+use mathlib.Core.Bool.{Bool, true, false, cond}
 use Prim.Native.Nat.{ℕ, zero, suc, _+_, _*_, _/_, _%_, _^_, _≤_, _<_}
 use native.Mathlib.Nat.{mod-lt, add-comm, le-add-left, lt-irrefl}
 use native.Mathlib.Omega.{arith}
 use lib.Dec.{T, leb, eqb, eqb-refl}
 use lib.Pow.{pow-pos, field}
-use lib.Ieee.{Float, nan, inf, fin, binary64, odd, fits, isNan, ofFields, ofBits, toBits}
+use lib.Ieee.{Float, nan, inf, binary64, odd, fits, ofFields, ofBits, toBits}
 use lib.Ieee.Exact.{HasValue, odd-sign}
 use lib.Ieee.Bits.{ofBits-toBits}
 use lib.Ieee.Scale.{finite}
 use Rattle.float.specs.Parts.{Splits}
-
-pub finite-no-nan : (x : Float) → T (finite x) → T (not (isNan x))
-unfolding isNan
-finite-no-nan nan t = absurd t
-finite-no-nan (inf s) t = absurd t
-finite-no-nan (fin s m e) t = tt
 
 -- the pattern b of x, read as its fields
 as-fields : (x : Float) (b : ℕ) → T (fits binary64 x) → b ≡ toBits binary64 x → ofFields binary64 (leb (2 ^ 63) b) (b / 2 ^ 52 % 2 ^ 11) (b % 2 ^ 52) ≡ x

@@ -3,21 +3,19 @@
 use mathlib.Core.Path.{_≡_, sym, ap, _∙_, subst}
 use mathlib.Core.Bool.{Bool}
 use Prim.Native.Nat.{ℕ, zero, suc, _+_, _-_, _*_, _/_, _%_, _^_, _≤_, _<_, min}
-use native.Mathlib.Nat.{le-trans, le-of-eq, lt-of-lt-of-le, lt-of-not-le, not-le-of-lt, mod-lt, div-add-mod', mul-le-mul-right, mul-lt-mul-of-pos-right, mul-pos, mul-assoc, mul-comm, mul-left-comm, zero-lt-suc, div-lt-iff-lt-mul, le-div-iff-mul-le}
+use native.Mathlib.Nat.{le-trans, le-of-eq, lt-of-lt-of-le, mod-lt, div-add-mod', mul-le-mul-right, mul-lt-mul-of-pos-right, mul-pos, mul-assoc, mul-comm, mul-left-comm, zero-lt-suc, div-lt-iff-lt-mul, le-div-iff-mul-le}
 use native.Mathlib.Omega.{arith}
-use lib.Pow.{pow-pos, pow-add, pow-mono}
+use lib.Pow.{pow-pos, pow-add}
 use lib.Ieee.{binary64, size, units, round}
-use lib.Ieee.Digits.{size-lt, size-le}
+use lib.Ieee.Digits.{size-le}
 use lib.Ieee.Fits.{round-is}
 use lib.Ieee.Nearest.{closest, closest-same}
 use lib.Ieee.Order.{drop}
 use Rattle.float.specs.Jam.{jam}
+use Rattle.float.specs.Laws.Near.{size-gt}
 use Rattle.float.proofs.Cut.{closest-jam}
 
 -- ---- how many digits are dropped
-
-size-gt : (n j : ℕ) → 2 ^ j ≤ n → j < size n
-size-gt n j h = lt-of-not-le (λ (g : size n ≤ j). not-le-of-lt (lt-of-lt-of-le (size-lt n) (pow-mono g)) h)
 
 -- n has k digits more than p, or no more than p where k is 0
 pub size-is : (p n k : ℕ) → n < 2 ^ suc p * 2 ^ k → (0 < k → 2 ^ p * 2 ^ k ≤ n) → size n - suc p ≡ k
@@ -27,7 +25,7 @@ size-is p n k a b = go k (size-le n (suc p + k) (lt-of-lt-of-le a (le-of-eq (sym
     go zero x y = omega arith
     go (suc k) x y = let z : p + suc k < size n = y (zero-lt-suc k) in omega arith
 
-pub drop-is : (p n den k : ℕ) → 0 < den → n < 2 ^ suc p * (den * 2 ^ k) → (0 < k → 2 ^ p * (den * 2 ^ k) ≤ n) → drop (suc p) n den ≡ k
+drop-is : (p n den k : ℕ) → 0 < den → n < 2 ^ suc p * (den * 2 ^ k) → (0 < k → 2 ^ p * (den * 2 ^ k) ≤ n) → drop (suc p) n den ≡ k
 drop-is p n den k D a b =
     size-is p (n / den) k
     (div-lt-iff-lt-mul D .1 (lt-of-lt-of-le a (le-of-eq (turn (2 ^ suc p)))))
@@ -37,7 +35,7 @@ drop-is p n den k D a b =
     turn x = simp (mul-assoc, mul-comm, mul-left-comm)
 
 -- `round` at a k that is known to be the number of digits dropped
-pub round-at : (s : Bool) (num den k : ℕ) → 0 < den → num * 2 ^ 1074 < 2 ^ 53 * (den * 2 ^ k) → (0 < k → 2 ^ 52 * (den * 2 ^ k) ≤ num * 2 ^ 1074)
+round-at : (s : Bool) (num den k : ℕ) → 0 < den → num * 2 ^ 1074 < 2 ^ 53 * (den * 2 ^ k) → (0 < k → 2 ^ 52 * (den * 2 ^ k) ≤ num * 2 ^ 1074)
     → round binary64 s num den ≡ units binary64 s (closest (num * 2 ^ 1074) (den * 2 ^ k)) k
 round-at s num den k D a b =
     round-is binary64 s num den
@@ -69,7 +67,7 @@ module _ (n d g u w : ℕ) (U : u ≡ g * (2 ^ suc d * 2 ^ 10)) (G : 0 < g) (W :
       half : (q r w : ℕ) → w ≡ 2 * q + min 1 r → 2 ^ 63 ≤ w → 2 ^ 62 ≤ q
       half q r w e h = omega arith
 
-  pub scaled-upper : w < 2 ^ 64 → n * g < 2 ^ 53 * u
+  scaled-upper : w < 2 ^ 64 → n * g < 2 ^ 53 * u
   scaled-upper h =
       lt-of-lt-of-le (mul-lt-mul-of-pos-right (upper h) G)
       (le-of-eq (ap (λ (x : ℕ). x * g) (mul-comm (2 ^ 63) b) ∙ turn ∙ ap (λ (x : ℕ). 2 ^ 53 * x) (sym U)))
@@ -77,13 +75,13 @@ module _ (n d g u w : ℕ) (U : u ≡ g * (2 ^ suc d * 2 ^ 10)) (G : 0 < g) (W :
       turn : b * 2 ^ 63 * g ≡ 2 ^ 53 * (g * (b * 2 ^ 10))
       turn = omega arith
 
-  pub scaled-lower : 2 ^ 63 ≤ w → 2 ^ 52 * u ≤ n * g
+  scaled-lower : 2 ^ 63 ≤ w → 2 ^ 52 * u ≤ n * g
   scaled-lower h = le-trans (le-of-eq (ap (λ (x : ℕ). 2 ^ 52 * x) U ∙ turn)) (mul-le-mul-right g (lower h))
     where
       turn : 2 ^ 52 * (g * (b * 2 ^ 10)) ≡ 2 ^ 62 * b * g
       turn = omega arith
 
-  pub scaled-closest : closest (n * g) u ≡ closest w (2 ^ 11)
+  scaled-closest : closest (n * g) u ≡ closest w (2 ^ 11)
   scaled-closest =
       closest-same (n * g) u n (b * 2 ^ 10) (subst (λ (x : ℕ). 0 < x) (sym U) (mul-pos G (mul-pos (pow-pos (suc d)) (pow-pos 10)))) (mul-pos (pow-pos (suc d)) (pow-pos 10))
       (mul-assoc n g (b * 2 ^ 10) ∙ ap (λ (x : ℕ). n * x) (sym U))

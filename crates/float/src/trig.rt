@@ -3,7 +3,6 @@ ghost use mathlib.Core.Path.{_≡_};
 ghost use Rattle.float.specs.Trig as Trig;
 use crate::number::abs;
 use crate::number::floor;
-use crate::number::is_sign_positive;
 use crate::sqrt::sqrt;
 
 pub struct SinCos {

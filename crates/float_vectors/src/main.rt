@@ -25,7 +25,6 @@ use crate::sample::line;
 use libc::STDIN_FILENO;
 use text::hex::word;
 use text::report::Tally;
-ghost use mathlib.Core.Path.{_≡_};
 ghost use Prim.Native.Nat.{_+_, _*_, _≤_};
 ghost use lib.ListN.{length};
 
@@ -90,24 +89,19 @@ fn counted(s: &[u8], letter: u8) -> Tally {
         }
         at += 17 * n + 2;
     }
-    Tally { samples, differing }
-}
-
-// The bytes from the first line on that is no sample.
-fn unread(s: &[u8]) -> usize {
-    let mut at = 0usize;
-    while at < s.len() {
-        let n = line(s, at);
-        if n < 1 {
-            return s.len() - at;
-        }
-        at += 17 * n + 2;
+    let unread = s.len() - at;
+    Tally {
+        samples,
+        differing,
+        unread,
     }
-    0
 }
 
-fn report(s: &[u8], letter: u8, name: &[u8]) {
-    text::report::samples(name, counted(s, letter));
+// Prints the line of a letter; the bytes from the first line on that is no sample.
+fn report(s: &[u8], letter: u8, name: &[u8]) -> usize {
+    let t = counted(s, letter);
+    text::report::samples(name, t);
+    t.unread
 }
 
 fn report_floor(s: &[u8]) {
@@ -126,7 +120,7 @@ fn report_floor(s: &[u8]) {
     report(s, b'E', b"product_error");
 }
 
-fn report_angles(s: &[u8]) {
+fn report_angles(s: &[u8]) -> usize {
     report(s, b's', b"sin");
     report(s, b'c', b"cos");
     report(s, b't', b"tan");
@@ -134,24 +128,17 @@ fn report_angles(s: &[u8]) {
     report(s, b'a', b"atan");
     report(s, b'q', b"atan2");
     report(s, b'o', b"acos");
-    report(s, b'i', b"asin");
+    report(s, b'i', b"asin")
 }
 
 fn replay(s: &[u8]) {
     report_floor(s);
-    report_angles(s);
-    text::report::unread(unread(s));
-}
-
-// Room for the text, 2 MiB.
-fn room() -> [u8; 2097152]
-    ensures { λ r. ⌜ 2097152 ≡ length r ⌝ }
-{
-    [0; 2097152]
+    let rest = report_angles(s);
+    text::report::unread(rest);
 }
 
 fn main() {
-    let mut text = room();
+    let mut text = text::lines::room();
     let n = io::read_full(STDIN_FILENO, &mut text);
     replay(&text[..n]);
 }

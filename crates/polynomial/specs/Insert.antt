@@ -15,17 +15,13 @@ use Rattle.polynomial.specs.declared.cuts.Put.the-variants.{Count, Full}
 unfoldable pub passed : Float → Float → Bool
 passed v w = not (total-le v w || eq v w)
 
-abbrev pub pickPut : Bool → Put → Put → Put
-pickPut true a b = a
-pickPut false a b = b
-
 -- the list with v in it
 abbrev pub grown : List Float → ℕ → Float → List Float
 grown w n v = put v (take n w)
 
 -- the list's new length, or Full where w has too few places for it
 abbrev pub putAnswer : List Float → ℕ → Float → Put
-putAnswer w n v = pickPut (leb (length (grown w n v)) (length w)) (Count (length (grown w n v))) Full
+putAnswer w n v = cond (leb (length (grown w n v)) (length w)) (Count (length (grown w n v))) Full
 
 -- w with the new list in front, or w itself
 abbrev pub putRoom : List Float → ℕ → Float → List Float

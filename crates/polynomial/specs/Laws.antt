@@ -1,9 +1,9 @@
 -- Laws of the root finder's definitions, for upper crates to cite.
--- Lists: `Cuts` (insertion is adding one more element; the order of arrival does not matter), `Placed` and `Held` (such lists in lent slices), `Lists`.
+-- Lists: `Cuts` (insertion is adding one more element; the order of arrival does not matter), `Placed` and `Held` (such lists in lent slices), `Lists` (what holds of every element; loops that fill and move).
 -- Roots: `Halving` (a bisection ends inside its interval; more turns change nothing), `Degree` (any count as large as the number of coefficients gives the same roots),
 -- `Enclosed` (roots and partition points lie between the bounds and increase strictly; how many there are), `Bounds` (bounds that hold can be halved).
 -- Angles: `Wrapped` (a wrapped angle lies within P and is never -0.0).
--- Curves: `Norm` (how many roots a squared norm has).
+-- Curves: `Inner` (what an inner call of the root finder says, by its answer), `Norm` (how many roots a squared norm has).
 pub mod Cuts
 pub mod Placed
 pub mod Held
@@ -13,4 +13,5 @@ pub mod Degree
 pub mod Enclosed
 pub mod Wrapped
 pub mod Bounds
+pub mod Inner
 pub mod Norm

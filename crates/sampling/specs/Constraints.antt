@@ -1,14 +1,11 @@
 -- The centre and the tolerance of a joint's limits: `compute_centers` of the Rust, for one joint (01, module 4). Definitions only.
-use mathlib.Core.Bool.{Bool, true, false}
+use mathlib.Core.Bool.{false}
 use lib.Ieee.{Float, nan, inf, eq, lt}
 use lib.Ieee.Scale.{finite}
 use Rattle.float.specs.Number.{_⊕_, _⊖_, _⊘_, rem-euclid, zero-float, two-float}
 use Rattle.polynomial.specs.Angle.{turn}
+pub use Rattle.polynomial.specs.Operation.{pick}
 use Rattle.sampling.specs.declared.constraints.Center.{Center}
-
-abbrev pub pick : {A : Type 0} → Bool → A → A → A
-pick true a b = a
-pick false a b = b
 
 -- the forward arc from a to b
 abbrev pub arc : Float → Float → Float

@@ -5,7 +5,7 @@
 -- `Samples` (roots one by one, the sample at each position), `Few` (how many boundary angles, cuts and angles of one free joint at most), `CriticalSlices` (roots and curves one by one),
 -- `Weave` (a list with the middles of its neighbours: its values, its length, its places),
 -- `Slices` (the values at which joint 1 is tried are what the stream has; how many at most; the reference is among them),
--- `Between` (a middle stands between the ends in the order of `total_cmp`, zeros included), `Woven` (the cuts of values within ±64 can be streamed), `Plan` (angles read off cuts one at a time), `Cutting` (lists of cuts that stand one after the other), `J1j2free` (the cuts of a half as those of one list),
+-- `Woven` (the cuts of values within ±64 can be streamed), `Plan` (angles read off cuts one at a time), `Cutting` (lists of cuts that stand one after the other), `J1j2free` (the cuts of a half as those of one list),
 -- `FewCuts` (how many curves, bends and cuts of two free joints at most), `SmallCuts` (the cuts of both halves can be streamed), `Reference` (joint 1's reference as a model angle lies within P), `Planned` (what came of a job's cuts is the job's),
 -- `Angles` (a job has fewer than 2 ^ 29 angles; kind 3 tries the reference).
 pub mod Intervals
@@ -18,7 +18,6 @@ pub mod Samples
 pub mod Few
 pub mod Weave
 pub mod Slices
-pub mod Between
 pub mod Woven
 pub mod Plan
 pub mod Cutting

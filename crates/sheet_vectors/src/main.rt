@@ -23,7 +23,6 @@ use crate::call::agrees;
 use crate::stored::line;
 use libc::STDIN_FILENO;
 use text::report::Tally;
-ghost use mathlib.Core.Path.{_≡_};
 ghost use Prim.Native.Nat.{_+_, _*_, _≤_};
 ghost use lib.ListN.{length};
 
@@ -51,41 +50,29 @@ fn counted(s: &[u8], letter: u8) -> Tally {
         }
         at += 17 * k + 2;
     }
-    Tally { samples, differing }
-}
-
-// The bytes from the first line on that is no call.
-fn unread(s: &[u8]) -> usize {
-    let mut at = 0usize;
-    while at < s.len() {
-        let k = line(s, at);
-        if k < 1 {
-            return s.len() - at;
-        }
-        at += 17 * k + 2;
+    let unread = s.len() - at;
+    Tally {
+        samples,
+        differing,
+        unread,
     }
-    0
 }
 
-fn report(s: &[u8], letter: u8, name: &[u8]) {
-    text::report::samples(name, counted(s, letter));
+// Prints the line of a letter; the bytes from the first line on that is no call.
+fn report(s: &[u8], letter: u8, name: &[u8]) -> usize {
+    let t = counted(s, letter);
+    text::report::samples(name, t);
+    t.unread
 }
 
 fn replay(s: &[u8]) {
     report(s, b'S', b"sampling");
-    report(s, b'C', b"check");
-    text::report::unread(unread(s));
-}
-
-// Room for the text, 1 MiB.
-fn room() -> [u8; 1048576]
-    ensures { λ r. ⌜ 1048576 ≡ length r ⌝ }
-{
-    [0; 1048576]
+    let rest = report(s, b'C', b"check");
+    text::report::unread(rest);
 }
 
 fn main() {
-    let mut text = room();
+    let mut text = text::lines::room();
     let n = io::read_full(STDIN_FILENO, &mut text);
     replay(&text[..n]);
 }

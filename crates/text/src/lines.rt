@@ -9,6 +9,13 @@ ghost use Rattle.text.specs.Lines as Lines;
 use crate::hex::byte;
 use crate::hex::is_word;
 
+// Room for a program's text, 2 MiB.
+pub fn room() -> [u8; 2097152]
+    ensures { λ r. ⌜ 2097152 ≡ length r ⌝ }
+{
+    [0; 2097152]
+}
+
 // Whether k words stand at `at`, a space before each.
 fn are_words(s: &[u8], at: usize, k: usize) -> bool
     requires { ⌜ at + 17 * k ≤ length (now s) ⌝ }

@@ -2,10 +2,12 @@
 // that they are safe.
 use libc::STDOUT_FILENO;
 
-// How many samples there are, and how many of them differ.
+// How many samples there are, how many of them differ, and how many bytes stand from the first line
+// on that is none.
 pub struct Tally {
     pub samples: u64,
     pub differing: u64,
+    pub unread: usize,
 }
 
 // A name, a space and a number in decimal, and the line's end; whether all of it was written.

@@ -3,7 +3,7 @@
 use mathlib.Core.Path.{_≡_, sym, ap, _∙_, subst}
 use mathlib.Core.Logic.{_⊎_, inl, inr}
 use Prim.Native.Nat.{ℕ, zero, suc, _+_, _-_, _*_, _/_, _%_, _^_, _≤_, _<_, min}
-use native.Mathlib.Nat.{le-trans, le-of-eq, lt-of-lt-of-le, mod-lt, div-add-mod', mul-assoc, mul-comm, mul-le-mul-right, mul-le-mul-left, eq-or-lt-of-le, eq-zero-or-pos, pow-succ'}
+use native.Mathlib.Nat.{le-trans, le-of-eq, lt-of-lt-of-le, mod-lt, div-add-mod', mul-assoc, mul-comm, mul-le-mul-right, mul-le-mul-left, eq-or-lt-of-le, eq-zero-or-pos, pow-succ', add-sub-of-le}
 use native.Mathlib.Omega.{arith}
 use lib.Pow.{pow-pos}
 use Rattle.float.specs.Jam.{jam}
@@ -59,7 +59,7 @@ module _ (X x Y d : ℕ) (even : X ≡ 2 * x) where
   r-lt : r < u
   r-lt = mod-lt Y (pow-pos (suc d))
 
-  pub X-is : X * 2 ^ d ≡ x * u
+  X-is : X * 2 ^ d ≡ x * u
   X-is = ap (λ (y : ℕ). y * 2 ^ d) (even ∙ mul-comm 2 x) ∙ mul-assoc x 2 (2 ^ d) ∙ ap (λ (y : ℕ). x * y) (sym (pow-succ' 2 d))
 
   pub jam-add : X + jam Y d ≡ jam (X * 2 ^ d + Y) d
@@ -130,13 +130,10 @@ module _ (X x Y d : ℕ) (even : X ≡ 2 * x) where
   jam-less h =
       let k = A - x in
       let g : x ≤ A = at-most (omega arith) in
-      let e : (x + k) * u ≡ A * u = ap (λ (y : ℕ). y * u) (whole A x g) in
+      let e : (x + k) * u ≡ A * u = ap (λ (y : ℕ). y * u) (add-sub-of-le g) in
       plain A x (min 1 r) X even g
       ∙ sym (jam-at (Y - X * 2 ^ d) d k r (ap (λ (y : ℕ). Y - y) X-is ∙ omega (arith, Y-is)) r-lt)
     where
-      whole : (A x : ℕ) → x ≤ A → x + (A - x) ≡ A
-      whole A x g = omega arith
-
       plain : (A x s X : ℕ) → X ≡ 2 * x → x ≤ A → 2 * A + s - X ≡ 2 * (A - x) + s
       plain A x s X e g = omega arith
 

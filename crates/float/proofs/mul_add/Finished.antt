@@ -4,7 +4,7 @@ use mathlib.Core.Path.{_≡_, sym, ap, _∙_, subst}
 use mathlib.Core.Logic.{_⊎_, inl, inr}
 use mathlib.Core.Bool.{Bool}
 use Prim.Native.Nat.{ℕ, suc, _+_, _-_, _*_, _/_, _%_, _^_, _≤_, _<_, min}
-use native.Mathlib.Nat.{le-trans, le-of-eq, lt-of-not-le, not-le-of-lt, le-of-suc-le-suc, mod-lt, div-add-mod', mul-assoc, mul-comm, mul-right-comm, mul-le-mul-right, mul-le-mul-left, mul-lt-mul-of-pos-right, mul-pos, one-mul, eq-zero-or-pos}
+use native.Mathlib.Nat.{le-trans, le-of-eq, lt-of-not-le, not-le-of-lt, le-of-suc-le-suc, mod-lt, div-add-mod', mul-assoc, mul-comm, mul-right-comm, mul-le-mul-right, mul-le-mul-left, mul-lt-mul-of-pos-right, mul-pos, one-mul, eq-zero-or-pos, sub-add-cancel}
 use native.Mathlib.Omega.{arith}
 use lib.Arith.{digits-lt}
 use lib.Pow.{pow-pos, pow-add, pow-mono}
@@ -76,7 +76,7 @@ module _ (S d L : ℕ) where
       let q = A % m in
       let e : t * m + q ≡ A = div-add-mod' A m in
       let l : q < m = mod-lt A (pow-pos (64 - L)) in
-      let mp : m * p ≡ 2 ^ 64 = sym (pow-add 2 (64 - L) L) ∙ ap (λ (x : ℕ). 2 ^ x) (together L le) in
+      let mp : m * p ≡ 2 ^ 64 = sym (pow-add 2 (64 - L) L) ∙ ap (λ (x : ℕ). 2 ^ x) (sub-add-cancel le) in
       let P : 0 < p = pow-pos L in
       let g : r < b = mod-lt S (pow-pos (suc d)) in
       let sl : suc q * p ≤ m * p = mul-le-mul-right p l in
@@ -88,9 +88,6 @@ module _ (S d L : ℕ) where
       (subst (λ (x : ℕ). S * p ≡ t * x + (q * b + r) * p) (sym unit) (subst (λ (x : ℕ). S * p ≡ t * (x * b) + (q * b + r) * p) mp (lower S A p t q m b r e S-is)))
       (subst (λ (x : ℕ). (q * b + r) * p < x) (ap (λ (x : ℕ). x * b) mp ∙ sym unit) (subst (λ (x : ℕ). (q * b + r) * p < x) (mul-right-comm m b p) (mul-lt-mul-of-pos-right (digits-lt l g) P))))
     where
-      together : (L : ℕ) → L ≤ 64 → 64 - L + L ≡ 64
-      together L h = omega arith
-
       one : (r : ℕ) → 0 < r → min 1 r ≡ 1
       one r h = omega arith
 
@@ -106,7 +103,7 @@ module _ (S d L : ℕ) where
           let y : ((t * m + q) * b + r) * p ≡ S * p = ap (λ (y : ℕ). y * p) (ap (λ (y : ℕ). y + r) x ∙ f) in
           omega arith
 
-  pub jam-left : (r ≡ 0) ⊎ (L ≤ 64) → jam (jam S d * 2 ^ L) 64 ≡ jam (S * 2 ^ L) (d + 64)
+  jam-left : (r ≡ 0) ⊎ (L ≤ 64) → jam (jam S d * 2 ^ L) 64 ≡ jam (S * 2 ^ L) (d + 64)
   jam-left c = elim (eq-zero-or-pos r) [ inl z ↦ exact z | inr p ↦ go p c ]
     where
       go : 0 < r → (r ≡ 0) ⊎ (L ≤ 64) → jam (jam S d * 2 ^ L) 64 ≡ jam (S * 2 ^ L) (d + 64)
@@ -114,7 +111,7 @@ module _ (S d L : ℕ) where
       go p (inr l) = lossy p l
 
 -- ---- the shift is by a word at most
-pub short-shift : (D y s : ℕ) → Shifts D y s → (y ≤ 64) ⊎ (2 ^ 64 ≤ D) → s ≤ 64
+short-shift : (D y s : ℕ) → Shifts D y s → (y ≤ 64) ⊎ (2 ^ 64 ≤ D) → s ≤ 64
 short-shift D y s h (inl l) = le-trans (h .within) l
 short-shift D y s h (inr g) = le-of-suc-le-suc (lt-of-not-le (λ (k : 65 ≤ s). not-le-of-lt (h .top) (le-trans (le-trans (lib.Dec.lit≤ tt) (mul-le-mul-left (2 ^ 64) (pow-mono k))) (mul-le-mul-right (2 ^ s) g))))
 

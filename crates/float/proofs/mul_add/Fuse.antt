@@ -4,7 +4,7 @@ use mathlib.Core.Path.{_≡_, refl, sym, ap, _∙_, subst}
 use mathlib.Core.Logic.{_⊎_, inl, inr}
 use mathlib.Core.Bool.{Bool}
 use Prim.Native.Nat.{ℕ, suc, _+_, _-_, _*_, _%_, _^_, _≤_, _<_}
-use native.Mathlib.Nat.{le-trans, le-of-eq, le-of-lt, lt-of-lt-of-le, lt-of-le-of-lt, le-add-right, le-add-left, eq-zero-or-pos, mul-comm, mul-assoc, mul-left-comm, mul-mod-left, mul-pos, mul-le-mul-right, mul-le-mul-left, mul-lt-mul-of-pos-right, lt-of-mul-lt-mul-right, mul-one, one-mul}
+use native.Mathlib.Nat.{le-trans, le-of-eq, le-of-lt, lt-of-lt-of-le, lt-of-le-of-lt, le-add-right, le-add-left, eq-zero-or-pos, mul-comm, mul-assoc, mul-left-comm, mul-mod-left, mul-pos, mul-le-mul-right, mul-le-mul-left, mul-lt-mul-of-pos-right, lt-of-mul-lt-mul-right, mul-one, one-mul, sub-add-cancel}
 use native.Mathlib.Omega.{arith}
 use lib.Dec.{lit≤}
 use lib.Pow.{pow-pos, pow-add, pow-mono}
@@ -13,8 +13,9 @@ use Rattle.float.specs.MulAdd.{mul-add}
 use Rattle.float.specs.Jam.{jam}
 use Rattle.float.proofs.Compare.{lt-or-le}
 use Rattle.float.specs.Parts.{Splits, Combines}
+use Rattle.float.specs.Laws.Zero.{sum-comm}
 use Rattle.float.proofs.mul_add.Aligned.{jam-some, jam-below}
-use Rattle.float.proofs.mul_add.Sums.{sum-comm, combined}
+use Rattle.float.proofs.mul_add.Sums.{combined}
 use Rattle.float.proofs.mul_add.Special.{mul-add-at}
 
 -- whatever is ±X ± Y, with Y cut to the place of X, is a * b + c
@@ -58,7 +59,7 @@ large a b j k A B h f g = go (eq-zero-or-pos j)
     go (inl z) = le-trans (g (other z)) (le-trans (le-of-eq (sym (one-mul b))) (mul-le-mul-right b A))
     go (inr p) = le-trans (f p) (le-trans (le-of-eq (sym (mul-one a))) (mul-le-mul-left a B))
 
--- a sum of two words' numbers, from its bound
+-- the upper word of a number below M * N
 pub upper : (h l Z M N : ℕ) → h * N + l ≡ Z → Z < M * N → h < M
 upper h l Z M N e b = lt-of-mul-lt-mul-right N (lt-of-le-of-lt (le-trans (le-add-right (h * N) l) (le-of-eq e)) b)
 
@@ -144,10 +145,7 @@ module _ (a b c : Float) (sa : Bool) (qa ka : ℕ) (sb : Bool) (qb kb : ℕ) (sc
 
   -- 2 ^ i is 2 ^ (i - j) at 2 ^ j
   apart : (x i j : ℕ) → j ≤ i → x * 2 ^ (i - j) * 2 ^ j ≡ x * 2 ^ i
-  apart x i j h = mul-assoc x (2 ^ (i - j)) (2 ^ j) ∙ ap (λ (y : ℕ). x * y) (sym (pow-add 2 (i - j) j) ∙ ap (λ (k : ℕ). 2 ^ k) (back i j h))
-    where
-      back : (i j : ℕ) → j ≤ i → i - j + j ≡ i
-      back i j h = omega arith
+  apart x i j h = mul-assoc x (2 ^ (i - j)) (2 ^ j) ∙ ap (λ (y : ℕ). x * y) (sym (pow-add 2 (i - j) j) ∙ ap (λ (k : ℕ). 2 ^ k) (sub-add-cancel h))
 
   -- ---- the product stands higher: the addend is cut
   module _ (h : l ≤ m) (W : ℕ) (cut : W ≡ jam H (m - l)) where

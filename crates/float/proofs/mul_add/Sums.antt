@@ -1,48 +1,19 @@
--- `sum` of `lib.Ieee` by cases, and of equal fractions; and what `combine` gives is it. Assumes nothing.
+-- `sum` of `lib.Ieee` of equal fractions; and what `combine` gives is it. Assumes nothing.
 use mathlib.Core.Path.{_≡_, refl, sym, ap, _∙_, subst}
 use mathlib.Core.Logic.{_⊎_, inl, inr}
 use mathlib.Core.Bool.{Bool, true, false, Bool·beq}
 use Prim.Native.Nat.{ℕ, suc, _+_, _-_, _*_, _%_, _^_, _≤_, _<_, compare, Ordering, Ordering·lt, Ordering·eq, Ordering·gt}
-use native.Mathlib.Nat.{le-of-eq, lt-of-lt-of-le, lt-of-le-of-lt, add-mul, add-comm, mul-comm, mul-sub, mul-lt-mul-of-pos-right, lt-of-mul-lt-mul-right}
+use native.Mathlib.Nat.{le-of-eq, lt-of-lt-of-le, lt-of-le-of-lt, add-mul, mul-comm, mul-sub, mul-lt-mul-of-pos-right, lt-of-mul-lt-mul-right}
 use native.Mathlib.Omega.{arith}
 use lib.Pow.{pow-pos}
 use lib.Ieee.{Float, binary64, round, sum}
 use lib.Ieee.Scale.{round-same}
 use Rattle.float.specs.Laws.Zero.{sum-same-sign, sum-less, sum-more, sum-none}
 use Rattle.float.specs.Jam.{jam}
-use Rattle.float.proofs.Compare.{Cmp, cmp}
 use Rattle.float.specs.Parts.{Combines}
+use Rattle.float.specs.Laws.Near.{Cmp, cmp}
 use Rattle.float.proofs.mul_add.Aligned.{jam-add, more-is, jam-more, less-is, jam-less, none-is, whole-add, whole-more, whole-less}
 use Rattle.float.proofs.mul_add.Finished.{finished}
-
--- ---- the order of the two does not matter
-beq-comm : (s t : Bool) → Bool·beq s t ≡ Bool·beq t s
-beq-comm true true = refl
-beq-comm true false = refl
-beq-comm false true = refl
-beq-comm false false = refl
-
-beq-is : (s t : Bool) → Bool·beq s t ≡ true → s ≡ t
-beq-is true true e = refl
-beq-is true false e = sym e
-beq-is false true e = e
-beq-is false false e = refl
-
-pub sum-comm : (s : Bool) (a : ℕ) (t : Bool) (b c : ℕ) → 0 < c → sum binary64 s a t b c ≡ sum binary64 t b s a c
-sum-comm s a t b c C = go (Bool·beq s t) refl
-  where
-    apart : (o : Ordering) → Cmp o a b → Bool·beq s t ≡ false → sum binary64 s a t b c ≡ sum binary64 t b s a c
-    apart Ordering·lt h e = sum-less s a t b c e h ∙ sym (sum-more t b s a c (beq-comm t s ∙ e) h)
-    apart Ordering·eq h e = sum-none s a t b c C e h ∙ sym (sum-none t b s a c C (beq-comm t s ∙ e) (sym h))
-    apart Ordering·gt h e = sum-more s a t b c e h ∙ sym (sum-less t b s a c (beq-comm t s ∙ e) h)
-
-    go : (z : Bool) → Bool·beq s t ≡ z → sum binary64 s a t b c ≡ sum binary64 t b s a c
-    go true e =
-        sum-same-sign s a t b c e
-        ∙ ap (λ (z : Bool). round binary64 z (a + b) c) (beq-is s t e)
-        ∙ ap (λ (n : ℕ). round binary64 t n c) (add-comm a b)
-        ∙ sym (sum-same-sign t b s a c (beq-comm t s ∙ e))
-    go false e = apart (compare a b) (cmp a b) e
 
 -- ---- equal fractions
 module _ (a b c a' b' c' : ℕ) (C : 0 < c) (C' : 0 < c') (p : a * c' ≡ a' * c) (q : b * c' ≡ b' * c) where

@@ -1,7 +1,7 @@
 -- `jam` as a program computes it, of a number of two words: the digits that stay, with the last one set by `bitOr`. Assumes nothing.
 use mathlib.Core.Path.{_≡_, sym, ap, _∙_, subst}
 use Prim.Native.Nat.{ℕ, zero, suc, _+_, _-_, _*_, _/_, _%_, _^_, _≤_, _<_, suc-le-suc, min, max}
-use native.Mathlib.Nat.{le-refl, le-of-lt, lt-of-lt-of-le, mod-lt, div-add-mod', add-zero, mul-assoc, mul-div-cancel, mul-mod-left, pow-suc, pow-succ', zero-lt-suc}
+use native.Mathlib.Nat.{le-refl, le-of-lt, lt-of-lt-of-le, mod-lt, div-add-mod', add-zero, mul-assoc, mul-div-cancel, mul-mod-left, pow-suc, pow-succ', zero-lt-suc, sub-add-cancel}
 use native.Mathlib.Omega.{arith}
 use lib.Arith.{digits-lt, digits-div, digits-mod, mod-mul}
 use lib.Pow.{pow-pos, pow-add, pow-mono, shr-lt}
@@ -45,7 +45,7 @@ jam-or n d Q R e h =
 
 -- ---- words
 -- what a shift to the left keeps of a word
-pub shl-part : (x d : ℕ) → d ≤ 64 → x * 2 ^ (64 - d) % 2 ^ 64 ≡ x % 2 ^ d * 2 ^ (64 - d)
+shl-part : (x d : ℕ) → d ≤ 64 → x * 2 ^ (64 - d) % 2 ^ 64 ≡ x % 2 ^ d * 2 ^ (64 - d)
 shl-part x d h =
     let c = 2 ^ (64 - d) in
     ap (λ (y : ℕ). x * c % y) (ap (λ (k : ℕ). 2 ^ k) (both d h) ∙ pow-add 2 d (64 - d))
@@ -88,11 +88,11 @@ or-last v s h =
     one s h = omega arith
 
 -- two words are both 0 where their `bitOr` is
-pub or-some : (x y : ℕ) → min 1 (bitOr x y) ≡ min 1 (x + y)
+or-some : (x y : ℕ) → min 1 (bitOr x y) ≡ min 1 (x + y)
 or-some x y = omega (arith, or-add-and x y, and-le-l x y, and-le-r x y)
 
 -- the digits that stay are h * 2 ^ 64 + v, and s says whether any of the others is set
-pub set-last : (h v s : ℕ) → s ≤ 1 → h * 2 ^ 64 + bitOr v s ≡ (h * 2 ^ 64 + v) / 2 * 2 + max ((h * 2 ^ 64 + v) % 2) s
+set-last : (h v s : ℕ) → s ≤ 1 → h * 2 ^ 64 + bitOr v s ≡ (h * 2 ^ 64 + v) / 2 * 2 + max ((h * 2 ^ 64 + v) % 2) s
 set-last h v s l = omega (arith, or-last v s l)
 
 one-at-most : (x : ℕ) → min 1 x ≤ 1
@@ -131,8 +131,8 @@ module _ (hi lo : ℕ) (H : hi < 2 ^ 64) (L : lo < 2 ^ 64) where
       let g = 2 ^ (64 - d) in
       let v = hi % p * g + lo / p in
       let le : d ≤ 64 = omega arith in
-      let gp : g * p ≡ 2 ^ 64 = sym (pow-add 2 (64 - d) d) ∙ ap (λ (k : ℕ). 2 ^ k) (together d le) in
-      let rest : lo / p < g = shr-lt (64 - d) d (subst (λ (k : ℕ). lo < 2 ^ k) (sym (together d le)) L) in
+      let gp : g * p ≡ 2 ^ 64 = sym (pow-add 2 (64 - d) d) ∙ ap (λ (k : ℕ). 2 ^ k) (sub-add-cancel le) in
+      let rest : lo / p < g = shr-lt (64 - d) d (subst (λ (k : ℕ). lo < 2 ^ k) (sym (sub-add-cancel le)) L) in
       let eh : hi / p * p + hi % p ≡ hi = div-add-mod' hi p in
       let el : lo / p * p + lo % p ≡ lo = div-add-mod' lo p in
       ap (λ (x : ℕ). hi / p * 2 ^ 64 + bitOr (bitOr x (lo / p)) (min 1 (left lo (63 - d)))) (left-part hi d U)
@@ -141,9 +141,6 @@ module _ (hi lo : ℕ) (H : hi < 2 ^ 64) (L : lo < 2 ^ 64) where
       ∙ ap (λ (x : ℕ). hi / p * 2 ^ 64 + bitOr v x) (some-times (lo % p) (64 - d))
       ∙ set-last (hi / p) v (min 1 (lo % p)) (one-at-most (lo % p))
       ∙ sym (jam-or D d (hi / p * 2 ^ 64 + v) (lo % p) (put hi lo (hi / p) (hi % p) (lo / p) (lo % p) g p (2 ^ 64) eh el gp) (mod-lt lo (pow-pos d)))
-    where
-      together : (d : ℕ) → d ≤ 64 → 64 - d + d ≡ 64
-      together d h = omega arith
 
   -- by a word or more, i past it
   pub jam-long : (i : ℕ) → i < 64 → 0 * 2 ^ 64 + bitOr (hi / 2 ^ i) (min 1 (bitOr (left hi (63 - i)) lo)) ≡ jam D (i + 64)

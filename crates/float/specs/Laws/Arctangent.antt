@@ -1,9 +1,8 @@
 -- Bounds on the arctangent and what is worked out with it: atan is within 3, and atan2, acos and asin within 7. Each halving divides by 2 at least, since 1 ≤ sqrt(1 + a·a).
 -- Sizes alone are counted, so the bounds are wide. Assumes nothing.
-use mathlib.Core.Path.{_≡_, refl, sym, ap, _∙_, subst}
+use mathlib.Core.Path.{_≡_, refl, sym, subst}
 use mathlib.Core.Bool.{Bool, true, false, not, _||_, cond}
 use Prim.Native.Nat.{ℕ, _+_, _*_, _<_}
-use native.Mathlib.Nat.{lt-irrefl, zero-mul}
 use native.Mathlib.Omega.{arith}
 use lib.IntN.{pos}
 use lib.Dec.{T, eqb, ltb→lt, eqb→eq, lit≤}
@@ -17,7 +16,7 @@ use Rattle.float.specs.Sqrt.{sqrt}
 use Rattle.float.specs.Trig.{P, four-float, halved, atan-start, atan-series, atan-value, copysign, atan, atan2, other-side, acos, asin}
 use Rattle.float.specs.Laws.Sign.{round-neg}
 use Rattle.float.specs.Laws.Le.{Le, le→Le, Le→le, plain, round-plain, add-mono}
-use Rattle.float.specs.Laws.Within.{Within, Beyond, divTest, add-within, sub-within, mul-within, div-within, neg-within, numeral, numeral-beyond, weaken, Le→beyond}
+use Rattle.float.specs.Laws.Within.{Within, Beyond, divTest, add-within, sub-within, mul-within, div-within, neg-within, numeral, numeral-beyond, weaken, Le→beyond, not-none}
 use Rattle.float.specs.Laws.Interval.{Le-refl, Le-trans, within-in, in-self, in-wider, add-in, sub-in}
 use Rattle.float.specs.Laws.Range.{abs-within, within-abs, lt→Le, nlt→Le}
 use Rattle.float.specs.Laws.Sine.{per, over-within, step-within}
@@ -50,18 +49,18 @@ divisor-beyond {a} h =
     Le→beyond tt (le→Le two-float (one-float ⊕ sqrt binary64 v) tt (d .real) (subst (λ (y : Float). T (le y (one-float ⊕ sqrt binary64 v))) one-one (add-mono binary64 (Le-refl one-float tt) r)))
 
 -- from any bound X of at most 1 to its half
-pub halved-by : (B : Float) {X a : Float} → T (divTest binary64 X two-float B) → Within one-float a → Within X a → Within B (halved a)
+halved-by : (B : Float) {X a : Float} → T (divTest binary64 X two-float B) → Within one-float a → Within X a → Within B (halved a)
 unfolding halved
 halved-by B t o h = div-within binary64 B t h (divisor-beyond o)
 
-pub halved-within : {a : Float} → Within one-float a → Within (per 1 1) (halved a)
+halved-within : {a : Float} → Within one-float a → Within (per 1 1) (halved a)
 halved-within h = halved-by (per 1 1) tt h h
 
-pub halved-again : {a : Float} → Within (per 1 1) a → Within (per 1 2) (halved a)
+halved-again : {a : Float} → Within (per 1 1) a → Within (per 1 2) (halved a)
 halved-again h = halved-by (per 1 2) tt (weaken one-float tt h) h
 
 -- ---- the polynomial
-pub atan-series-within : (z : Float) → Within one-float z → Within (per 321 8) (atan-series z)
+atan-series-within : (z : Float) → Within one-float z → Within (per 321 8) (atan-series z)
 unfolding atan-series
 atan-series-within z h =
     let p0 = over-within (per 12 8) true 23 tt in
@@ -77,7 +76,7 @@ atan-series-within z h =
     step-within (per 321 8) tt tt p9 h (over-within (per 86 8) true 3 tt)
 
 -- v = 4·(a + (a·z)·p)
-pub atan-value-within : {a : Float} → Within (per 1 2) a → Within (per 9 3) (atan-value a)
+atan-value-within : {a : Float} → Within (per 1 2) a → Within (per 9 3) (atan-value a)
 unfolding atan-value
 atan-value-within {a} h =
     let z : Within (per 1 4) (a ⊗ a) = mul-within binary64 (per 1 4) tt h h in
@@ -93,7 +92,7 @@ start x p = go (lt one-float (abs x)) refl
     go true h = div-within binary64 one-float tt (numeral one-float one-float tt) (Le→beyond tt (lt→Le one-float (abs x) tt p (subst T (sym h) tt)))
     go false h = within-abs (abs-within one-float x tt tt (is-true (le (abs x) one-float) (Le→le (nlt→Le one-float (abs x) tt p (subst (λ (b : Bool). T (not b)) (sym h) tt)))))
 
-pub atan-start-within : (x : Float) → T (not (isNan x)) → Within one-float (atan-start x)
+atan-start-within : (x : Float) → T (not (isNan x)) → Within one-float (atan-start x)
 unfolding isNan abs lt div
 atan-start-within nan n = absurd n
 atan-start-within (inf s) n = numeral one-float (fin false 0 (pos 0)) tt
@@ -133,11 +132,11 @@ neg-number nan p = absurd p
 neg-number (inf s) p = tt
 neg-number (fin s m e) p = tt
 
-pub round-number : (f : Format) (s : Bool) (a c : ℕ) → T (not (isNan (round f s a c)))
+round-number : (f : Format) (s : Bool) (a c : ℕ) → T (not (isNan (round f s a c)))
 round-number f false a c = plain-number (round f false a c) (round-plain f a c)
 round-number f true a c = subst (λ (z : Float). T (not (isNan z))) (sym (round-neg f false a c)) (neg-number (round f false a c) (plain-number (round f false a c) (round-plain f a c)))
 
-pub div-number : (y x : Float) → T (finite y) → T (finite x) → 0 < num x → T (not (isNan (y ⊘ x)))
+div-number : (y x : Float) → T (finite y) → T (finite x) → 0 < num x → T (not (isNan (y ⊘ x)))
 unfolding div
 div-number nan x p q z = absurd p
 div-number (inf s) x p q z = absurd p
@@ -145,11 +144,8 @@ div-number (fin s m e) nan p q z = absurd q
 div-number (fin s m e) (inf t) p q z = absurd q
 div-number (fin s m e) (fin t n d) p q z = go (eqb n 0) (eqb→eq n 0)
   where
-    gone : n ≡ 0 → ⊥
-    gone k = lt-irrefl 0 (subst (λ (v : ℕ). 0 < v) (ap (λ (v : ℕ). v * up d) k ∙ zero-mul (up d)) z)
-
     go : (b : Bool) → (T b → n ≡ 0) → T (not (isNan (cond b (cond (eqb m 0) nan (inf (unlike s t))) (round binary64 (unlike s t) (m * up e * down d) (n * up d * down e)))))
-    go true k = absurd (gone (k tt))
+    go true k = absurd (not-none n d z (k tt))
     go false k = round-number binary64 (unlike s t) (m * up e * down d) (n * up d * down e)
 
 -- x > 0 and x < 0
@@ -196,7 +192,7 @@ atan2-within y x p q =
     go false false false g false false n a b = numeral seven-float zero-float tt
 
 -- 0 ≤ 1 − x and 0 ≤ 1 + x, so their product has a root
-pub other-side-within : {x : Float} → Within one-float x → Within two-float (other-side x)
+other-side-within : {x : Float} → Within one-float x → Within two-float (other-side x)
 other-side-within {x} h =
     let one = numeral one-float one-float tt in
     let w : Within four-float ((one-float ⊖ x) ⊗ (one-float ⊕ x)) = mul-within binary64 four-float tt (sub-within binary64 two-float tt one h) (add-within binary64 two-float tt one h) in

@@ -3,12 +3,12 @@
 use mathlib.Core.Path.{_≡_, refl, sym, ap, _∙_, subst}
 use mathlib.Core.Bool.{Bool, true, false, false≢true, true≢false}
 use Prim.Native.Nat.{ℕ, _*_, _<_}
-use native.Mathlib.Nat.{mul-one, zero-mul, mul-zero, mul-pos, zero-lt-suc}
+use native.Mathlib.Nat.{mul-one, zero-mul, mul-zero, mul-pos, zero-lt-suc, mul-comm}
 use native.Mathlib.Omega.{arith}
 use lib.IntN.{ℤ}
 use lib.Dec.{T}
-use lib.Ieee.{Float, nan, inf, fin, binary64, unlike, up, down, round, add, mul}
-use lib.Ieee.Fits.{down-pos}
+use lib.Ieee.{Float, nan, inf, fin, binary64, unlike, up, down, round, add, mul, sum, fits}
+use lib.Ieee.Fits.{down-pos, add-fits, mul-fits}
 use lib.Ieee.Exact.{HasValue}
 use lib.Ieee.Scale.{finite, round-same}
 use lib.Ieee.Positive.{num, den}
@@ -16,8 +16,9 @@ use Rattle.float.specs.Number.{_⊕_, _⊗_, zero-float}
 use Rattle.float.specs.Laws.Sign.{strip, Alike, round-zero}
 use Rattle.float.specs.Laws.Like.{second-zero}
 use Rattle.float.specs.Laws.Le.{Le, le→Le, Le→le, plain, round-plain, add-mono, le-alike, finite-alike, unstrip-Le-r}
-use Rattle.float.specs.Laws.Within.{held, exact-self, value-finite}
+use Rattle.float.specs.Laws.Within.{held, exact-self, value-finite, fits→held}
 use Rattle.float.specs.Laws.Interval.{Le-refl, Le-trans}
+use Rattle.float.specs.Laws.Zero.{sum-comm}
 
 -- ---- a + 0 is a, as a number
 value-Le : (s : Bool) (m : ℕ) (e : ℤ) (z : Float) → HasValue z s (m * up e) (down e) → Le (fin s m e) z
@@ -54,8 +55,43 @@ add-zero (fin s m e) t =
 pub add-grows : (a b : Float) → T (held binary64 a) → Le zero-float b → T (finite (a ⊕ b)) → Le a (a ⊕ b)
 add-grows a b t h f = let z = add-zero a t in Le-trans z (le→Le (a ⊕ zero-float) (a ⊕ b) (z .second) f (add-mono binary64 (Le-refl a (z .first)) h))
 
+add-swap : (x y : Float) → T (finite x) → T (finite y) → x ⊕ y ≡ y ⊕ x
+unfolding add
+add-swap nan y p q = absurd p
+add-swap (inf s) y p q = absurd p
+add-swap (fin s m e) nan p q = absurd q
+add-swap (fin s m e) (inf t) p q = absurd q
+add-swap (fin s m e) (fin t n d) p q =
+    sum-comm s (m * up e * down d) t (n * up d * down e) (down e * down d) (mul-pos (down-pos e) (down-pos d))
+    ∙ ap (λ (z : ℕ). sum binary64 t (n * up d * down e) s (m * up e * down d) z) (mul-comm (down e) (down d))
+
+terms-finite : (x y : Float) → T (finite (x ⊕ y)) → T (finite x) × T (finite y)
+unfolding add
+terms-finite nan y h = absurd h
+terms-finite (inf s) nan h = absurd h
+terms-finite (inf true) (inf true) h = absurd h
+terms-finite (inf true) (inf false) h = absurd h
+terms-finite (inf false) (inf true) h = absurd h
+terms-finite (inf false) (inf false) h = absurd h
+terms-finite (inf s) (fin t n d) h = absurd h
+terms-finite (fin s m e) nan h = absurd h
+terms-finite (fin s m e) (inf t) h = absurd h
+terms-finite (fin s m e) (fin t n d) h = (tt, tt)
+
+record Grown (a b : Float) : Type 0 where
+  left : Le a (a ⊕ b)
+  right : Le b (a ⊕ b)
+  plus : Le zero-float (a ⊕ b)
+
+grown : (a b : Float) → T (fits binary64 a) → T (fits binary64 b) → Le zero-float a → Le zero-float b → T (finite (a ⊕ b)) → Grown a b
+grown a b t u h k f =
+    let l : Le a (a ⊕ b) = add-grows a b (fits→held binary64 a t (h .second)) k f in
+    let s : b ⊕ a ≡ a ⊕ b = add-swap b a (k .second) (h .second) in
+    let r : Le b (b ⊕ a) = add-grows b a (fits→held binary64 b u (k .second)) h (subst (λ (z : Float). T (finite z)) (sym s) f) in
+    record { left = l; right = subst (λ (z : Float). Le b z) s r; plus = Le-trans h l }
+
 -- ---- a square
-pub plain-plus : (x : Float) → T (plain x) → T (finite x) → Le zero-float x
+plain-plus : (x : Float) → T (plain x) → T (finite x) → Le zero-float x
 plain-plus nan p q = absurd p
 plain-plus (inf s) p q = absurd q
 plain-plus (fin true m e) p q = absurd p
@@ -70,6 +106,28 @@ square-is (fin false m e) p = refl
 
 pub square-plus : (x : Float) → T (finite x) → T (finite (x ⊗ x)) → Le zero-float (x ⊗ x)
 square-plus x p f = plain-plus (x ⊗ x) (subst (λ (z : Float). T (plain z)) (sym (square-is x p)) (round-plain binary64 (num x * num x) (den x * den x))) f
+
+-- ---- a sum of four squares is no less than each
+pub record Squares (x y z w S : Float) : Type 0 where
+  pub of-x : Le (x ⊗ x) S
+  pub of-y : Le (y ⊗ y) S
+  pub of-z : Le (z ⊗ z) S
+  pub of-w : Le (w ⊗ w) S
+
+pub squares : (x y z w : Float) → T (finite x) → T (finite y) → T (finite z) → T (finite w) → T (finite (x ⊗ x ⊕ y ⊗ y ⊕ z ⊗ z ⊕ w ⊗ w)) → Squares x y z w (x ⊗ x ⊕ y ⊗ y ⊕ z ⊗ z ⊕ w ⊗ w)
+squares x y z w px py pz pw f =
+    let f3 = terms-finite (x ⊗ x ⊕ y ⊗ y ⊕ z ⊗ z) (w ⊗ w) f in
+    let f2 = terms-finite (x ⊗ x ⊕ y ⊗ y) (z ⊗ z) (f3 .0) in
+    let f1 = terms-finite (x ⊗ x) (y ⊗ y) (f2 .0) in
+    let two = grown (x ⊗ x) (y ⊗ y) (mul-fits binary64 x x) (mul-fits binary64 y y) (square-plus x px (f1 .0)) (square-plus y py (f1 .1)) (f2 .0) in
+    let three = grown (x ⊗ x ⊕ y ⊗ y) (z ⊗ z) (add-fits binary64 (x ⊗ x) (y ⊗ y)) (mul-fits binary64 z z) (two .plus) (square-plus z pz (f2 .1)) (f3 .0) in
+    let four = grown (x ⊗ x ⊕ y ⊗ y ⊕ z ⊗ z) (w ⊗ w) (add-fits binary64 (x ⊗ x ⊕ y ⊗ y) (z ⊗ z)) (mul-fits binary64 w w) (three .plus) (square-plus w pw (f3 .1)) f in
+    record {
+      of-x = Le-trans (two .left) (Le-trans (three .left) (four .left));
+      of-y = Le-trans (two .right) (Le-trans (three .left) (four .left));
+      of-z = Le-trans (three .right) (four .left);
+      of-w = four .right;
+    }
 
 -- ---- a product
 -- what is not negative and has a minus sign is a zero

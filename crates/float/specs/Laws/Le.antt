@@ -14,6 +14,7 @@ use lib.Ieee.Order.{round-mono}
 use lib.Ieee.Scale.{finite}
 use lib.Ieee.Positive.{num, den, den-pos}
 use Rattle.float.specs.Laws.Sign.{strip, Alike, round-zero, round-neg}
+use Rattle.float.specs.Laws.Like.{zero-l}
 
 abbrev pub pl : Float → ℕ
 pl nan = 0
@@ -34,7 +35,7 @@ pub record Le (x y : Float) : Type 0 where
   pub cross : pl x * den y + mi y * den x ≤ pl y * den x + mi x * den y
 
 -- ---- `le` says the same
-or-l : (a b : Bool) → T a → T (a || b)
+pub or-l : (a b : Bool) → T a → T (a || b)
 or-l true b t = tt
 or-l false b t = absurd t
 
@@ -140,7 +141,7 @@ neg-Le {x = fin s m e} {y = fin t n d} h = record { first = tt; second = tt; cro
     go false true h = omega arith
     go false false h = omega arith
 
-pub neg-anti : (x y : Float) → T (le x y) → T (le (neg y) (neg x))
+neg-anti : (x y : Float) → T (le x y) → T (le (neg y) (neg x))
 unfolding le neg
 neg-anti nan y h = absurd h
 neg-anti (inf s) nan h = absurd h
@@ -232,50 +233,47 @@ srnd-mono f p n c q m d C D h = go (leb n p) (leb m q) (leb→le n p) (nleb→lt
         (neg-anti (round f false (m - q) d) (round f false (n - p) c) (round-mono f (m - q) d (n - p) c D C (turned (b tt) (v tt)))))
 
 -- ---- the order does not see the sign of a zero
-none : (u v : ℕ) → 0 * u * v ≡ 0
-none u v = ap (λ (z : ℕ). z * v) (zero-mul u) ∙ zero-mul v
-
 zero-below : (u v d p n : ℕ) → 0 < d → u ≡ 0 → v ≡ 0 → u + n * d ≤ p * d + v → n ≤ p
 zero-below u v d p n D z w h = le-of-mul-le-mul-right (omega arith) D
 
 zero-above : (u v d p n : ℕ) → 0 < d → u ≡ 0 → v ≡ 0 → p * d + u ≤ v + n * d → p ≤ n
 zero-above u v d p n D z w h = le-of-mul-le-mul-right (omega arith) D
 
-pub strip-Le-l : {x y : Float} → Le x y → Le (strip x) y
+strip-Le-l : {x y : Float} → Le x y → Le (strip x) y
 unfolding strip
 strip-Le-l {x = nan} {y} h = absurd (h .first)
 strip-Le-l {x = inf s} {y} h = absurd (h .first)
 strip-Le-l {x = fin true zero e} {y} h =
-    let k : mi y ≤ pl y = zero-below (0 * den y) (0 * up e * den y) (down e) (pl y) (mi y) (down-pos e) (zero-mul (den y)) (none (up e) (den y)) (h .cross) in
+    let k : mi y ≤ pl y = zero-below (0 * den y) (0 * up e * den y) (down e) (pl y) (mi y) (down-pos e) (zero-mul (den y)) (zero-l (up e) (den y)) (h .cross) in
     record { first = tt; second = h .second; cross = omega arith }
 strip-Le-l {x = fin false zero e} {y} h =
-    let k : mi y ≤ pl y = zero-below (0 * up e * den y) (0 * den y) (down e) (pl y) (mi y) (down-pos e) (none (up e) (den y)) (zero-mul (den y)) (h .cross) in
+    let k : mi y ≤ pl y = zero-below (0 * up e * den y) (0 * den y) (down e) (pl y) (mi y) (down-pos e) (zero-l (up e) (den y)) (zero-mul (den y)) (h .cross) in
     record { first = tt; second = h .second; cross = omega arith }
 strip-Le-l {x = fin s (suc m) e} {y} h = h
 
-pub strip-Le-r : {x y : Float} → Le x y → Le x (strip y)
+strip-Le-r : {x y : Float} → Le x y → Le x (strip y)
 unfolding strip
 strip-Le-r {x} {y = nan} h = absurd (h .second)
 strip-Le-r {x} {y = inf s} h = absurd (h .second)
 strip-Le-r {x} {y = fin true zero e} h =
-    let k : pl x ≤ mi x = zero-above (0 * up e * den x) (0 * den x) (down e) (pl x) (mi x) (down-pos e) (none (up e) (den x)) (zero-mul (den x)) (h .cross) in
+    let k : pl x ≤ mi x = zero-above (0 * up e * den x) (0 * den x) (down e) (pl x) (mi x) (down-pos e) (zero-l (up e) (den x)) (zero-mul (den x)) (h .cross) in
     record { first = h .first; second = tt; cross = omega arith }
 strip-Le-r {x} {y = fin false zero e} h =
-    let k : pl x ≤ mi x = zero-above (0 * den x) (0 * up e * den x) (down e) (pl x) (mi x) (down-pos e) (zero-mul (den x)) (none (up e) (den x)) (h .cross) in
+    let k : pl x ≤ mi x = zero-above (0 * den x) (0 * up e * den x) (down e) (pl x) (mi x) (down-pos e) (zero-mul (den x)) (zero-l (up e) (den x)) (h .cross) in
     record { first = h .first; second = tt; cross = omega arith }
 strip-Le-r {x} {y = fin s (suc m) e} h = h
 
-pub unstrip-Le-l : (x : Float) {y : Float} → Le (strip x) y → Le x y
+unstrip-Le-l : (x : Float) {y : Float} → Le (strip x) y → Le x y
 unfolding strip
 unstrip-Le-l nan h = h
 unstrip-Le-l (inf s) h = h
 unstrip-Le-l (fin true zero e) {y} h =
     let k : mi y * down e ≤ pl y * down e = mul-le-mul-right (down e) (zero-below (0 * den y) (0 * den y) 1 (pl y) (mi y) (zero-lt-suc 0) (zero-mul (den y)) (zero-mul (den y)) (h .cross)) in
-    let z : 0 * up e * den y ≡ 0 = none (up e) (den y) in
+    let z : 0 * up e * den y ≡ 0 = zero-l (up e) (den y) in
     record { first = tt; second = h .second; cross = omega arith }
 unstrip-Le-l (fin false zero e) {y} h =
     let k : mi y * down e ≤ pl y * down e = mul-le-mul-right (down e) (zero-below (0 * den y) (0 * den y) 1 (pl y) (mi y) (zero-lt-suc 0) (zero-mul (den y)) (zero-mul (den y)) (h .cross)) in
-    let z : 0 * up e * den y ≡ 0 = none (up e) (den y) in
+    let z : 0 * up e * den y ≡ 0 = zero-l (up e) (den y) in
     record { first = tt; second = h .second; cross = omega arith }
 unstrip-Le-l (fin s (suc m) e) h = h
 
@@ -285,15 +283,15 @@ unstrip-Le-r nan h = h
 unstrip-Le-r (inf s) h = h
 unstrip-Le-r {x} (fin true zero e) h =
     let k : pl x * down e ≤ mi x * down e = mul-le-mul-right (down e) (zero-above (0 * den x) (0 * den x) 1 (pl x) (mi x) (zero-lt-suc 0) (zero-mul (den x)) (zero-mul (den x)) (h .cross)) in
-    let z : 0 * up e * den x ≡ 0 = none (up e) (den x) in
+    let z : 0 * up e * den x ≡ 0 = zero-l (up e) (den x) in
     record { first = h .first; second = tt; cross = omega arith }
 unstrip-Le-r {x} (fin false zero e) h =
     let k : pl x * down e ≤ mi x * down e = mul-le-mul-right (down e) (zero-above (0 * den x) (0 * den x) 1 (pl x) (mi x) (zero-lt-suc 0) (zero-mul (den x)) (zero-mul (den x)) (h .cross)) in
-    let z : 0 * up e * den x ≡ 0 = none (up e) (den x) in
+    let z : 0 * up e * den x ≡ 0 = zero-l (up e) (den x) in
     record { first = h .first; second = tt; cross = omega arith }
 unstrip-Le-r (fin s (suc m) e) h = h
 
-pub le-strip : (x y : Float) → T (le x y) → T (le (strip x) (strip y))
+le-strip : (x y : Float) → T (le x y) → T (le (strip x) (strip y))
 unfolding strip le
 le-strip nan y h = absurd h
 le-strip (inf s) nan h = absurd h
@@ -323,7 +321,7 @@ finite-strip (fin s (suc m) e) p = tt
 pub finite-alike : (x y : Float) → Alike x y → T (finite x) → T (finite y)
 finite-alike x y h p = finite-unstrip y (subst (λ (z : Float). T (finite z)) h (finite-strip x p))
 
-pub le-unstrip : (x y : Float) → T (le (strip x) (strip y)) → T (le x y)
+le-unstrip : (x y : Float) → T (le (strip x) (strip y)) → T (le x y)
 unfolding strip le
 le-unstrip nan y h = h
 le-unstrip (inf s) nan h = h
@@ -433,7 +431,7 @@ unfolding sub
 sub-mono f h k = add-mono f h (neg-Le k)
 
 -- ---- a product by what is not negative
-pub mul-srnd : (f : Format) (x y : Float) → T (finite x) → T (finite y) → T (plain y) → Alike (mul f x y) (srnd f (pl x * num y) (mi x * num y) (den x * den y))
+mul-srnd : (f : Format) (x y : Float) → T (finite x) → T (finite y) → T (plain y) → Alike (mul f x y) (srnd f (pl x * num y) (mi x * num y) (den x * den y))
 unfolding mul
 mul-srnd f nan y p q r = absurd p
 mul-srnd f (inf s) y p q r = absurd p

@@ -4,7 +4,7 @@ use mathlib.Core.Path.{_≡_, refl, sym, ap, ap₂, _∙_}
 use Prim.Native.Nat.{ℕ, zero, suc, _+_, _-_, _*_, _≤_, _<_}
 use native.Mathlib.Nat.{zero-mul, mul-zero, mul-one, one-mul, mul-pos, mul-assoc, mul-comm, mul-left-comm, zero-lt-suc}
 use native.Mathlib.Omega.{arith}
-use mathlib.Core.Bool.{Bool, true, false, not, _&&_, Bool·beq, cond}
+use mathlib.Core.Bool.{Bool, true, false, not, _&&_, Bool·beq, cond, and-true}
 use lib.Dec.{T, ltb, ltb→lt, nltb→le}
 use lib.Ieee.{Float, nan, inf, fin, Format, unlike, up, down, round, neg, sum, add, sub, mul}
 use lib.Ieee.Fits.{down-pos}
@@ -84,16 +84,12 @@ second-zero f s a t b c C z = go s t
     flat : a ≤ b → a ≡ 0
     flat h = omega arith
 
-    keep : (s : Bool) → s && true ≡ s
-    keep true = refl
-    keep false = refl
-
     apart : (s t : Bool) → Alike (cond (ltb a b) (round f t (b - a) c) (round f (s && ltb b a) (a - b) c)) (round f s a c)
     apart s t = pick (ltb a b) (ltb b a) (ltb→lt a b) (nltb→le b a)
       where
         pick : (p q : Bool) → (T p → a < b) → (T (not q) → a ≤ b) → Alike (cond p (round f t (b - a) c) (round f (s && q) (a - b) c)) (round f s a c)
         pick true q h k = absurd (none (h tt))
-        pick false true h k = ap strip (ap₂ (λ (r : Bool) (n : ℕ). round f r n c) (keep s) subs)
+        pick false true h k = ap strip (ap₂ (λ (r : Bool) (n : ℕ). round f r n c) (and-true s) subs)
         pick false false h k = round-zero f (s && false) (a - b) c C (subs ∙ flat (k tt)) ∙ sym (round-zero f s a c C (flat (k tt)))
 
     go : (s t : Bool) → Alike (cond (Bool·beq s t) (round f s (a + b) c) (cond (ltb a b) (round f t (b - a) c) (round f (s && ltb b a) (a - b) c))) (round f s a c)
@@ -144,7 +140,7 @@ add-like f {x} {x'} {y} {y'} p q = record { same = add-strip f x y ∙ ap₂ (λ
 pub mul-like : (f : Format) {x x' y y' : Float} → Like x x' → Like y y' → Like (mul f x y) (mul f x' y')
 mul-like f {x} {x'} {y} {y'} p q = record { same = mul-strip f x y ∙ ap₂ (λ (a b : Float). strip (mul f a b)) (p .same) (q .same) ∙ sym (mul-strip f x' y') }
 
-pub neg-strip : (x : Float) → strip (neg x) ≡ strip (neg (strip x))
+neg-strip : (x : Float) → strip (neg x) ≡ strip (neg (strip x))
 unfolding strip neg
 neg-strip nan = refl
 neg-strip (inf s) = refl

@@ -1,6 +1,6 @@
--- The code's literals, by their bits, are the floats of the definitions. Assumes nothing.
+-- The code's literals, by their bits, are the floats of the definitions; 0.0 / 0.0 is the NaN. Assumes nothing.
 use mathlib.Core.Path.{_≡_, refl}
-use lib.Ieee.{binary64, ofBits}
+use lib.Ieee.{nan, binary64, div, ofBits}
 use Rattle.float.specs.Number.{one-float, two-float}
 use Rattle.float.specs.Trig.{P}
 
@@ -15,3 +15,7 @@ two-bits = refl
 pub P-bits : ofBits binary64 0x4009_21fb_5444_2d18 ≡ P
 unfolding ofBits
 P-bits = refl
+
+pub nan-bits : div binary64 (ofBits binary64 0) (ofBits binary64 0) ≡ nan
+unfolding div ofBits
+nan-bits = refl

@@ -19,13 +19,13 @@ use lib.Ieee.Positive.{den, den-pos}
 use Rattle.float.specs.Laws.Le.{pl, mi, srnd, add-srnd}
 use Rattle.float.specs.Laws.Units.{Is, Is-alike, Is-neg, plus-Is, spread, mul-srnd', mul-value, sum-eq}
 
--- ---- the nearest whole number is within a half
-abbrev Cmp : Ordering → ℕ → ℕ → Type 0
+-- ---- what `compare` answers
+abbrev pub Cmp : Ordering → ℕ → ℕ → Type 0
 Cmp Ordering·lt a b = a < b
 Cmp Ordering·eq a b = a ≡ b
 Cmp Ordering·gt a b = b < a
 
-cmp : (a b : ℕ) → Cmp (compare a b) a b
+pub cmp : (a b : ℕ) → Cmp (compare a b) a b
 cmp a b = go (compare a b) (leb→le a b) (nleb→lt a b) (eqb→eq a b) (λ (e : a ≡ b). subst (λ (x : ℕ). T (eqb a x)) e (eqb-refl a))
   where
     go : (o : Ordering) → (T (isLe o) → a ≤ b) → (T (not (isLe o)) → b < a) → (T (isEq o) → a ≡ b) → (a ≡ b → T (isEq o)) → Cmp o a b
@@ -33,6 +33,7 @@ cmp a b = go (compare a b) (leb→le a b) (nleb→lt a b) (eqb→eq a b) (λ (e 
     go Ordering·eq h k e n = e tt
     go Ordering·gt h k e n = k tt
 
+-- ---- the nearest whole number is within a half
 bit : (w : ℕ) → w % 2 ≤ 1
 bit w = omega arith
 
@@ -57,7 +58,7 @@ closest-le p t Z h =
     le-trans (lib.Ieee.Fits.nearest-le (Z / 2 ^ t) (compare (Z % 2 ^ t * 2) (2 ^ t))) (div-lt-iff-lt-mul (pow-pos t) .1 (subst (λ (z : ℕ). Z < z) (pow-add 2 p t) h))
 
 -- ---- the digits that are dropped
-size-gt : (n j : ℕ) → 2 ^ j ≤ n → j < size n
+pub size-gt : (n j : ℕ) → 2 ^ j ≤ n → j < size n
 size-gt n j h = lt-of-not-le (λ (g : size n ≤ j). not-le-of-lt (lt-of-lt-of-le (size-lt n) (pow-mono g)) h)
 
 pin : (z p t i : ℕ) → 0 < p → z ≤ p + t + i → p - 1 + t + i < z → z - p ≡ t + i

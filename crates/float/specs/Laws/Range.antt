@@ -1,6 +1,6 @@
 -- What a finite value in a range is: from the code's tests to `Within`. Assumes nothing.
 use mathlib.Core.Path.{_≡_, sym, subst}
-use mathlib.Core.Bool.{Bool, true, false, not, _||_, cond, false≢true}
+use mathlib.Core.Bool.{Bool, true, false, not, cond, false≢true}
 use Prim.Native.Nat.{ℕ, _+_, _*_, _≤_}
 use native.Mathlib.Nat.{zero-mul}
 use native.Mathlib.Omega.{arith}
@@ -10,7 +10,7 @@ use lib.Ieee.{Float, nan, inf, fin, up, down, below, lt, eq, le}
 use lib.Ieee.Scale.{finite}
 use lib.Ieee.Positive.{num}
 use Rattle.float.specs.Number.{abs}
-use Rattle.float.specs.Laws.Le.{pl, mi, Le, le→Le, plain}
+use Rattle.float.specs.Laws.Le.{pl, mi, Le, le→Le, plain, or-l}
 use Rattle.float.specs.Laws.Within.{Within}
 
 -- one product a side
@@ -21,7 +21,7 @@ is : (x y : Float) → le x y ≡ true → T (le x y)
 is x y h = subst T (sym h) tt
 
 -- a magnitude at most B, and at least B
-pub under : (B : Float) (m : ℕ) (e : ℤ) → T (finite B) → T (plain B) → le (fin false m e) B ≡ true → Within B (fin false m e)
+under : (B : Float) (m : ℕ) (e : ℤ) → T (finite B) → T (plain B) → le (fin false m e) B ≡ true → Within B (fin false m e)
 under nan m e p q h = absurd p
 under (inf s) m e p q h = absurd p
 under (fin true n d) m e p q h = absurd q
@@ -44,10 +44,6 @@ within-abs {x = inf s} h = absurd (h .real)
 within-abs {x = fin s m e} h = record { real = tt; size = h .size }
 
 -- ---- the two ways of a test x < y
-or-l : (a b : Bool) → T a → T (a || b)
-or-l true b t = tt
-or-l false b t = absurd t
-
 pub lt→Le : (x y : Float) → T (finite x) → T (finite y) → T (lt x y) → Le x y
 unfolding le
 lt→Le x y p q h = le→Le x y p q (or-l (lt x y) (eq x y) h)

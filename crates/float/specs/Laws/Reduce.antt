@@ -63,7 +63,7 @@ abbrev test : ℤ → Bool
 test k = allb (tests k)
 
 -- x·I + 0.5 grows with x
-pub quad-mono : {x y : Float} → T (finite (mul binary64 x I)) → T (finite (mul binary64 y I)) → Le x y → T (le (quad x) (quad y))
+quad-mono : {x y : Float} → T (finite (mul binary64 x I)) → T (finite (mul binary64 y I)) → Le x y → T (le (quad x) (quad y))
 quad-mono {x} {y} p q h = add-mono binary64 (le→Le (mul binary64 x I) (mul binary64 y I) p q (mul-mono-by binary64 I tt tt h)) (Le-refl half tt)
 
 test-sound : (k : ℤ) (x : Float) → T (test k) → T (finite x) → T (finite (mul binary64 x I)) → T (finite (quad x)) → Floor (quad x) k → Within R (reduced k x)
@@ -91,7 +91,7 @@ test-sound k x t p p1 p2 fl =
 
 -- ---- |k| ≤ 20
 -- x·I + 0.5 for |x| ≤ 32 lies between -159/8 and 167/8
-pub quad-in : (x : Float) → Within widest x → In (fin true 159 (negsuc 2)) (fin false 167 (negsuc 2)) (quad x)
+quad-in : (x : Float) → Within widest x → In (fin true 159 (negsuc 2)) (fin false 167 (negsuc 2)) (quad x)
 unfolding neg add mul le
 quad-in x h = in-wider (fin true 159 (negsuc 2)) (fin false 167 (negsuc 2)) tt (add-in binary64 tt (mul-in-by binary64 I tt tt (within-in tt tt h)) (in-self half tt))
 

@@ -138,7 +138,7 @@ kept-under p v w β j P s h g = go (leb (size w - p) j) (leb→le (size w - p) j
     go false a b = let l = below-all p w β j P s (b tt) in absurd (lt-irrefl w (lt-of-le-of-lt h (lt-of-lt-of-le (l .0) (l .1))))
 
 -- ---- the rounded root of v units: b units at most where v ≤ b * b
-pub rootOf-under : (f : Format) (v : ℕ) (B : Float) (h : Held f B) → v ≤ h .β * 2 ^ h .j * (h .β * 2 ^ h .j) → Within B (rootOf f v)
+rootOf-under : (f : Format) (v : ℕ) (B : Float) (h : Held f B) → v ≤ h .β * 2 ^ h .j * (h .β * 2 ^ h .j) → Within B (rootOf f v)
 unfolding rootOf
 rootOf-under f v B h l =
     let w = whole v in
@@ -167,7 +167,7 @@ units-at f b q k r l = go (ltb (q * 2 ^ k) (overflow f)) r
     go true r = record { g = q * 2 ^ k; is = value-cross (odd (suc (prec f)) false q k (low f)) false (q * 2 ^ k) (2 ^ low f) (odd-sign (suc (prec f)) false q k (low f)); ge = l }
     go false r = absurd r
 
-pub rootOf-at : (f : Format) (β j v : ℕ) → β < 2 ^ prec f → β * 2 ^ j * (β * 2 ^ j) ≤ v → T (finite (rootOf f v)) → AtLeast f (rootOf f v) (β * 2 ^ j)
+rootOf-at : (f : Format) (β j v : ℕ) → β < 2 ^ prec f → β * 2 ^ j * (β * 2 ^ j) ≤ v → T (finite (rootOf f v)) → AtLeast f (rootOf f v) (β * 2 ^ j)
 unfolding rootOf
 rootOf-at f β j v s h r =
     let w = whole v in
@@ -270,7 +270,7 @@ rootOf-plain : (f : Format) (v : ℕ) → T (plain (rootOf f v))
 unfolding rootOf
 rootOf-plain f v = let k = size (whole v) - prec f in units-plain f (kept v (whole v / 2 ^ k) k) k
 
-pub sqrt-plain : (v : Float) → T (plain v) → T (plain (sqrt binary64 v))
+sqrt-plain : (v : Float) → T (plain v) → T (plain (sqrt binary64 v))
 unfolding sqrt
 sqrt-plain nan p = absurd p
 sqrt-plain (inf true) p = absurd p
@@ -279,7 +279,7 @@ sqrt-plain (fin true m e) p = absurd p
 sqrt-plain (fin false zero e) p = tt
 sqrt-plain (fin false (suc m) e) p = rootOf-plain binary64 (suc m * up e * 2 ^ 1074 * 2 ^ 1074 / down e)
 
-pub plus-plain : (v : Float) → Le zero-float v → 0 < num v → T (plain v)
+plus-plain : (v : Float) → Le zero-float v → 0 < num v → T (plain v)
 plus-plain nan p z = absurd (p .second)
 plus-plain (inf s) p z = absurd (p .second)
 plus-plain (fin true m e) p z = absurd (lt-irrefl 0 (lt-of-lt-of-le z (le-of-eq (minus-zero m e p))))
@@ -294,7 +294,7 @@ sqrt-ge v t h =
 
 -- ---- normalizing: x over the root of a sum of squares that is no less than x's own rounded square
 -- a rounded fraction of 2 ^ t units at least is 2 ^ t units at least
-pub grid-ge : (f : Format) (a c t : ℕ) → 0 < c → 2 ^ t * c ≤ a * 2 ^ low f → 2 ^ t ≤ grid f a c
+grid-ge : (f : Format) (a c t : ℕ) → 0 < c → 2 ^ t * c ≤ a * 2 ^ low f → 2 ^ t ≤ grid f a c
 grid-ge f a c t C h =
     let n = a * 2 ^ low f in
     let w = n / c in

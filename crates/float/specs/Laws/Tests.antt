@@ -1,6 +1,6 @@
 -- The tests of code in the words of the definitions: the sign's bit, `<` and `==` beside the total order, and `x != x`. Assumes nothing.
 use mathlib.Core.Path.{_≡_, refl, sym, ap, subst, _∙_}
-use mathlib.Core.Bool.{Bool, true, false, not, _||_, cond}
+use mathlib.Core.Bool.{Bool, true, false, not, _||_, cond, Bool·not-not}
 use Prim.Native.Nat.{ℕ, zero, suc, _+_, _*_, _/_, _%_, _^_, _<_}
 use native.Mathlib.Omega.{arith}
 use borrow.Author.Tests.{ne-eqb}
@@ -8,6 +8,7 @@ use lib.Dec.{T, leb, eqb, ltb→lt, eqb-refl}
 use lib.Ieee.{Float, nan, inf, fin, Format, binary64, lt, eq, ne, isNan, up, down, below, level, fits, prec, low, ones, hid, top, odd, ofFields, toBits, ofBits}
 use lib.Ieee.Bits.{is-true, ofBits-toBits}
 use lib.Ieee.Compare.{differs-from-itself}
+use lib.Ieee.Scale.{finite}
 use Rattle.float.specs.Number.{total-le, negative}
 use Rattle.float.specs.Laws.Total.{apart, total-le-eq, eq-comm, eq-both}
 
@@ -57,7 +58,7 @@ lt-not-eq (fin s m e) (fin t n d) h = go s t (m * up e * down d) (n * up d * dow
     go true false a b h = apart a b (ltb→lt 0 (a + b) h)
     go true true a b h = let l : b < a = ltb→lt b a h in simp (ne-eqb a b (omega arith))
 
-pub lt-numbers : (x y : Float) → T (lt x y) → T (not (isNan x)) × T (not (isNan y))
+lt-numbers : (x y : Float) → T (lt x y) → T (not (isNan x)) × T (not (isNan y))
 unfolding lt isNan
 lt-numbers nan y h = absurd h
 lt-numbers (inf s) nan h = absurd h
@@ -66,6 +67,12 @@ lt-numbers (inf s) (fin t n d) h = (tt, tt)
 lt-numbers (fin s m e) nan h = absurd h
 lt-numbers (fin s m e) (inf t) h = (tt, tt)
 lt-numbers (fin s m e) (fin t n d) h = (tt, tt)
+
+pub finite-number : (x : Float) → T (finite x) → T (not (isNan x))
+unfolding isNan
+finite-number nan p = absurd p
+finite-number (inf s) p = tt
+finite-number (fin s m e) p = tt
 
 -- only NaN does not equal itself
 pub eq-self : (x : Float) → eq x x ≡ not (isNan x)
@@ -100,11 +107,7 @@ total-le-unequal x y b e l = simp (e, l)
 
 pub ne-self : (x : Float) → ne x x ≡ isNan x
 unfolding ne
-ne-self x = ap not (eq-self x) ∙ not-not (isNan x)
-  where
-    not-not : (b : Bool) → not (not b) ≡ b
-    not-not true = refl
-    not-not false = refl
+ne-self x = ap not (eq-self x) ∙ Bool·not-not (isNan x)
 
 -- `x != x` fails of numbers alone
 pub number-of : (x : Float) → ne x x ≡ false → T (not (isNan x))

@@ -54,7 +54,7 @@ either : (b c : Bool) → cond b c c ≡ c
 either true c = refl
 either false c = refl
 
-pub total-le-fin : (B X Y : ℕ) (s t : Bool) → X ≤ B → Y ≤ B → cond (level s X t Y) (s || not t) (below s X t Y || false) ≡ leb (at B s X) (at B t Y)
+total-le-fin : (B X Y : ℕ) (s t : Bool) → X ≤ B → Y ≤ B → cond (level s X t Y) (s || not t) (below s X t Y || false) ≡ leb (at B s X) (at B t Y)
 total-le-fin B X Y false false hx hy = elim (stand X Y) [
   | less h ↦ simp (ne-eqb X Y (off X Y h), lt-ltb X Y h, le-leb (B + 2 + X) (B + 2 + Y) (omega arith))
   | same e ↦ simp (eq-eqb X Y e, le-leb (B + 2 + X) (B + 2 + Y) (omega arith))
@@ -101,7 +101,7 @@ eq-fin B X Y false true hx hy = elim (decLt 0 (X + Y)) [
 
 -- ---- a common factor k changes no test
 module _ (a b k : ℕ) (K : 0 < k) where
-  pub ltb-scale : ltb a b ≡ ltb (a * k) (b * k)
+  ltb-scale : ltb a b ≡ ltb (a * k) (b * k)
   ltb-scale = elim (decLt a b) [
     | yes h ↦ lt-ltb a b h ∙ sym (lt-ltb (a * k) (b * k) (mul-lt-mul-of-pos-right h K))
     | no h ↦ le-ltb a b (omega arith) ∙ sym (le-ltb (a * k) (b * k) (mul-le-mul-right k (omega arith)))
@@ -114,7 +114,7 @@ module _ (a b k : ℕ) (K : 0 < k) where
     | more h ↦ ne-eqb a b (off' a b h) ∙ sym (ne-eqb (a * k) (b * k) (off' (a * k) (b * k) (mul-lt-mul-of-pos-right h K)))
   ]
 
-pub below-scale : (s t : Bool) (a b k : ℕ) → 0 < k → below s a t b ≡ below s (a * k) t (b * k)
+below-scale : (s t : Bool) (a b k : ℕ) → 0 < k → below s a t b ≡ below s (a * k) t (b * k)
 below-scale false false a b k K = ltb-scale a b k K
 below-scale false true a b k K = refl
 below-scale true false a b k K = ltb-scale 0 (a + b) k K ∙ simp (zero-mul, add-mul)
@@ -321,7 +321,7 @@ pub eq-trans : (x y z : Float) → T (eq x y) → T (eq y z) → T (eq x z)
 eq-trans x y z p q = eq-trans′ y z x p q
 
 -- ---- tests
-pub bool-ext : (a b : Bool) → (T a → T b) → (T b → T a) → a ≡ b
+bool-ext : (a b : Bool) → (T a → T b) → (T b → T a) → a ≡ b
 bool-ext true true f g = refl
 bool-ext true false f g = absurd (f tt)
 bool-ext false true f g = absurd (g tt)
@@ -350,7 +350,7 @@ bits-same s t m e n d p q =
     (mul-right-comm (m * up e) l (down d) ∙ ap (λ (k : ℕ). k * l) q ∙ mul-right-comm (n * up d) (down e) l) in
     λ i. cond (p i) (top binary64) 0 + (size (r i) - 53) * hid binary64 + r i / 2 ^ (size (r i) - 53)
 
-pub eq-same : (x y : Float) → T (fits binary64 x) → T (fits binary64 y) → T (eq x y) → negative x ≡ negative y → x ≡ y
+eq-same : (x y : Float) → T (fits binary64 x) → T (fits binary64 y) → T (eq x y) → negative x ≡ negative y → x ≡ y
 unfolding eq
 eq-same nan y fx fy h n = absurd h
 eq-same (inf s) nan fx fy h n = absurd h

@@ -15,6 +15,7 @@ use lib.Ieee.Scale.{round-same, finite}
 use lib.Ieee.Positive.{den, den-pos}
 use Rattle.float.specs.Laws.Sign.{strip, Alike}
 use Rattle.float.specs.Laws.Le.{pl, mi, Le, srnd, signed-pos, signed-neg, add-srnd, neg-finite}
+use Rattle.float.specs.Laws.Like.{zero-l}
 
 pub record Is (f : Format) (x : Float) (p n i : ℕ) : Type 0 where
   pub real : T (finite x)
@@ -104,7 +105,7 @@ spread a b u p n w h k e =
     omega arith
 
 -- b ≤ a gives n ≤ p
-pub follow : (a b u p n w : ℕ) → 0 < w → b ≤ a → a * u + n * w ≡ p * w + b * u → n ≤ p
+follow : (a b u p n w : ℕ) → 0 < w → b ≤ a → a * u + n * w ≡ p * w + b * u → n ≤ p
 follow a b u p n w W h e =
     let s : b * u ≤ a * u = mul-le-mul-right u h in
     let t : n * w ≤ p * w = omega arith in
@@ -113,12 +114,6 @@ follow a b u p n w W h e =
 pub srnd-exact : (f : Format) (a b c p n i : ℕ) → 0 < c → Roomy f i → p < n + 2 ^ prec f → n < p + 2 ^ prec f → a * 2 ^ low f + n * 2 ^ i * c ≡ p * 2 ^ i * c + b * 2 ^ low f → Is f (srnd f a b c) p n i
 srnd-exact f a b c p n i C r x y e = go (leb b a) (leb→le b a) (nleb→lt b a)
   where
-    u : ℕ
-    u = 2 ^ low f
-
-    w : ℕ
-    w = 2 ^ i * c
-
     ww : 0 < 2 ^ i * c
     ww = mul-pos (pow-pos i) C
 
@@ -146,9 +141,6 @@ srnd-exact f a b c p n i C r x y e = go (leb b a) (leb→le b a) (nleb→lt b a)
         minus-Is f (round f true (b - a) c) (b - a) c (n - p) p n i C (round-exact f true (b - a) c (n - p) i C (less n p l y) (fine f (n - p) i (less n p l y) r) s) s (back n p l)
 
 -- ---- the sign of a zero does not matter
-none : (u v : ℕ) → 0 * u * v ≡ 0
-none u v = ap (λ (z : ℕ). z * v) (zero-mul u) ∙ zero-mul v
-
 zero-is : (p n w d a b : ℕ) → 0 < d → a ≡ 0 → b ≡ 0 → a + n * w * d ≡ p * w * d + b → n * w ≡ p * w
 zero-is p n w d a b D x y e = eq-of-mul-eq-mul-right d D (n * w) (p * w) (omega arith)
 
@@ -157,10 +149,10 @@ unfolding strip
 strip-Is f nan p n i k = k
 strip-Is f (inf s) p n i k = k
 strip-Is f (fin true zero e) p n i k =
-    let h : n * 2 ^ i ≡ p * 2 ^ i = zero-is p n (2 ^ i) (down e) (0 * 2 ^ low f) (0 * up e * 2 ^ low f) (down-pos e) (zero-mul (2 ^ low f)) (none (up e) (2 ^ low f)) (k .value) in
+    let h : n * 2 ^ i ≡ p * 2 ^ i = zero-is p n (2 ^ i) (down e) (0 * 2 ^ low f) (0 * up e * 2 ^ low f) (down-pos e) (zero-mul (2 ^ low f)) (zero-l (up e) (2 ^ low f)) (k .value) in
     record { real = tt; value = omega arith }
 strip-Is f (fin false zero e) p n i k =
-    let h : n * 2 ^ i ≡ p * 2 ^ i = zero-is p n (2 ^ i) (down e) (0 * up e * 2 ^ low f) (0 * 2 ^ low f) (down-pos e) (none (up e) (2 ^ low f)) (zero-mul (2 ^ low f)) (k .value) in
+    let h : n * 2 ^ i ≡ p * 2 ^ i = zero-is p n (2 ^ i) (down e) (0 * up e * 2 ^ low f) (0 * 2 ^ low f) (down-pos e) (zero-l (up e) (2 ^ low f)) (zero-mul (2 ^ low f)) (k .value) in
     record { real = tt; value = omega arith }
 strip-Is f (fin s (suc m) e) p n i k = k
 
@@ -171,12 +163,12 @@ unstrip-Is f (inf s) p n i k = k
 unstrip-Is f (fin true zero e) p n i k =
     let h : n * 2 ^ i ≡ p * 2 ^ i = zero-is p n (2 ^ i) 1 (0 * 2 ^ low f) (0 * 2 ^ low f) (zero-lt-suc 0) (zero-mul (2 ^ low f)) (zero-mul (2 ^ low f)) (k .value) in
     let g : n * 2 ^ i * down e ≡ p * 2 ^ i * down e = ap (λ (z : ℕ). z * down e) h in
-    let z : 0 * up e * 2 ^ low f ≡ 0 = none (up e) (2 ^ low f) in
+    let z : 0 * up e * 2 ^ low f ≡ 0 = zero-l (up e) (2 ^ low f) in
     record { real = tt; value = omega arith }
 unstrip-Is f (fin false zero e) p n i k =
     let h : n * 2 ^ i ≡ p * 2 ^ i = zero-is p n (2 ^ i) 1 (0 * 2 ^ low f) (0 * 2 ^ low f) (zero-lt-suc 0) (zero-mul (2 ^ low f)) (zero-mul (2 ^ low f)) (k .value) in
     let g : n * 2 ^ i * down e ≡ p * 2 ^ i * down e = ap (λ (z : ℕ). z * down e) h in
-    let z : 0 * up e * 2 ^ low f ≡ 0 = none (up e) (2 ^ low f) in
+    let z : 0 * up e * 2 ^ low f ≡ 0 = zero-l (up e) (2 ^ low f) in
     record { real = tt; value = omega arith }
 unstrip-Is f (fin s (suc m) e) p n i k = k
 

@@ -3,13 +3,13 @@
 -- For numerals X, Y, B each test is closed, so `tt` proves it by computation. Assumes nothing.
 use mathlib.Core.Path.{_≡_, refl, sym, ap, ap₂, _∙_, subst}
 use Prim.Native.Nat.{ℕ, zero, suc, _+_, _-_, _*_, _%_, _^_, _≤_, _<_}
-use native.Mathlib.Nat.{le-trans, le-of-eq, lt-of-lt-of-le, lt-of-le-of-lt, zero-mul, mul-one, one-mul, mul-pos, mul-assoc, mul-comm, mul-left-comm, mul-right-comm, add-mul, mul-sub, zero-lt-suc, lt-irrefl, le-of-mul-le-mul-right, mul-le-mul-right, mul-le-mul, mul-lt-mul-of-pos-right, lt-of-mul-lt-mul-right}
+use native.Mathlib.Nat.{le-trans, le-of-eq, lt-of-lt-of-le, lt-of-le-of-lt, zero-mul, mul-one, one-mul, mul-pos, mul-assoc, mul-comm, mul-left-comm, mul-right-comm, add-mul, mul-sub, zero-lt-suc, lt-irrefl, le-of-mul-le-mul-right, mul-le-mul-right, mul-le-mul, mul-lt-mul-of-pos-right, lt-of-mul-lt-mul-right, sub-add-cancel, add-le-add, le-of-lt, mod-lt}
 use native.Mathlib.Omega.{arith}
 use mathlib.Core.Bool.{Bool, true, false, not, _&&_, Bool·beq, cond}
 use lib.IntN.{ℤ, pos, negsuc}
 use lib.Dec.{T, ltb, eqb, leb, ltb→lt, lt→ltb, leb→le, le→leb, nleb→lt, eqb→eq}
 use lib.Pow.{pow-add, pow-pos, pow-lt}
-use lib.Ieee.{Float, nan, inf, fin, Format, prec, emax, low, unlike, up, down, round, neg, sum, add, sub, mul, div, le, fits}
+use lib.Ieee.{Float, nan, inf, fin, Format, prec, emax, low, unlike, up, down, round, neg, sum, add, sub, mul, div, le, fits, rem}
 use lib.Ieee.Fits.{down-pos, and-l, and-r, and-i}
 use lib.Ieee.Exact.{HasValue, round-exact}
 use lib.Ieee.Order.{round-mono}
@@ -66,14 +66,11 @@ drop-pow k l h = go (leb k l) (leb→le k l) (nleb→lt k l)
     go true p q = p tt
     go false p q = absurd (lt-irrefl (2 ^ l) (lt-of-lt-of-le (pow-lt (q tt)) h))
 
-gap : (k l : ℕ) → k ≤ l → l - k + k ≡ l
-gap k l h = omega arith
-
 pub shift : (e : ℤ) (l : ℕ) → down e ≤ 2 ^ l → (j : ℕ) × (up e * 2 ^ l ≡ 2 ^ j * down e)
 shift (pos k) l h = (l + k, mul-comm (2 ^ k) (2 ^ l) ∙ sym (pow-add 2 l k) ∙ sym (mul-one (2 ^ (l + k))))
 shift (negsuc k) l h =
     let q : suc k ≤ l = drop-pow (suc k) l h in
-    (l - suc k, one-mul (2 ^ l) ∙ sym (ap (λ (z : ℕ). 2 ^ z) (gap (suc k) l q)) ∙ pow-add 2 (l - suc k) (suc k))
+    (l - suc k, one-mul (2 ^ l) ∙ sym (ap (λ (z : ℕ). 2 ^ z) (sub-add-cancel q)) ∙ pow-add 2 (l - suc k) (suc k))
 
 -- such a value as a number of units, β * 2 ^ j
 pub record Held (f : Format) (x : Float) : Type 0 where
@@ -138,7 +135,7 @@ plain-Le x y p q h =
     omega arith
 
 -- what lies below a finite value is finite, if it has no minus sign
-plain-finite : (x y : Float) → T (plain x) → T (finite y) → T (le x y) → T (finite x)
+pub plain-finite : (x y : Float) → T (plain x) → T (finite y) → T (le x y) → T (finite x)
 unfolding le
 plain-finite nan y p q h = absurd p
 plain-finite (inf true) y p q h = absurd p
@@ -216,7 +213,7 @@ numeral-beyond B x t = record { real = and-l (finite x) (leb (num B * den x) (nu
 abbrev pub addTest : Format → Float → Float → Float → Bool
 addTest f X Y B = held f B && leb ((num X * den Y + num Y * den X) * den B) (num B * (den X * den Y))
 
-pub sum-within : (f : Format) (s : Bool) (a : ℕ) (t : Bool) (b c : ℕ) (B : Float) → 0 < c → T (held f B) → (a + b) * den B ≤ num B * c → Within B (sum f s a t b c)
+sum-within : (f : Format) (s : Bool) (a : ℕ) (t : Bool) (b c : ℕ) (B : Float) → 0 < c → T (held f B) → (a + b) * den B ≤ num B * c → Within B (sum f s a t b c)
 unfolding sum
 sum-within f s a t b c B C h k = pick (Bool·beq s t) (ltb a b)
   where
@@ -232,10 +229,10 @@ sum-within f s a t b c B C h k = pick (Bool·beq s t) (ltb a b)
     pick false false = round-within f (s && ltb b a) (a - b) c B C h (le-trans (mul-le-mul-right (den B) two) k)
 
 -- x ≤ X / p', y ≤ Y / q' and X + Y ≤ B, as fractions
-pub add-bound : (x p y q X P Y Q B D : ℕ) → 0 < P → 0 < Q → x * P ≤ X * p → y * Q ≤ Y * q → (X * Q + Y * P) * D ≤ B * (P * Q) → (x * q + y * p) * D ≤ B * (p * q)
+add-bound : (x p y q X P Y Q B D : ℕ) → 0 < P → 0 < Q → x * P ≤ X * p → y * Q ≤ Y * q → (X * Q + Y * P) * D ≤ B * (P * Q) → (x * q + y * p) * D ≤ B * (p * q)
 add-bound x p y q X P Y Q B D pp qq h k l =
     le-of-mul-le-mul-right
-    (le-trans (le-of-eq e1) (le-trans (mul-le-mul-right D (add-two h1 k1)) (le-trans (le-of-eq e2) (le-trans (mul-le-mul-right (p * q) l) (le-of-eq (mul-right-comm B (P * Q) (p * q)))))))
+    (le-trans (le-of-eq e1) (le-trans (mul-le-mul-right D (add-le-add h1 k1)) (le-trans (le-of-eq e2) (le-trans (mul-le-mul-right (p * q) l) (le-of-eq (mul-right-comm B (P * Q) (p * q)))))))
     (mul-pos pp qq)
   where
     h1 : x * P * (q * Q) ≤ X * p * (q * Q)
@@ -243,9 +240,6 @@ add-bound x p y q X P Y Q B D pp qq h k l =
 
     k1 : y * Q * (p * P) ≤ Y * q * (p * P)
     k1 = mul-le-mul-right (p * P) k
-
-    add-two : {a b c d : ℕ} → a ≤ b → c ≤ d → a + c ≤ b + d
-    add-two u v = omega arith
 
     e1 : (x * q + y * p) * D * (P * Q) ≡ (x * P * (q * Q) + y * Q * (p * P)) * D
     e1 = simp (add-mul, mul-assoc, mul-comm, mul-left-comm)
@@ -319,6 +313,9 @@ pos-of L R y q l Q h = go y h
     go zero h = absurd (lt-irrefl 0 (lt-of-lt-of-le (mul-pos l Q) (le-trans h (le-of-eq (zero-mul R)))))
     go (suc y) h = zero-lt-suc y
 
+pub not-none : (n : ℕ) (d : ℤ) → 0 < n * up d → n ≡ 0 → ⊥
+not-none n d h k = lt-irrefl 0 (subst (λ (v : ℕ). 0 < v) (ap (λ (v : ℕ). v * up d) k ∙ zero-mul (up d)) h)
+
 -- a quotient, from the exact sizes
 pub div-exact : (f : Format) (B x y : Float) → T (held f B) → T (finite x) → T (finite y) → 0 < num y → num x * den y * den B ≤ num B * (num y * den x) → Within B (div f x y)
 unfolding div
@@ -328,11 +325,8 @@ div-exact f B (fin s m e) nan t p q z h = absurd q
 div-exact f B (fin s m e) (inf r) t p q z h = absurd q
 div-exact f B (fin s m e) (fin r n d) t p q z h = go (eqb n 0) (eqb→eq n 0)
   where
-    gone : n ≡ 0 → ⊥
-    gone k = lt-irrefl 0 (subst (λ (v : ℕ). 0 < v) (ap (λ (v : ℕ). v * up d) k ∙ zero-mul (up d)) z)
-
     go : (b : Bool) → (T b → n ≡ 0) → Within B (cond b (cond (eqb m 0) nan (inf (unlike s r))) (round f (unlike s r) (m * up e * down d) (n * up d * down e)))
-    go true k = absurd (gone (k tt))
+    go true k = absurd (not-none n d z (k tt))
     go false k = round-within f (unlike s r) (m * up e * down d) (n * up d * down e) B (mul-pos z (down-pos e)) t h
 
 pub div-within : (f : Format) (B : Float) {X L x y : Float} → T (divTest f X L B) → Within X x → Beyond L y → Within B (div f x y)
@@ -454,3 +448,21 @@ beyond→Le {B = fin false m e} {x = nan} p q r h = absurd r
 beyond→Le {B = fin false m e} {x = inf s} p q r h = absurd (h .real)
 beyond→Le {B = fin false m e} {x = fin true n d} p q r h = absurd r
 beyond→Le {B = fin false m e} {x = fin false n d} p q r h = record { first = tt; second = tt; cross = let k = h .size in omega arith }
+
+-- ---- a remainder is no larger than its divisor
+rem-size : (a b n d e : ℕ) → 0 < b → b ≡ n * e → a % b * d ≤ n * (e * d)
+rem-size a b n d e B h = le-trans (mul-le-mul-right d (le-of-lt (mod-lt a B))) (le-of-eq (ap (λ (z : ℕ). z * d) h ∙ mul-assoc n e d))
+
+pub rem-within : (f : Format) (x y : Float) → T (held f y) → T (finite x) → 0 < num y → Within y (rem f x y)
+unfolding rem
+rem-within f x nan t p h = absurd t
+rem-within f x (inf u) t p h = absurd t
+rem-within f nan (fin u n d) t p h = absurd p
+rem-within f (inf s) (fin u n d) t p h = absurd p
+rem-within f (fin s m e) (fin u n d) t p h = go (eqb n 0) (eqb→eq n 0)
+  where
+    go : (b : Bool) → (T b → n ≡ 0) → Within (fin u n d) (cond b nan (round f s (m * up e * down d % (n * up d * down e)) (down e * down d)))
+    go true z = absurd (not-none n d h (z tt))
+    go false z =
+        round-within f s (m * up e * down d % (n * up d * down e)) (down e * down d) (fin u n d) (mul-pos (down-pos e) (down-pos d)) t
+        (rem-size (m * up e * down d) (n * up d * down e) (n * up d) (down d) (down e) (mul-pos h (down-pos e)) refl)

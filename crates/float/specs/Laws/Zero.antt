@@ -1,9 +1,9 @@
--- Sums at binary64 by cases, what rounds to zero, and the code's tests `x - x == 0.0` (x is finite) and `x == 0.0`. Assumes nothing.
+-- Sums at binary64 by cases and in either order, what rounds to zero, and the code's tests `x - x == 0.0` (x is finite) and `x == 0.0`. Assumes nothing.
 use mathlib.Core.Path.{_≡_, refl, sym, ap, _∙_, subst}
 use mathlib.Core.Logic.{_⊎_, inl, inr}
-use mathlib.Core.Bool.{Bool, true, false, not, _&&_, _||_, Bool·beq, cond, true≢false, false≢true}
-use Prim.Native.Nat.{ℕ, _+_, _-_, _*_, _<_}
-use native.Mathlib.Nat.{eq-zero-or-pos, zero-mul, mul-one, mul-pos, lt-irrefl, zero-lt-suc}
+use mathlib.Core.Bool.{Bool, true, false, not, _&&_, _||_, Bool·beq, cond, true≢false, false≢true, and-true, and-false}
+use Prim.Native.Nat.{ℕ, _+_, _-_, _*_, _<_, compare, Ordering, Ordering·lt, Ordering·eq, Ordering·gt}
+use native.Mathlib.Nat.{eq-zero-or-pos, zero-mul, mul-one, mul-pos, lt-irrefl, zero-lt-suc, add-comm}
 use native.Mathlib.Omega.{arith}
 use lib.IntN.{ℤ, pos}
 use lib.Dec.{T, ltb, eqb, eqb→eq}
@@ -11,6 +11,7 @@ use borrow.Author.Tests.{lt-ltb, le-ltb}
 use lib.Ieee.{Float, nan, inf, fin, binary64, up, down, round, sum, sub, eq, ne, level, ofBits}
 use lib.Ieee.Fits.{up-pos, down-pos}
 use lib.Ieee.Scale.{round-same, finite}
+use Rattle.float.specs.Laws.Near.{Cmp, cmp}
 
 -- ---- a zero
 round-none : (s : Bool) → round binary64 s 0 1 ≡ fin s 0 (pos 0)
@@ -33,14 +34,6 @@ module _ (s : Bool) (a : ℕ) (t : Bool) (b c : ℕ) where
   unfolding sum
   unlike-signs e = ap (λ (z : Bool). cond z (round binary64 s (a + b) c) (cond (ltb a b) (round binary64 t (b - a) c) (round binary64 (s && ltb b a) (a - b) c))) e
 
-  and-true : (z : Bool) → (z && true) ≡ z
-  and-true true = refl
-  and-true false = refl
-
-  and-false : (z : Bool) → (z && false) ≡ false
-  and-false true = refl
-  and-false false = refl
-
   pub sum-less : Bool·beq s t ≡ false → a < b → sum binary64 s a t b c ≡ round binary64 t (b - a) c
   sum-less e h = unlike-signs e ∙ ap (λ (z : Bool). cond z (round binary64 t (b - a) c) (round binary64 (s && ltb b a) (a - b) c)) (lt-ltb a b h)
 
@@ -56,6 +49,35 @@ module _ (s : Bool) (a : ℕ) (t : Bool) (b c : ℕ) where
       ∙ ap (λ (z : Bool). cond z (round binary64 t (b - a) c) (round binary64 (s && ltb b a) (a - b) c)) (le-ltb a b (omega arith))
       ∙ ap (λ (z : Bool). round binary64 z (a - b) c) (ap (λ (z : Bool). s && z) (le-ltb b a (omega arith)) ∙ and-false s)
       ∙ round-of-zero false (a - b) c C (omega arith)
+
+-- ---- the order of the two does not matter
+beq-comm : (s t : Bool) → Bool·beq s t ≡ Bool·beq t s
+beq-comm true true = refl
+beq-comm true false = refl
+beq-comm false true = refl
+beq-comm false false = refl
+
+beq-is : (s t : Bool) → Bool·beq s t ≡ true → s ≡ t
+beq-is true true e = refl
+beq-is true false e = sym e
+beq-is false true e = e
+beq-is false false e = refl
+
+pub sum-comm : (s : Bool) (a : ℕ) (t : Bool) (b c : ℕ) → 0 < c → sum binary64 s a t b c ≡ sum binary64 t b s a c
+sum-comm s a t b c C = go (Bool·beq s t) refl
+  where
+    apart : (o : Ordering) → Cmp o a b → Bool·beq s t ≡ false → sum binary64 s a t b c ≡ sum binary64 t b s a c
+    apart Ordering·lt h e = sum-less s a t b c e h ∙ sym (sum-more t b s a c (beq-comm t s ∙ e) h)
+    apart Ordering·eq h e = sum-none s a t b c C e h ∙ sym (sum-none t b s a c C (beq-comm t s ∙ e) (sym h))
+    apart Ordering·gt h e = sum-more s a t b c e h ∙ sym (sum-less t b s a c (beq-comm t s ∙ e) h)
+
+    go : (z : Bool) → Bool·beq s t ≡ z → sum binary64 s a t b c ≡ sum binary64 t b s a c
+    go true e =
+        sum-same-sign s a t b c e
+        ∙ ap (λ (z : Bool). round binary64 z (a + b) c) (beq-is s t e)
+        ∙ ap (λ (n : ℕ). round binary64 t n c) (add-comm a b)
+        ∙ sym (sum-same-sign t b s a c (beq-comm t s ∙ e))
+    go false e = apart (compare a b) (cmp a b) e
 
 -- ---- x - x is 0.0 where x is finite, and a NaN where it is not
 beq-not : (s : Bool) → Bool·beq s (not s) ≡ false

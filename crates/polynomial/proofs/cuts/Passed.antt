@@ -1,6 +1,6 @@
 -- When a value goes past another in a list of cuts, by the code's tests. Assumes nothing.
 use mathlib.Core.Path.{_≡_, refl, sym, ap, subst, _∙_}
-use mathlib.Core.Bool.{Bool, true, false, not, _||_}
+use mathlib.Core.Bool.{Bool, true, false, not, _||_, or-false}
 use borrow.Author.Tests.{not-true, not-false}
 use lib.Dec.{T}
 use lib.Ieee.{Float, lt, eq, ne, isNan}
@@ -20,10 +20,6 @@ unfolding passed
 passed-less w v e =
     let h : T (lt w v) = subst T (sym e) tt in
     simp (lt-before w v h, eq-comm v w ∙ lt-not-eq w v h)
-
-or-false : (b : Bool) → b || false ≡ b
-or-false true = refl
-or-false false = refl
 
 pub passed-nan : (w v : Float) → ne v v ≡ true → eq w w ≡ passed v w
 unfolding passed total-le eq lt

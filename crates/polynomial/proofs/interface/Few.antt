@@ -2,7 +2,7 @@
 use Prim.Native.Nat.{ℕ, _+_, _%_, _≤_, zero-le}
 use native.Mathlib.Omega.{arith}
 use mathlib.Core.Path.{_≡_, refl}
-use mathlib.Core.Bool.{Bool, true, false, _||_}
+use mathlib.Core.Bool.{Bool, true, false}
 use mathlib.Core.List.{List, [], _∷_}
 use lib.IntN.{natAbs}
 use lib.Dec.{ltb, leb, eqb, lit≤}
@@ -14,6 +14,7 @@ use Rattle.polynomial.specs.Operation.{pairs, bad-length, bounds-hold, p
 use Rattle.polynomial.specs.Laws.Enclosed.{all-most}
 use Rattle.polynomial.specs.declared.operation.Answer.{Answer}
 use Rattle.polynomial.specs.declared.operation.Answer.the-variants.{Count, BadLength, BadBounds, BadPart, ShortResult}
+use Rattle.polynomial.specs.Laws.Placed.{or-right}
 
 pairs-short : (s : List Float) → length (pairs s) + length (pairs s) ≤ length s
 unfolding pairs
@@ -28,14 +29,10 @@ pick-few : (b : Bool) (x y : Answer) → (b ≡ true → Few x) → (b ≡ false
 pick-few true x y f g = f refl
 pick-few false x y f g = g refl
 
-or-false : (a b : Bool) → (a || b) ≡ false → b ≡ false
-or-false true b h = absurd (let e : _≡_ {A = ℕ} 0 1 = cc in omega arith)
-or-false false b h = h
-
 module _ (s : List Float) (lower upper : Float) (room : ℕ) where
   few-roots : bad-length s ≡ false → length (roots (pairs s) lower upper) ≤ 509
   few-roots h =
-      let l = ltb-false 18 (length s) (or-false (eqb (length s % 2) 1) (ltb 18 (length s)) h) in
+      let l = ltb-false 18 (length s) (or-right (eqb (length s % 2) 1) (ltb 18 (length s)) h) in
       let k = pairs-short s in
       all-most lower upper 9 (pairs s) (omega arith)
 

@@ -2,16 +2,13 @@
 use Prim.Native.Nat.{ℕ, _+_, _≤_}
 use native.Mathlib.Nat.{le-refl, le-trans}
 use native.Mathlib.Omega.{arith}
-use mathlib.Core.Path.{_≡_, refl, sym, ap, ap₂, subst, subst₂, _∙_}
+use mathlib.Core.Path.{_≡_, refl, sym, ap, ap₂, subst₂, _∙_}
 use mathlib.Core.Bool.{Bool, true, false, _&&_}
 use mathlib.Core.List.{List, [], _∷_, _++_, append-nil, append-assoc}
-use lib.Dec.{T}
 use lib.ListN.{length, take, drop, length-take}
-use lib.Ieee.{Float, binary64, fits, neg}
-use lib.Ieee.Fits.{sub-fits}
-use Rattle.float.specs.Number.{_⊕_, middle, zero-float, one-float, rem-euclid}
+use lib.Ieee.{Float, neg}
+use Rattle.float.specs.Number.{middle, zero-float, one-float}
 use Rattle.float.specs.Trig.{P}
-use Rattle.polynomial.specs.Angle.{turn, wrapped-angle}
 use Rattle.polynomial.specs.Cuts.{cuts, put}
 use Rattle.polynomial.specs.Curve.{inner-holds, norm-polynomial, chart-angles, half-roots, half-holds, squared-norm-roots, squared-norm-holds}
 use Rattle.polynomial.specs.Norm.{squared-norm-answer, size, listed, put-all}
@@ -23,6 +20,8 @@ use Rattle.polynomial.specs.declared.norm.Inner.{Inner}
 use Rattle.polynomial.specs.declared.norm.Inner.the-variants.{Count, Refused}
 use Rattle.polynomial.specs.Laws.Cuts.{Fit, cuts-snoc, put-most, put-longer, fit-append}
 use Rattle.polynomial.specs.Laws.Norm.{angles-length, inner-few}
+use Rattle.polynomial.specs.Laws.Wrapped.{wrapped-fits}
+use Rattle.polynomial.specs.Laws.Inner.{inner-refused, inner-counted, call-list}
 use Rattle.polynomial.proofs.roots.Kept.{Front, front-take, front-rest}
 use Rattle.polynomial.proofs.norm.Bounded.{Answered}
 
@@ -46,10 +45,6 @@ unfolding put-all
 put-all-least [] l = le-refl (length l)
 put-all-least (v ∷ vs) l = le-trans (put-longer v l) (put-all-least vs (put v l))
 
-wrapped-fits : (a : Float) → T (fits binary64 (wrapped-angle a))
-unfolding wrapped-angle
-wrapped-fits a = sub-fits binary64 (rem-euclid (a ⊕ P) turn) P
-
 fit-angles : (o : Float) (us : List Float) → Fit (chart-angles o us)
 unfolding chart-angles
 fit-angles o [] = tt
@@ -57,16 +52,6 @@ fit-angles o (u ∷ us) = (wrapped-fits _, fit-angles o us)
 
 angles-room : (o : Float) (us l : List Float) (k : ℕ) → k ≡ length (put-all (chart-angles o us) l) → k ≤ length us + length l
 angles-room o us l k e = let a = put-all-most (chart-angles o us) l in let b = angles-length o us in omega arith
-
--- ---- what an answer says
-
-was-refused : (b : Bool) (n : ℕ) (r : Inner) → r ≡ pick b (Count n) Refused → r ≡ Refused → b ≡ false
-was-refused true n r e f = let z : _≡_ {A = ℕ} 0 1 = cc in absurd (omega arith)
-was-refused false n r e f = refl
-
-was-counted : (b : Bool) (n m : ℕ) (r : Inner) → r ≡ pick b (Count n) Refused → r ≡ Count m → (b ≡ true) × (m ≡ n)
-was-counted true n m r e f = (refl, cc)
-was-counted false n m r e f = let z : _≡_ {A = ℕ} 0 1 = cc in absurd (omega arith)
 
 -- ---- one half
 
@@ -89,20 +74,20 @@ module _ (x y : Harmonic) (norm lower upper : Float) where
       → Answered p (neg one) one r before last → Half r last
   half-of o one p r before last e q i a =
       let b = subst₂ (λ (s : List Compensated) (u : Float). Answered s (neg u) u r before last) (q ∙ ap (norm-polynomial x y norm) e) i a in
-      (b .0, λ n k. front-take found before last n (was-counted holds (length found) n r (b .0) k .1, subst (λ (s : Inner). last ≡ listed s found ++ drop (size s) before) k (b .1)))
+      (b .0, λ n k. call-list polynomial (neg one-float) one-float r (b .0) before last (b .1) n k)
 
   module _ (r : Inner) (last : List Float) (h : Half r last) where
     pub half-refused : r ≡ Refused → half-holds x y norm lower upper ≡ false
     unfolding half-holds
-    half-refused e = was-refused holds (length found) r (h .0) e
+    half-refused e = inner-refused holds (length found) r (h .0) e
 
     module _ (n : ℕ) (e : r ≡ Count n) where
       pub half-held : half-holds x y norm lower upper ≡ true
       unfolding half-holds
-      half-held = was-counted holds (length found) n r (h .0) e .0
+      half-held = inner-counted holds (length found) n r (h .0) e .0
 
       pub half-count : n ≤ 29
-      half-count = let a = inner-few x y norm (middle lower upper) (neg one-float) one-float in let b = was-counted holds (length found) n r (h .0) e .1 in omega arith
+      half-count = let a = inner-few x y norm (middle lower upper) (neg one-float) one-float in let b = inner-counted holds (length found) n r (h .0) e .1 in omega arith
 
       pub half-angles : (o : Float) → o ≡ middle lower upper → chart-angles o (take n last) ≡ half-roots x y norm lower upper
       unfolding half-roots

@@ -1,10 +1,11 @@
 -- Laws of `sort`, `dedup`, `cuts` and `put`. Those of `put` hold for every value, NaN included. Where values change places,
--- as in `cuts-perm`, they have to fit the format, so that values which `total_cmp` does not tell apart are one. Assumes nothing.
+-- as in `cuts-perm`, they have to fit the format, so that values which `total_cmp` does not tell apart are one.
+-- A list of cuts increases strictly, and a list that does is its own list of cuts. Assumes nothing.
 use mathlib.Core.Path.{_≡_, refl, sym, ap, subst, _∙_}
 use mathlib.Core.Bool.{Bool, true, false, not, cond}
 use mathlib.Core.List.{List, [], _∷_, _++_, List·Permᴰ, List·Permᴰ·nil, List·Permᴰ·cons, List·Permᴰ·swap, List·Permᴰ·trans, Permᴰ·symm, Permᴰ·middle, Permᴰ·append-nil}
 use lib.Dec.{T}
-use Prim.Native.Nat.{ℕ, zero, suc, _≤_}
+use Prim.Native.Nat.{ℕ, suc, _≤_}
 use native.Mathlib.Nat.{le-refl}
 use native.Mathlib.Omega.{arith}
 use lib.ListN.{length, drop}
@@ -12,6 +13,7 @@ use lib.Ieee.{Float, binary64, eq, fits, isNan}
 use lib.Ieee.Bits.{is-true}
 use Rattle.float.specs.Number.{total-le}
 use Rattle.polynomial.specs.Cuts.{ins, sort, rest, dedup, cuts, put}
+use Rattle.polynomial.specs.Laws.Lists.{All, all-append, all-right, all-drop}
 use Rattle.float.specs.Laws.Total.{total-le-total, total-le-trans, total-le-refl, total-le-antisym, eq-refl, between-low, eq-sym, eq-cong}
 
 -- ---- order
@@ -42,7 +44,7 @@ from-ins p v (y ∷ l) h f = go (total-le v y) refl (λ g. from-ins y v l g (f .
     go true b ih = rw b (h, (subst T (sym b) tt, f .1))
     go false b ih = rw b (f .0, ih (total-le-total v y b))
 
-pub sorted-ins : (v : Float) (l : List Float) → Sorted l → Sorted (ins v l)
+sorted-ins : (v : Float) (l : List Float) → Sorted l → Sorted (ins v l)
 unfolding ins
 sorted-ins v [] f = tt
 sorted-ins v (y ∷ l) f = go (total-le v y) refl
@@ -124,43 +126,50 @@ pub cuts-cons : (v : Float) (l : List Float) → cuts (v ∷ l) ≡ put v (cuts 
 unfolding cuts sort
 cuts-cons v l = dedup-ins v (sort l) (sorted-sort l)
 
--- ---- a list of cuts stays one
+-- ---- a list that increases strictly is its own list of cuts
 
-from-rest : (p : Float) (l : List Float) → From p l → From p (rest p l)
+abbrev pub Above : Float → List Float → Type 0
+Above p [] = Unit {0}
+Above p (y ∷ l) = T (total-le p y) × (eq y p ≡ false) × Above y l
+
+abbrev pub Strict : List Float → Type 0
+Strict [] = Unit {0}
+Strict (x ∷ l) = Above x l
+
+above-from : (p : Float) (l : List Float) → Above p l → From p l
+above-from p [] f = tt
+above-from p (y ∷ l) f = (f .0, above-from y l (f .2))
+
+rest-above : (p : Float) (l : List Float) → Above p l → rest p l ≡ l
 unfolding rest
-from-rest p [] f = tt
-from-rest p (y ∷ l) f = go (eq y p) refl (from-rest p l (from-lower p y l (f .0) (f .1))) (from-rest y l (f .1))
+rest-above p [] f = refl
+rest-above p (y ∷ l) f = rw (f .1) (ap (λ (r : List Float). y ∷ r) (rest-above y l (f .2)))
+
+pub cuts-strict : (l : List Float) → Strict l → cuts l ≡ l
+unfolding cuts dedup
+cuts-strict [] f = refl
+cuts-strict (x ∷ l) f = ap dedup (sort-sorted (x ∷ l) (above-from x l f)) ∙ ap (λ (r : List Float). x ∷ r) (rest-above x l f)
+
+above-rest : (p : Float) (l : List Float) → From p l → Above p (rest p l)
+unfolding rest
+above-rest p [] f = tt
+above-rest p (y ∷ l) f = go (eq y p) refl (above-rest p l (from-lower p y l (f .0) (f .1))) (above-rest y l (f .1))
   where
-    go : (b : Bool) → eq y p ≡ b → From p (rest p l) → From y (rest y l) → From p (rest p (y ∷ l))
+    go : (b : Bool) → eq y p ≡ b → Above p (rest p l) → Above y (rest y l) → Above p (rest p (y ∷ l))
     go true b i j = rw b i
-    go false b i j = rw b (f .0, j)
+    go false b i j = rw (b) (f .0, b, j)
 
-sorted-dedup : (l : List Float) → Sorted l → Sorted (dedup l)
+strict-dedup : (l : List Float) → Sorted l → Strict (dedup l)
 unfolding dedup
-sorted-dedup [] f = tt
-sorted-dedup (x ∷ l) f = from-rest x l f
+strict-dedup [] f = tt
+strict-dedup (x ∷ l) f = above-rest x l f
 
-pub sorted-cuts : (l : List Float) → Sorted (cuts l)
+pub strict-cuts : (l : List Float) → Strict (cuts l)
 unfolding cuts
-sorted-cuts l = sorted-dedup (sort l) (sorted-sort l)
-
-rest-rest : (p : Float) (l : List Float) → rest p (rest p l) ≡ rest p l
-unfolding rest
-rest-rest p [] = refl
-rest-rest p (y ∷ l) = go (eq y p) refl (rest-rest p l) (rest-rest y l)
-  where
-    go : (b : Bool) → eq y p ≡ b → rest p (rest p l) ≡ rest p l → rest y (rest y l) ≡ rest y l → rest p (rest p (y ∷ l)) ≡ rest p (y ∷ l)
-    go true b i j = rw b i
-    go false b i j = rw (b, b) (ap (λ (r : List Float). y ∷ r) j)
-
-dedup-dedup : (l : List Float) → dedup (dedup l) ≡ dedup l
-unfolding dedup
-dedup-dedup [] = refl
-dedup-dedup (x ∷ l) = ap (λ (r : List Float). x ∷ r) (rest-rest x l)
+strict-cuts l = strict-dedup (sort l) (sorted-sort l)
 
 pub cuts-cuts : (l : List Float) → cuts (cuts l) ≡ cuts l
-unfolding cuts
-cuts-cuts l = ap dedup (sort-sorted (cuts l) (sorted-cuts l)) ∙ dedup-dedup (sort l)
+cuts-cuts l = cuts-strict (cuts l) (strict-cuts l)
 
 -- ---- the length
 
@@ -190,7 +199,7 @@ module _ (v : Float) where
       go false b false h = omega arith
 
 -- more values, no fewer cuts
-pub cuts-longer : (a b : List Float) → length (cuts b) ≤ length (cuts (a ++ b))
+cuts-longer : (a b : List Float) → length (cuts b) ≤ length (cuts (a ++ b))
 cuts-longer [] b = le-refl (length (cuts b))
 cuts-longer (x ∷ a) b =
     let h = cuts-longer a b in
@@ -199,9 +208,11 @@ cuts-longer (x ∷ a) b =
 
 -- ---- values may change places, if they fit
 
+abbrev Fits : Float → Type 0
+Fits x = T (fits binary64 x)
+
 abbrev pub Fit : List Float → Type 0
-Fit [] = Unit {0}
-Fit (x ∷ l) = T (fits binary64 x) × Fit l
+Fit = All Fits
 
 two : (x y : Float) (l : List Float) → T (fits binary64 x) → T (fits binary64 y)
     → cond {A = List Float} (total-le x y) (x ∷ y ∷ l) (y ∷ x ∷ l) ≡ cond {A = List Float} (total-le y x) (y ∷ x ∷ l) (x ∷ y ∷ l)
@@ -253,12 +264,10 @@ unfolding cuts
 cuts-perm d f = ap dedup (sort-perm d f)
 
 pub fit-append : (a b : List Float) → Fit a → Fit b → Fit (a ++ b)
-fit-append [] b f g = g
-fit-append (x ∷ a) b f g = (f .0, fit-append a b (f .1) g)
+fit-append = all-append Fits
 
 pub fit-right : (a b : List Float) → Fit (a ++ b) → Fit b
-fit-right [] b f = f
-fit-right (x ∷ a) b f = fit-right a b (f .1)
+fit-right = all-right Fits
 
 pub perm-comm : (a b : List Float) → List·Permᴰ (a ++ b) (b ++ a)
 perm-comm [] b = Permᴰ·symm (Permᴰ·append-nil b)
@@ -273,20 +282,25 @@ cuts-right : (a b : List Float) → cuts (a ++ cuts b) ≡ cuts (a ++ b)
 cuts-right [] b = cuts-cuts b
 cuts-right (x ∷ a) b = cuts-cons x (a ++ cuts b) ∙ ap (put x) (cuts-right a b) ∙ sym (cuts-cons x (a ++ b))
 
-fit-put : (v : Float) (l : List Float) → T (fits binary64 v) → Fit l → Fit (put v l)
-unfolding put
-fit-put v [] h f = (h, tt)
-fit-put v (y ∷ l) h f = go (total-le v y) (eq y v) (eq v y) (fit-put v l h (f .1))
-  where
-    go : (a b c : Bool) → Fit (put v l) → Fit (cond a (cond b (v ∷ l) (v ∷ y ∷ l)) (cond c (y ∷ l) (y ∷ put v l)))
-    go true true c i = (h, f .1)
-    go true false c i = (h, f)
-    go false b true i = f
-    go false b false i = (f .0, i)
+-- what holds of all elements holds of all cuts
+module _ (P : Float → Type 0) where
+  all-put : (v : Float) (l : List Float) → P v → All P l → All P (put v l)
+  unfolding put
+  all-put v [] p h = (p, tt)
+  all-put v (y ∷ l) p h = go (total-le v y) (eq y v) (eq v y) (all-put v l p (h .1))
+    where
+      go : (a b c : Bool) → All P (put v l) → All P (cond a (cond b (v ∷ l) (v ∷ y ∷ l)) (cond c (y ∷ l) (y ∷ put v l)))
+      go true true c k = (p, h .1)
+      go true false c k = (p, h)
+      go false b true k = h
+      go false b false k = (h .0, k)
+
+  pub all-cuts : (l : List Float) → All P l → All P (cuts l)
+  all-cuts [] h = unfold cuts in tt
+  all-cuts (x ∷ l) h = rw (cuts-cons x l) (all-put x (cuts l) (h .0) (all-cuts l (h .1)))
 
 pub fit-cuts : (l : List Float) → Fit l → Fit (cuts l)
-fit-cuts [] f = unfold cuts in tt
-fit-cuts (x ∷ l) f = rw (cuts-cons x l) (fit-put x (cuts l) (f .0) (fit-cuts l (f .1)))
+fit-cuts = all-cuts Fits
 
 pub cuts-left : (a b : List Float) → Fit a → Fit b → cuts (cuts a ++ b) ≡ cuts (a ++ b)
 cuts-left a b f g =
@@ -298,55 +312,11 @@ pub cuts-longer-left : (a b : List Float) → Fit a → Fit b → length (cuts a
 cuts-longer-left a b f g = rw (cuts-perm (perm-comm a b) (fit-append a b f g)) (cuts-longer b a)
 
 pub fit-drop : (k : ℕ) (l : List Float) → Fit l → Fit (drop k l)
-fit-drop zero l f = f
-fit-drop (suc k) [] f = tt
-fit-drop (suc k) (x ∷ l) f = fit-drop k l (f .1)
-
--- ---- a list that increases strictly is its own list of cuts
-
-abbrev pub Above : Float → List Float → Type 0
-Above p [] = Unit {0}
-Above p (y ∷ l) = T (total-le p y) × (eq y p ≡ false) × Above y l
-
-abbrev pub Strict : List Float → Type 0
-Strict [] = Unit {0}
-Strict (x ∷ l) = Above x l
-
-above-from : (p : Float) (l : List Float) → Above p l → From p l
-above-from p [] f = tt
-above-from p (y ∷ l) f = (f .0, above-from y l (f .2))
-
-rest-above : (p : Float) (l : List Float) → Above p l → rest p l ≡ l
-unfolding rest
-rest-above p [] f = refl
-rest-above p (y ∷ l) f = rw (f .1) (ap (λ (r : List Float). y ∷ r) (rest-above y l (f .2)))
-
-pub cuts-strict : (l : List Float) → Strict l → cuts l ≡ l
-unfolding cuts dedup
-cuts-strict [] f = refl
-cuts-strict (x ∷ l) f = ap dedup (sort-sorted (x ∷ l) (above-from x l f)) ∙ ap (λ (r : List Float). x ∷ r) (rest-above x l f)
-
-above-rest : (p : Float) (l : List Float) → From p l → Above p (rest p l)
-unfolding rest
-above-rest p [] f = tt
-above-rest p (y ∷ l) f = go (eq y p) refl (above-rest p l (from-lower p y l (f .0) (f .1))) (above-rest y l (f .1))
-  where
-    go : (b : Bool) → eq y p ≡ b → Above p (rest p l) → Above y (rest y l) → Above p (rest p (y ∷ l))
-    go true b i j = rw b i
-    go false b i j = rw (b) (f .0, b, j)
-
-pub strict-dedup : (l : List Float) → Sorted l → Strict (dedup l)
-unfolding dedup
-strict-dedup [] f = tt
-strict-dedup (x ∷ l) f = above-rest x l f
-
-pub strict-cuts : (l : List Float) → Strict (cuts l)
-unfolding cuts
-strict-cuts l = strict-dedup (sort l) (sorted-sort l)
+fit-drop = all-drop Fits
 
 -- ---- a number twice is as one
 
-pub put-twice : (v : Float) (l : List Float) → T (not (isNan v)) → put v (put v l) ≡ put v l
+put-twice : (v : Float) (l : List Float) → T (not (isNan v)) → put v (put v l) ≡ put v l
 unfolding put
 put-twice v [] n = simp (is-true (total-le v v) (total-le-refl v), is-true (eq v v) (eq-refl v n))
 put-twice v (y ∷ l) n = go (total-le v y) refl (eq y v) refl (eq v y) refl (put-twice v l n)

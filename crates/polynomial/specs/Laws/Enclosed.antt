@@ -10,7 +10,7 @@ use lib.Dec.{T}
 use lib.IntN.{pos}
 use lib.Pow.{pow-mono}
 use lib.ListN.{length, getD, length-append}
-use lib.Ieee.{Float, nan, inf, fin, binary64, isNan, lt, eq, le, neg}
+use lib.Ieee.{Float, fin, binary64, isNan, lt, eq, le, neg}
 use lib.Ieee.Scale.{finite}
 use lib.Ieee.Fits.{div-fits, and-i}
 use Rattle.float.specs.Number.{_⊘_, negative, total-le}
@@ -18,7 +18,7 @@ use Rattle.float.specs.Laws.Interval.{in-of, Le-refl, Le-trans}
 use Rattle.float.specs.Laws.Within.{Within, within→Le, Le→within}
 use Rattle.float.specs.Laws.Whole.{Le-units, lt-units}
 use Rattle.float.specs.Laws.Total.{eq-comm}
-use Rattle.float.specs.Laws.Tests.{total-le-unequal}
+use Rattle.float.specs.Laws.Tests.{total-le-unequal, finite-number}
 use Rattle.float.specs.Laws.Middle.{Span}
 use Rattle.polynomial.specs.Compensated.{value}
 use Rattle.polynomial.specs.Cuts.{cuts, put}
@@ -26,37 +26,14 @@ use Rattle.polynomial.specs.Inside.{Ready}
 use Rattle.polynomial.specs.Polynomial.{nothing, evaluate, near-zero, trim, derivative}
 use Rattle.polynomial.specs.Roots.{partitions, touches, crosses, crossing, crossings, bisected, quotient, by-count, roots-at, roots}
 use Rattle.polynomial.specs.declared.compensated.Compensated.{Compensated}
-use Rattle.polynomial.specs.Laws.Cuts.{cuts-cons, put-most, put-longer, Fit, Above, Strict, strict-cuts, cuts-strict, cuts-snoc}
+use Rattle.polynomial.specs.Laws.Cuts.{cuts-cons, put-most, put-longer, Fit, Above, Strict, strict-cuts, cuts-strict, cuts-snoc, all-cuts}
 use Rattle.polynomial.specs.Laws.Degree.{trim-short, derivative-length, counted, counted-short, count-low, enough}
 use Rattle.polynomial.specs.Laws.Halving.{Between, bisected-in}
+use Rattle.polynomial.specs.Laws.Lists.{All, all-append}
 
 -- ---- every element
 
-abbrev pub All : (Float → Type 0) → List Float → Type 0
-All P [] = Unit {0}
-All P (x ∷ l) = P x × All P l
-
 module _ (P : Float → Type 0) where
-  pub all-append : (l m : List Float) → All P l → All P m → All P (l ++ m)
-  all-append [] m h k = k
-  all-append (x ∷ l) m h k = (h .0, all-append l m (h .1) k)
-
-  all-put : (v : Float) (l : List Float) → P v → All P l → All P (put v l)
-  unfolding put
-  all-put v [] p h = (p, tt)
-  all-put v (y ∷ l) p h = go (total-le v y) (eq y v) (eq v y) (all-put v l p (h .1))
-    where
-      go : (a b c : Bool) → All P (put v l) → All P (cond a (cond b (v ∷ l) (v ∷ y ∷ l)) (cond c (y ∷ l) (y ∷ put v l)))
-      go true true c k = (p, h .1)
-      go true false c k = (p, h)
-      go false b true k = h
-      go false b false k = (h .0, k)
-
-  -- what holds of all elements holds of all cuts
-  pub all-cuts : (l : List Float) → All P l → All P (cuts l)
-  all-cuts [] h = unfold cuts in tt
-  all-cuts (x ∷ l) h = rw (cuts-cons x l) (all-put x (cuts l) (h .0) (all-cuts l (h .1)))
-
   touches-all : (p : List Compensated) (l : List Float) → All P l → All P (touches p l)
   unfolding touches
   touches-all p [] h = tt
@@ -74,15 +51,9 @@ Rising [] = Unit {0}
 Rising (a ∷ []) = Unit {0}
 Rising (a ∷ (b ∷ l)) = T (lt a b) × Rising (b ∷ l)
 
-pub number : (x : Float) → T (finite x) → T (not (isNan x))
-unfolding isNan
-number nan p = p
-number (inf s) p = tt
-number (fin s m e) p = tt
-
 -- neighbours in a strict list, where the later one is finite
 pub less : (a b : Float) → T (finite b) → T (total-le a b) → eq b a ≡ false → T (lt a b)
-less a b p t e = go (lt a b) (isNan b) (number b p) (subst T (total-le-unequal a b (lt a b) (eq-comm a b ∙ e) refl) t)
+less a b p t e = go (lt a b) (isNan b) (finite-number b p) (subst T (total-le-unequal a b (lt a b) (eq-comm a b ∙ e) refl) t)
   where
     go : (l n : Bool) → T (not n) → T (l || n) → T l
     go true n k h = tt
@@ -116,11 +87,11 @@ module _ (lower upper : Float) where
 
 -- ---- between the bounds
 
-pub between-finite : {lo hi z : Float} → Between lo hi z → T (finite z)
+between-finite : {lo hi z : Float} → Between lo hi z → T (finite z)
 between-finite b = b .0 .lower .second
 
 pub between-number : {lo hi z : Float} → Between lo hi z → T (not (isNan z))
-between-number {z = z} b = number z (between-finite b)
+between-number {z = z} b = finite-number z (between-finite b)
 
 module _ (lower upper : Float) (s : Span 2 lower upper) where
   at-lower : Between lower upper lower
@@ -129,7 +100,7 @@ module _ (lower upper : Float) (s : Span 2 lower upper) where
   at-upper : Between lower upper upper
   at-upper = (record { lower = s .order; upper = Le-refl upper (s .hi-within .real) }, s .hi-fits)
 
-  pub fit-all : (l : List Float) → All (Between lower upper) l → Fit l
+  fit-all : (l : List Float) → All (Between lower upper) l → Fit l
   fit-all [] h = tt
   fit-all (x ∷ l) h = (h .0 .1, fit-all l (h .1))
 
@@ -231,7 +202,7 @@ module _ (lower upper : Float) (s : Span 2 lower upper) where
   roots-in zero p = tt
   roots-in (suc k) p = count-in (counted (trim p)) (trim p) (λ _. roots-at k (derivative (trim p)) lower upper) (roots-in k (derivative (trim p)))
 
-  pub roots-rising : (n : ℕ) (p : List Compensated) → Rising (roots-at n p lower upper)
+  roots-rising : (n : ℕ) (p : List Compensated) → Rising (roots-at n p lower upper)
   roots-rising n p = rising (roots-at n p lower upper) (roots-in n p) (roots-strict lower upper n p)
 
 -- ---- how many

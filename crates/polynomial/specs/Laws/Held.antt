@@ -14,11 +14,11 @@ use Rattle.polynomial.specs.declared.cuts.Put.{Put}
 use Rattle.polynomial.specs.declared.cuts.Put.the-variants.{Count, Full}
 use Rattle.polynomial.specs.Cuts.{put, cuts}
 use Rattle.polynomial.specs.Laws.Cuts.{Fit, cuts-snoc, cuts-longer-left}
-use Rattle.polynomial.specs.Insert.{pickPut, grown, putAnswer, putRoom, pushAnswer, pushRoom, Within}
+use Rattle.polynomial.specs.Insert.{grown, putAnswer, putRoom, pushAnswer, pushRoom, Within}
 
 -- the number of cuts of l, or Full where there are fewer places
 abbrev pub cutAnswer : List Float → ℕ → Put
-cutAnswer l places = pickPut (leb (length (cuts l)) places) (Count (length (cuts l))) Full
+cutAnswer l places = cond (leb (length (cuts l)) places) (Count (length (cuts l))) Full
 
 -- the first n places of r hold the cuts of l, and the others are as in r₀
 pub record Held (l r₀ r : List Float) (n : ℕ) : Type 0 where
@@ -31,7 +31,7 @@ pub fit-of : (l : List Float) → ((k : ℕ) → k < length l → T (fits binary
 fit-of [] h = tt
 fit-of (x ∷ l) h = (h zero (zero-lt-suc (length l)), fit-of l (λ k b. h (suc k) (suc-le-suc b)))
 
-pub held-none : (r : List Float) → Held [] r r 0
+held-none : (r : List Float) → Held [] r r 0
 held-none r = record { count = unfold cuts in refl; within = omega arith; list = unfold cuts in refl }
 
 -- behind a list at the front, what stood there
@@ -41,13 +41,13 @@ drop-past a r k m e h =
     let j : k + (m - k) ≡ m = omega arith in
     ap (λ (x : ℕ). drop x (a ++ drop k r)) (sym i) ∙ drop-append-add a (drop k r) (m - k) ∙ drop-drop (m - k) k r ∙ ap (λ (x : ℕ). drop x r) j
 
-picked : (b : Bool) (m n : ℕ) → pickPut b (Count m) Full ≡ Count n → (b ≡ true) × (m ≡ n)
-picked true m n e = (refl, cc)
-picked false m n e = let z : _≡_ {A = ℕ} 0 1 = cc in absurd (omega arith)
+put-counted : (b : Bool) (m n : ℕ) → cond b (Count m) Full ≡ Count n → (b ≡ true) × (m ≡ n)
+put-counted true m n e = (refl, cc)
+put-counted false m n e = let z : _≡_ {A = ℕ} 0 1 = cc in absurd (omega arith)
 
-left : (b : Bool) (m : ℕ) → pickPut b (Count m) Full ≡ Full → b ≡ false
-left true m e = let z : _≡_ {A = ℕ} 0 1 = cc in absurd (omega arith)
-left false m e = refl
+put-full : (b : Bool) (m : ℕ) → cond b (Count m) Full ≡ Full → b ≡ false
+put-full true m e = let z : _≡_ {A = ℕ} 0 1 = cc in absurd (omega arith)
+put-full false m e = refl
 
 module _ (l r₀ r : List Float) (n : ℕ) (v : Float) (f : Fit l) (g : T (fits binary64 v)) (h : Held l r₀ r n) where
   now-cuts : grown r n v ≡ cuts (l ++ v ∷ [])
@@ -59,9 +59,9 @@ module _ (l r₀ r : List Float) (n : ℕ) (v : Float) (f : Fit l) (g : T (fits 
   answer : putAnswer r n v ≡ cutAnswer (l ++ v ∷ []) (length r₀)
   answer = rw (now-cuts, same-length)
 
-  pub held-more : (r′ : List Float) (m : ℕ) → Count m ≡ putAnswer r n v → r′ ≡ putRoom r n v → Held (l ++ v ∷ []) r₀ r′ m
+  held-more : (r′ : List Float) (m : ℕ) → Count m ≡ putAnswer r n v → r′ ≡ putRoom r n v → Held (l ++ v ∷ []) r₀ r′ m
   held-more r′ m a b =
-      let p = picked (leb (length (cuts (l ++ v ∷ []))) (length r₀)) (length (cuts (l ++ v ∷ []))) m (sym answer ∙ sym a) in
+      let p = put-counted (leb (length (cuts (l ++ v ∷ []))) (length r₀)) (length (cuts (l ++ v ∷ []))) m (sym answer ∙ sym a) in
       let w : length (cuts (l ++ v ∷ [])) ≤ length r₀ = leb-true _ _ (p .0) in
       let k : n ≤ m = omega (arith, cuts-longer-left l (v ∷ []) f (g, tt), h .count, p .1) in
       let t : drop m r ≡ drop m r₀ = ap (drop m) (h .list) ∙ drop-past (cuts l) r₀ n m (sym (h .count)) k in
@@ -90,6 +90,9 @@ pub kept-within : (l r₀ r : List Float) (p : Put) → Kept l r₀ r p → With
 kept-within l r₀ r (Count n) k = let h = k .held n refl in omega (arith, h .within, k .same)
 kept-within l r₀ r Full k = tt
 
+pub kept-full : (l r₀ r : List Float) (p : Put) → Kept l r₀ r p → p ≡ Full → length r₀ < length (cuts l)
+kept-full l r₀ r p k e = leb-false _ _ (put-full (leb (length (cuts l)) (length r₀)) (length (cuts l)) (sym (k .answer-is) ∙ e))
+
 room-length : (r : List Float) (n : ℕ) (v : Float) → length (putRoom r n v) ≡ length r
 room-length r n v = go (leb (length (grown r n v)) (length r)) refl
   where
@@ -110,7 +113,7 @@ kept-push l r₀ r (Count n) v f g k =
     }
 kept-push l r₀ r Full v f g k = record {
   answer-is =
-      let a : length r₀ < length (cuts l) = leb-false _ _ (left (leb (length (cuts l)) (length r₀)) (length (cuts l)) (sym (k .answer-is))) in
+      let a = kept-full l r₀ r Full k refl in
       let b = cuts-longer-left l (v ∷ []) f (g, tt) in
       rw (lt-leb (length (cuts (l ++ v ∷ []))) (length r₀) (omega arith));
   same = k .same;

@@ -1,4 +1,4 @@
--- Laws of lists that the loops ask for, beside those of `lib.Seq`. Assumes nothing.
+-- Laws of lists, beside those of `lib.Seq`: what holds of every element, and what the loops ask for. Assumes nothing.
 use mathlib.Core.Path.{_≡_, refl, sym, ap, _∙_}
 use mathlib.Core.List.{List, [], _∷_, _++_, append-nil}
 use Prim.Native.Nat.{ℕ, zero, suc, _+_, _-_, _<_}
@@ -7,6 +7,26 @@ use native.Mathlib.Numerals.{add-one}
 use native.Mathlib.Omega.{arith}
 use lib.ListN.{length, getD, set, take, drop, length-drop, drop-of-length-le}
 use lib.Seq.{paste, paste-suc, length-paste-head, drop-cons, getD-at, getD-drop, take-all, take-suc-set, append-snoc}
+
+-- ---- what holds of every element
+
+abbrev pub All : {A : Type 0} → (A → Type 0) → List A → Type 0
+All P [] = Unit {0}
+All P (x ∷ l) = P x × All P l
+
+module _ {A : Type 0} (P : A → Type 0) where
+  pub all-append : (l m : List A) → All P l → All P m → All P (l ++ m)
+  all-append [] m h k = k
+  all-append (x ∷ l) m h k = (h .0, all-append l m (h .1) k)
+
+  pub all-right : (l m : List A) → All P (l ++ m) → All P m
+  all-right [] m h = h
+  all-right (x ∷ l) m h = all-right l m (h .1)
+
+  pub all-drop : (k : ℕ) (l : List A) → All P l → All P (drop k l)
+  all-drop zero l h = h
+  all-drop (suc k) [] h = tt
+  all-drop (suc k) (x ∷ l) h = all-drop k l (h .1)
 
 module _ {ℓ} {A : Type ℓ} where
   -- ---- an element that is there, whatever the other value

@@ -27,9 +27,9 @@ module _ (x y : Harmonic) (norm : Float) where
   pub inner-few : (origin lower upper : Float) → length (roots (norm-polynomial x y norm origin) lower upper) ≤ 29
   inner-few origin lower upper = let e = five origin in all-most lower upper 5 (norm-polynomial x y norm origin) (omega arith)
 
-  pub half-few : (lower upper : Float) → length (half-roots x y norm lower upper) ≤ 29
+  pub half-roots-few : (lower upper : Float) → length (half-roots x y norm lower upper) ≤ 29
   unfolding half-roots
-  half-few lower upper =
+  half-roots-few lower upper =
       let o = middle lower upper in
       let e = angles-length o (roots (norm-polynomial x y norm o) (neg one-float) one-float) in
       let f = inner-few o (neg one-float) one-float in
@@ -40,8 +40,8 @@ module _ (x y : Harmonic) (norm : Float) where
   squared-norm-few =
       let a = half-roots x y norm (neg P) zero-float in
       let b = half-roots x y norm zero-float P in
-      let f = half-few (neg P) zero-float in
-      let g = half-few zero-float P in
+      let f = half-roots-few (neg P) zero-float in
+      let g = half-roots-few zero-float P in
       let e = length-append a b in
       let s = cuts-short (a ++ b) in
       omega arith

@@ -1,49 +1,25 @@
--- An angle wrapped to one turn fits binary64; of a finite angle it lies within P, and is never -0.0. Before that: a remainder is no larger than its divisor,
--- every value of the format is within the largest one, and a difference of two values of the format is no smaller than the smallest. Assumes nothing.
-use Prim.Native.Nat.{ℕ, suc, _+_, _-_, _*_, _%_, _^_, _≤_, _<_}
-use native.Mathlib.Nat.{le-trans, le-of-eq, le-of-lt, lt-irrefl, mod-lt, mul-pos, zero-mul, mul-one, one-mul, add-mul, mul-assoc, mul-comm, mul-right-comm, mul-le-mul, mul-le-mul-left, mul-le-mul-right, mul-lt-mul-of-pos-right, lt-of-mul-lt-mul-right, le-of-suc-le-suc, zero-lt-suc, suc-mul}
+-- An angle wrapped to one turn fits binary64; of a finite angle it lies within P, and is never -0.0. Assumes nothing.
+use Prim.Native.Nat.{ℕ, _-_, _*_, _≤_, _<_}
+use native.Mathlib.Nat.{le-trans, le-of-eq, lt-irrefl, zero-mul, mul-one, zero-lt-suc}
 use native.Mathlib.Decide.{decLt}
 use native.Mathlib.Omega.{arith}
-use mathlib.Core.Path.{_≡_, refl, sym, ap, subst, _∙_}
-use mathlib.Core.Bool.{Bool, true, false, not, _&&_, cond}
+use mathlib.Core.Path.{_≡_, sym, subst}
+use mathlib.Core.Bool.{Bool, true, false, not, cond}
 use lib.IntN.{ℤ, pos, negsuc}
-use lib.Dec.{T, ltb, leb, eqb, ltb→lt, leb→le, nleb→lt, eqb→eq, lit≤}
-use lib.Pow.{pow-add, pow-pos, pow-mono}
-use lib.Ieee.{Float, nan, inf, fin, Format, binary64, low, up, down, round, neg, sum, add, sub, rem, lt, le, fits}
-use lib.Ieee.Fits.{down-pos, and-l, and-r, cond-fits, add-fits, sub-fits, rem-fits}
+use lib.Dec.{T}
+use lib.Ieee.{Float, nan, inf, fin, binary64, up, down, round, neg, add, sub, rem, lt, le, fits}
+use lib.Ieee.Fits.{cond-fits, add-fits, sub-fits, rem-fits}
 use lib.Ieee.Scale.{finite}
 use lib.Ieee.Positive.{num, den}
 use borrow.Author.Tests.{le-ltb}
 use Rattle.float.specs.Number.{_⊕_, _⊖_, abs, rem-euclid, zero-float}
 use Rattle.float.specs.Trig.{P}
 use Rattle.float.specs.Laws.Le.{Le, le→Le, plain, round-plain, sub-mono}
-use Rattle.float.specs.Laws.Within.{Within, Beyond, held, round-within, round-beyond, within→Le, Le→beyond-neg}
+use Rattle.float.specs.Laws.Within.{Within, Beyond, held, within→Le, Le→beyond-neg, rem-within}
 use Rattle.float.specs.Laws.Interval.{In, Le-refl, in-self, in-wider, in-within, within-in, add-in, sub-in}
 use Rattle.float.specs.Laws.Range.{lt→Le, nlt→Le}
-use Rattle.float.specs.Laws.Zero.{sum-less}
-use Rattle.float.specs.Laws.Whole.{amount, fits-amount}
+use Rattle.float.specs.Laws.Extremes.{largest, smallest, held-largest, gap-beyond}
 use Rattle.polynomial.specs.Angle.{turn, wrapped-angle}
-
--- ---- |x % y| ≤ |y|
-rem-size : (a b n d e : ℕ) → 0 < b → b ≡ n * e → a % b * d ≤ n * (e * d)
-rem-size a b n d e B h = le-trans (mul-le-mul-right d (le-of-lt (mod-lt a B))) (le-of-eq (ap (λ (z : ℕ). z * d) h ∙ mul-assoc n e d))
-
-pub rem-within : (f : Format) (x y : Float) → T (held f y) → T (finite x) → 0 < num y → Within y (rem f x y)
-unfolding rem
-rem-within f x nan t p h = absurd t
-rem-within f x (inf u) t p h = absurd t
-rem-within f nan (fin u n d) t p h = absurd p
-rem-within f (inf s) (fin u n d) t p h = absurd p
-rem-within f (fin s m e) (fin u n d) t p h = go (eqb n 0) (eqb→eq n 0)
-  where
-    gone : n ≡ 0 → ⊥
-    gone z = lt-irrefl 0 (subst (λ (v : ℕ). 0 < v) (ap (λ (v : ℕ). v * up d) z ∙ zero-mul (up d)) h)
-
-    go : (b : Bool) → (T b → n ≡ 0) → Within (fin u n d) (cond b nan (round f s (m * up e * down d % (n * up d * down e)) (down e * down d)))
-    go true z = absurd (gone (z tt))
-    go false z =
-        round-within f s (m * up e * down d % (n * up d * down e)) (down e * down d) (fin u n d) (mul-pos (down-pos e) (down-pos d)) t
-        (rem-size (m * up e * down d) (n * up d * down e) (n * up d) (down d) (down e) (mul-pos h (down-pos e)) refl)
 
 -- ---- the remainder of a turn lies in the turn, and fits
 turned-in : (x : Float) → T (finite x) → In zero-float turn (rem-euclid x turn)
@@ -64,48 +40,7 @@ turned-fits : (x m : Float) → T (fits binary64 x) → T (fits binary64 (rem-eu
 unfolding rem-euclid
 turned-fits x m t = cond-fits binary64 (lt (rem binary64 x m) zero-float) (rem binary64 x m ⊕ abs m) (rem binary64 x m) (add-fits binary64 (rem binary64 x m) (abs m)) (rem-fits binary64 x m t)
 
--- ---- the largest value, and that a finite angle plus P is finite
-abbrev pub largest : Float
-largest = fin false 9007199254740991 (pos 971)
-
--- m * u ≤ (2 ^ 53 - 1) * 2 ^ 971 * d, for 2 ^ e = u / d
-pub held-largest : (x : Float) → T (held binary64 x) → Within largest x
-held-largest nan t = absurd t
-held-largest (inf s) t = absurd t
-held-largest (fin s m (negsuc k)) t = record {
-  real = tt;
-  size =
-      le-trans (le-of-eq (mul-one (m * 1) ∙ mul-one m))
-      (le-trans (le-of-lt (ltb→lt m (2 ^ 53) (and-l (ltb m (2 ^ 53)) _ t)))
-      (le-trans (lit≤ {m = 2 ^ 53} {n = 9007199254740991 * 2 ^ 971} tt)
-      (le-trans (le-of-eq (sym (mul-one (9007199254740991 * 2 ^ 971)))) (mul-le-mul-left (9007199254740991 * 2 ^ 971) (pow-pos (suc k))))));
-}
-held-largest (fin s m (pos k)) t = go (leb k 971) (leb→le k 971) (nleb→lt k 971)
-  where
-    one : m * 2 ^ k * 1 ≡ m * 2 ^ k
-    one = mul-one (m * 2 ^ k)
-
-    whole : 9007199254740991 * 2 ^ 971 ≡ 9007199254740991 * 2 ^ 971 * 1
-    whole = sym (mul-one (9007199254740991 * 2 ^ 971))
-
-    rest : Bool
-    rest = leb 1 (2 ^ 1074) && ltb (m * 2 ^ k) (2 ^ 1024 * 1)
-
-    top : m * 2 ^ k < 2 ^ 1024 * 1
-    top = ltb→lt (m * 2 ^ k) (2 ^ 1024 * 1) (and-r (leb 1 (2 ^ 1074)) (ltb (m * 2 ^ k) (2 ^ 1024 * 1)) (and-r (ltb m (2 ^ 53)) rest t))
-
-    small : m ≤ 9007199254740991
-    small = le-of-suc-le-suc (ltb→lt m (2 ^ 53) (and-l (ltb m (2 ^ 53)) rest t))
-
-    go : (b : Bool) → (T b → k ≤ 971) → (T (not b) → 971 < k) → Within largest (fin s m (pos k))
-    go true h n = record { real = tt; size = le-trans (le-of-eq one) (le-trans (mul-le-mul small (pow-mono (h tt))) (le-of-eq whole)) }
-    go false h n =
-        let g : 971 < k = n tt in
-        let e : k ≡ k - 971 + 971 = omega arith in
-        let q : m * 2 ^ k ≡ m * 2 ^ (k - 971) * 2 ^ 971 = ap (λ (z : ℕ). m * z) (ap (λ (z : ℕ). 2 ^ z) e ∙ pow-add 2 (k - 971) 971) ∙ sym (mul-assoc m (2 ^ (k - 971)) (2 ^ 971)) in
-        let l : m * 2 ^ (k - 971) < 2 ^ 53 = lt-of-mul-lt-mul-right (2 ^ 971) {n = 2 ^ 53} (subst (λ (z : ℕ). z < 2 ^ 1024) q top) in
-        record { real = tt; size = le-trans (le-of-eq (one ∙ q)) (le-trans (mul-le-mul-right (2 ^ 971) (le-of-suc-le-suc l)) (le-of-eq whole)) }
-
+-- ---- a finite angle plus P is finite
 plus-finite : (x : Float) → T (held binary64 x) → T (finite (x ⊕ P))
 unfolding neg add le
 plus-finite x t = in-wider (neg largest) largest tt (add-in binary64 tt (within-in tt tt (held-largest x t)) (in-self P tt)) .upper .first
@@ -120,46 +55,14 @@ unfolding wrapped-angle neg sub le
 wrapped-within x t = in-within tt (in-wider (neg P) P tt (sub-in binary64 tt (turned-in (x ⊕ P) (plus-finite x t)) (in-self P tt)))
 
 -- ---- never -0.0
--- whole numbers of 1 / u: a / c is A of them, b / c is B
-whole-gap : (u a b c A B : ℕ) → 0 < u → a * u ≡ A * c → b * u ≡ B * c → a < b → c ≤ (b - a) * u
-whole-gap u a b c A B U ea eb h =
-    let l : A * c < B * c = subst (λ (z : ℕ). z < B * c) ea (subst (λ (z : ℕ). a * u < z) eb (mul-lt-mul-of-pos-right h U)) in
-    let k : suc A * c ≤ B * c = mul-le-mul-right c (lt-of-mul-lt-mul-right c l) in
-    let s : suc A * c ≡ A * c + c = suc-mul A c in
-    let e : b - a + a ≡ b = omega arith in
-    let d : (b - a) * u + a * u ≡ b * u = sym (add-mul (b - a) a u) ∙ ap (λ (z : ℕ). z * u) e in
-    omega arith
-
-over : (x y z u A : ℕ) → x * u ≡ A * y → x * z * u ≡ A * (y * z)
-over x y z u A h = mul-right-comm x z u ∙ ap (λ (v : ℕ). v * z) h ∙ mul-assoc A y z
-
--- the smallest value
-abbrev pub smallest : Float
-smallest = fin false 1 (negsuc 1073)
-
--- the differences of values m * 2 ^ e and n * 2 ^ d, none of them below zero
-module _ (m : ℕ) (e : ℤ) (n : ℕ) (d : ℤ) where
-  pub gap-beyond : T (fits binary64 (fin false m e)) → T (fits binary64 (fin false n d)) → m * up e * down d < n * up d * down e → T (finite (fin false m e ⊖ fin false n d))
-      → Beyond smallest (fin false m e ⊖ fin false n d)
-  unfolding sub
-  gap-beyond s t h r =
-      let a = m * up e * down d in
-      let b = n * up d * down e in
-      let c = down e * down d in
-      let A = amount binary64 m e in
-      let B = amount binary64 n d in
-      let q : sum binary64 false a true b c ≡ round binary64 true (b - a) c = sum-less false a true b c refl h in
-      let g = whole-gap (2 ^ low binary64) a b c A B (pow-pos (low binary64)) (over (m * up e) (down e) (down d) (2 ^ low binary64) A (fits-amount binary64 false m e s))
-      (over (n * up d) (down d) (down e) (2 ^ low binary64) B (fits-amount binary64 false n d t) ∙ ap (λ (z : ℕ). B * z) (mul-comm (down d) (down e))) h in
-      subst (λ (z : Float). Beyond smallest z) (sym q) (round-beyond binary64 true (b - a) c smallest (mul-pos (down-pos e) (down-pos d)) tt (subst (λ (z : Float). T (finite z)) q r) (le-trans (le-of-eq (one-mul c)) g))
-
-  gap-plain : n * up d * down e ≤ m * up e * down d → T (plain (fin false m e ⊖ fin false n d))
-  unfolding sub
-  gap-plain h =
-      let a = m * up e * down d in
-      let b = n * up d * down e in
-      let c = down e * down d in
-      subst (λ (z : Bool). T (plain (cond z (round binary64 true (b - a) c) (round binary64 false (a - b) c)))) (sym (le-ltb a b h)) (round-plain binary64 (a - b) c)
+-- of numbers with no minus sign, the larger less the smaller has none
+gap-plain : (m : ℕ) (e : ℤ) (n : ℕ) (d : ℤ) → n * up d * down e ≤ m * up e * down d → T (plain (fin false m e ⊖ fin false n d))
+unfolding sub
+gap-plain m e n d h =
+    let a = m * up e * down d in
+    let b = n * up d * down e in
+    let c = down e * down d in
+    subst (λ (z : Bool). T (plain (cond z (round binary64 true (b - a) c) (round binary64 false (a - b) c)))) (sym (le-ltb a b h)) (round-plain binary64 (a - b) c)
 
 beyond-not-zero : (B : Float) {z : Float} → 0 < num B → Beyond B z → z ≡ fin true 0 (pos 0) → ⊥
 beyond-not-zero B h b e =

@@ -50,11 +50,11 @@ loop-again c =
     let e : p .before .before .loop .at + 17 * p .line .result + 2 ≤ length s = p .line .ensures (omega arith) in
     ⊎-elim (λ w. omega arith) (λ w. omega arith) (c .if2 .came)
 
+sub-unread : tie.Need-sub-unread Inv-loop μ-loop
+sub-unread c = search needs
+
 returns : tie.Need-returns Inv-loop μ-loop
 returns c = search needs
-
-returns-2 : tie.Need-returns-2 Inv-loop μ-loop
-returns-2 c = search needs
 
 pub counted-spec : {M : Type 1} → statement M
 counted-spec =
@@ -73,5 +73,5 @@ counted-spec =
     add-at-2
     loop-less
     loop-again
-    returns
-    returns-2)
+    sub-unread
+    returns)

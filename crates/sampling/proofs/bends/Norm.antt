@@ -1,30 +1,22 @@
 -- The roots of a squared norm, put by `squared_norm_roots` behind the first n numbers of a slice w, by what that says of its answer. Assumes nothing.
 use Prim.Native.Nat.{ℕ, _+_, _-_, _≤_}
 use native.Mathlib.Omega.{arith}
-use mathlib.Core.Path.{_≡_, refl, sym, ap, _∙_}
-use mathlib.Core.Bool.{Bool, true, false}
+use mathlib.Core.Path.{_≡_, sym, ap, _∙_}
+use mathlib.Core.Bool.{true, false}
 use mathlib.Core.List.{List, _++_}
 use lib.ListN.{length, take, drop, take-append-drop}
 use lib.Ieee.{Float}
 use Rattle.polynomial.specs.Curve.{squared-norm-roots, squared-norm-holds}
 use Rattle.polynomial.specs.Norm.{squared-norm-answer, size, listed}
-use Rattle.polynomial.specs.Operation.{pick}
 use Rattle.polynomial.specs.declared.curve.Harmonic.{Harmonic}
 use Rattle.polynomial.specs.declared.norm.Inner.{Inner}
 use Rattle.polynomial.specs.declared.norm.Inner.the-variants.{Count, Refused}
 use Rattle.polynomial.specs.Laws.Lists.{tail-part, tail-post}
 use Rattle.polynomial.specs.Laws.Norm.{squared-norm-few}
+use Rattle.polynomial.specs.Laws.Inner.{inner-refused, inner-counted}
 use Rattle.sampling.specs.Bends.{norm-roots}
 use Rattle.sampling.specs.Pushed.{Pushed}
 use Rattle.sampling.specs.Laws.Pushed.{none, behind}
-
-was-refused : (b : Bool) (n : ℕ) (r : Inner) → r ≡ pick b (Count n) Refused → r ≡ Refused → b ≡ false
-was-refused true n r e f = let z : _≡_ {A = ℕ} 0 1 = cc in absurd (omega arith)
-was-refused false n r e f = refl
-
-was-counted : (b : Bool) (n m : ℕ) (r : Inner) → r ≡ pick b (Count n) Refused → r ≡ Count m → (b ≡ true) × (m ≡ n)
-was-counted true n m r e f = (refl, cc)
-was-counted false n m r e f = let z : _≡_ {A = ℕ} 0 1 = cc in absurd (omega arith)
 
 module _ (x y : Harmonic) (norm : Float) (n : ℕ) (w : List Float) (r : Inner) (last : List Float) (h : n + 58 ≤ length w)
     (e : (r ≡ squared-norm-answer x y norm) × (last ≡ listed r (squared-norm-roots x y norm) ++ drop (size r) (take (length w - n) (drop n w)))) where
@@ -41,13 +33,13 @@ module _ (x y : Harmonic) (norm : Float) (n : ℕ) (w : List Float) (r : Inner) 
   pub refused : r ≡ Refused → (false ≡ squared-norm-holds x y norm) × Pushed 58 (norm-roots x y norm) n w n left
   unfolding norm-roots
   refused f =
-      let b = was-refused (squared-norm-holds x y norm) (length found) r (e .0) f in
+      let b = inner-refused (squared-norm-holds x y norm) (length found) r (e .0) f in
       let l : left ≡ w = left-is ∙ ap (λ (z : Inner). take n w ++ (listed z found ++ drop (size z) (drop n w))) f ∙ take-append-drop n w in
       (sym b, rw (b, l) (none 58 n w))
 
   module _ (m : ℕ) (f : r ≡ Count m) where
     counts : (squared-norm-holds x y norm ≡ true) × (m ≡ length found)
-    counts = was-counted (squared-norm-holds x y norm) (length found) m r (e .0) f
+    counts = inner-counted (squared-norm-holds x y norm) (length found) m r (e .0) f
 
     pub few : m ≤ 58
     few = let c = squared-norm-few x y norm in let q = counts .1 in omega arith

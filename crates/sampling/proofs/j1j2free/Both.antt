@@ -4,16 +4,15 @@ use native.Mathlib.Omega.{arith}
 use mathlib.Core.Path.{_≡_, refl, sym, ap, subst, _∙_}
 use mathlib.Core.Bool.{Bool, true, false, _&&_}
 use mathlib.Core.List.{List, _++_, append-assoc}
-use lib.Dec.{T, leb}
+use lib.Dec.{T}
 use lib.ListN.{length, take, drop, length-append, length-drop}
 use lib.Seq.{take-at}
 use lib.Ieee.{Float, binary64, fits}
-use borrow.Author.Tests.{leb-false, le-leb, lt-leb}
+use borrow.Author.Tests.{le-leb, lt-leb}
 use Rattle.float.specs.Number.{middle}
 use Rattle.float.specs.Laws.Middle.{middle-fits}
 use Rattle.polynomial.specs.Cuts.{cuts}
-use Rattle.polynomial.specs.Insert.{pickPut}
-use Rattle.polynomial.specs.Laws.Held.{Kept}
+use Rattle.polynomial.specs.Laws.Held.{Kept, kept-full}
 use Rattle.polynomial.specs.Laws.Lists.{tail-part, tail-post}
 use Rattle.polynomial.specs.declared.curve.Curve.{Curve}
 use Rattle.polynomial.specs.declared.cuts.Put.{Put}
@@ -27,13 +26,6 @@ use Rattle.sampling.specs.Laws.J1j2free.{half-cuts-are}
 use Rattle.sampling.specs.declared.j1j2free.Folded.{Folded}
 use Rattle.sampling.specs.declared.j1j2free.Halving.{Halving}
 use Rattle.sampling.specs.declared.j1j2free.Halving.the-variants.{Refused}
-
-left : (b : Bool) (m : ℕ) → pickPut b (Count m) Full ≡ Full → b ≡ false
-left true m e = let z : _≡_ {A = ℕ} 0 1 = cc in absurd (omega arith)
-left false m e = refl
-
-beyond : (l r₀ r : List Float) → Kept l r₀ r Full → length r₀ < length (cuts l)
-beyond l r₀ r k = leb-false _ _ (left (leb (length (cuts l)) (length r₀)) (length (cuts l)) (sym (k .answer-is)))
 
 -- the second list starts within the slice
 pub starts : (a w v : List Float) (s : Put) (n : ℕ) → n ≡ start s (length v) → Kept a w v s → n ≤ length v
@@ -52,10 +44,10 @@ answers a b w v u (Count n) (Count m) k l =
 answers a b w v u (Count n) Full k l =
     let h = k .held n refl in
     let d = length-drop n v in
-    let e : length w < length (cuts a) + length (cuts b) = omega (arith, h .count, h .within, k .same, beyond b (drop n v) u l, d) in
+    let e : length w < length (cuts a) + length (cuts b) = omega (arith, h .count, h .within, k .same, kept-full b (drop n v) u Full l refl, d) in
     rw (lt-leb (length (cuts a) + length (cuts b)) (length w) e)
 answers a b w v u Full t k l =
-    let e : length w < length (cuts a) + length (cuts b) = omega (arith, beyond a w v k) in
+    let e : length w < length (cuts a) + length (cuts b) = omega (arith, kept-full a w v Full k refl) in
     rw (lt-leb (length (cuts a) + length (cuts b)) (length w) e)
 
 lists : (a b w v u : List Float) (s t : Put) → Kept a w v s → Kept b (drop (start s (length v)) v) u t

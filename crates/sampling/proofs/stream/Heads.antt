@@ -14,17 +14,13 @@ use Rattle.polynomial.specs.Cuts.{sort}
 use Rattle.polynomial.specs.Laws.Cuts.{Sorted, Fit, fit-drop}
 use Rattle.sampling.specs.Stream.{weave, pending, Woven}
 use Rattle.sampling.specs.Laws.Weave.{weave-fit}
-use Rattle.sampling.proofs.stream.Least.{head, Numbers, take-first, take-second, take-third, all-empty, sorted-drop, numbers-drop, head-drop}
-
-no-number : T (not (isNan nan)) → ⊥
-unfolding isNan
-no-number t = t
+use Rattle.sampling.proofs.stream.Least.{head, Numbers, take-first, take-second, take-third, all-empty, sorted-drop, numbers-drop, head-drop, no-head}
 
 -- a number at k: the list reaches there
 pub number-index : (l : List Float) (k : ℕ) → T (not (isNan (getD l k nan))) → k < length l
 number-index l k n = elim (decLt k (length l)) [
   | yes h ↦ h
-  | no h ↦ absurd (no-number (subst (λ (x : Float). T (not (isNan x))) (List·getD-eq-default l nan {n = k} (omega arith)) n))
+  | no h ↦ no-head (k < length l) (subst (λ (x : Float). T (not (isNan x))) (List·getD-eq-default l nan {n = k} (omega arith)) n)
 ]
 
 -- the lists a and b from i and j on, and the reference r unless it came, begin with x, y and z

@@ -11,7 +11,7 @@ use lib.Ieee.{Float, nan, inf, fin, isNan, lt, eq}
 use Rattle.float.specs.Number.{total-le}
 use Rattle.polynomial.specs.Cuts.{sort}
 use Rattle.polynomial.specs.Laws.Cuts.{From, Sorted, Fit, fit-append, from-lower, from-sorted, from-ins, ins-first, sort-perm}
-use Rattle.polynomial.specs.Laws.Enclosed.{All, all-append}
+use Rattle.polynomial.specs.Laws.Lists.{All, all-append, all-drop}
 
 abbrev pub head : List Float → Float
 head l = getD l 0 nan
@@ -43,7 +43,7 @@ sort-least : (x : Float) (l : List Float) → Least x l → sort (x ∷ l) ≡ x
 unfolding sort
 sort-least x l p = ins-first x (sort l) (from-sort x l p)
 
-no-head : (X : Type 0) → T (not (isNan nan)) → X
+pub no-head : (X : Type 0) → T (not (isNan nan)) → X
 unfolding isNan
 no-head X t = absurd t
 
@@ -99,9 +99,7 @@ sorted-drop (suc k) [] s = tt
 sorted-drop (suc k) (x ∷ l) s = sorted-drop k l (from-sorted x l s)
 
 pub numbers-drop : (k : ℕ) (l : List Float) → Numbers l → Numbers (drop k l)
-numbers-drop zero l n = n
-numbers-drop (suc k) [] n = tt
-numbers-drop (suc k) (x ∷ l) n = numbers-drop k l (n .1)
+numbers-drop = all-drop (λ x. T (not (isNan x)))
 
 pub head-drop : (k : ℕ) (l : List Float) → head (drop k l) ≡ getD l k nan
 head-drop k l = getD-drop k l 0 nan ∙ rw add-zero

@@ -29,7 +29,7 @@ module _ (origin : Float) (l : List Float) (i n : ℕ) where
   unfolding angles
   angles-end e = rw (e, slice-empty n l)
 
-pub numerators-are : (r : Numerators) (q : Curve) (origin : Float) →
+numerators-are : (r : Numerators) (q : Curve) (origin : Float) →
     (take 3 (r .a) ≡ numerator (harmonic-a q) origin) × (take 3 (r .b) ≡ numerator (harmonic-b q) origin) × (take 3 (r .c) ≡ numerator (harmonic-c q) origin) →
     first-three r ≡ polynomials q origin
 numerators-are r q origin e = λ i. record { a = e .0 i; b = e .1 i; c = e .2 i }

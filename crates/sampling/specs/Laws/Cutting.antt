@@ -1,10 +1,10 @@
 -- Lists of cuts that stand one after the other in a lent slice, and what is answered of three. Assumes nothing.
-use mathlib.Core.Path.{_≡_, refl, sym, ap, ap₂, _∙_}
-use mathlib.Core.Bool.{Bool, true, false}
+use mathlib.Core.Path.{_≡_, sym, ap, ap₂, _∙_}
+use mathlib.Core.Bool.{true}
 use mathlib.Core.List.{List, _++_, append-assoc}
 use Prim.Native.Nat.{ℕ, _+_, _-_, _≤_, _<_}
 use native.Mathlib.Omega.{arith}
-use borrow.Author.Tests.{leb-false, le-leb, lt-leb}
+use borrow.Author.Tests.{le-leb, lt-leb}
 use lib.Dec.{leb}
 use lib.ListN.{length, take, drop, length-append, length-drop}
 use lib.Seq.{take-at, drop-at, drop-drop}
@@ -12,8 +12,7 @@ use lib.Ieee.{Float}
 use Rattle.polynomial.specs.declared.cuts.Put.{Put}
 use Rattle.polynomial.specs.declared.cuts.Put.the-variants.{Count, Full}
 use Rattle.polynomial.specs.Cuts.{cuts}
-use Rattle.polynomial.specs.Insert.{pickPut}
-use Rattle.polynomial.specs.Laws.Held.{Kept}
+use Rattle.polynomial.specs.Laws.Held.{Kept, kept-full}
 use Rattle.polynomial.specs.Laws.Lists.{tail-part, tail-post}
 use Rattle.sampling.specs.Cutting.{cutting}
 use Rattle.sampling.specs.declared.sample_angles.Cutting.the-variants.{Short, Cuts}
@@ -24,16 +23,9 @@ pub record Laid (l w r : List Float) (n : ℕ) : Type 0 where
   pub within : n ≤ length w
   pub list : r ≡ l ++ drop n w
 
-left : (b : Bool) (m : ℕ) → pickPut b (Count m) Full ≡ Full → b ≡ false
-left true m e = let z : _≡_ {A = ℕ} 0 1 = cc in absurd (omega arith)
-left false m e = refl
-
 -- ---- one list of cuts, in the front
 
 module _ (v w r : List Float) (p : Put) (k : Kept v w r p) where
-  pub no-place : p ≡ Full → length w < length (cuts v)
-  no-place e = leb-false _ _ (left (leb (length (cuts v)) (length w)) (length (cuts v)) (sym (k .answer-is) ∙ e))
-
   pub laid-first : (n : ℕ) → p ≡ Count n → Laid (cuts v) w r n
   laid-first n e = let h = k .held n e in record { count = h .count; within = h .within; list = h .list }
 
@@ -56,7 +48,7 @@ module _ (l w r : List Float) (n : ℕ) (h : Laid l w r n) where
 
   module _ (v last : List Float) (p : Put) (k : Kept v (take (length r - n) (drop n r)) last p) where
     pub no-place-behind : p ≡ Full → length w < length l + length (cuts v)
-    no-place-behind e = omega (arith, no-place v _ last p k e, places, h .count)
+    no-place-behind e = omega (arith, kept-full v _ last p k e, places, h .count)
 
     pub laid-next : (m : ℕ) → p ≡ Count m → Laid (l ++ cuts v) w (replaced n r last) (n + m)
     laid-next m e =

@@ -4,8 +4,6 @@ use mathlib.Core.Bool.{Bool, true, false}
 use mathlib.Core.List.{List, [], _∷_, _++_}
 use Prim.Native.Nat.{ℕ, _+_, _*_, _≤_}
 use native.Mathlib.Omega.{arith}
-use mathlib.Core.Bool.{Bool, true, false}
-use mathlib.Core.List.{List, [], _∷_, _++_}
 use lib.ListN.{length, length-append}
 use lib.Ieee.{Float, le, neg}
 use lib.Ieee.Scale.{finite}
@@ -56,31 +54,31 @@ ray-roots-few : (x y : Trig) (angle : Float) → length (ray-roots x y angle) �
 unfolding ray-roots
 ray-roots-few x y angle = roots-few (line x y angle) zero-float
 
-pub poles-few : (cos5 : Trig) → length (poles cos5) ≤ 4
+poles-few : (cos5 : Trig) → length (poles cos5) ≤ 4
 unfolding poles
 poles-few cos5 = both (roots cos5 one-float) (roots cos5 (neg one-float)) (roots-few cos5 one-float) (roots-few cos5 (neg one-float))
 
-pub ray-at-few : (ray : Ray) (angle : Float) → length (ray-at ray angle) ≤ 2
+ray-at-few : (ray : Ray) (angle : Float) → length (ray-at ray angle) ≤ 2
 unfolding ray-at
 ray-at-few ray angle = either (finite angle) (ray-roots (ray .x) (ray .y) angle) [] (ray-roots-few (ray .x) (ray .y) angle) (omega arith)
 
-pub ray-range-few : (ray : Ray) (range : Range) → length (ray-range ray range) ≤ 4
+ray-range-few : (ray : Ray) (range : Range) → length (ray-range ray range) ≤ 4
 unfolding ray-range
 ray-range-few ray Nothing = omega arith
 ray-range-few ray (Between lower upper) = both (ray-at ray lower) (ray-at ray upper) (ray-at-few ray lower) (ray-at-few ray upper)
 
-pub ray-marks-few : (ray : Ray) (m : Marks) → length (ray-marks ray m) ≤ 8
+ray-marks-few : (ray : Ray) (m : Marks) → length (ray-marks ray m) ≤ 8
 unfolding ray-marks
 ray-marks-few ray m =
     let limits = ray-at ray (m .center) ++ ray-range ray (m .range) in
     let few : length limits ≤ 6 = both (ray-at ray (m .center)) (ray-range ray (m .range)) (ray-at-few ray (m .center)) (ray-range-few ray (m .range)) in
     both (ray-at ray (m .reference)) (pick (m .limited) limits []) (ray-at-few ray (m .reference)) (either (m .limited) limits [] few (omega arith))
 
-pub corner-few : (ray : Ray) (sign angle4 angle6 : Float) → length (corner ray sign angle4 angle6) ≤ 2
+corner-few : (ray : Ray) (sign angle4 angle6 : Float) → length (corner ray sign angle4 angle6) ≤ 2
 unfolding corner
 corner-few ray sign angle4 angle6 = ray-roots-few (ray .x) (ray .y) (angle4 ⊕ sign ⊗ angle6)
 
-pub corners-few : (ray : Ray) (sign : Float) (limit4 limit6 : Range) → length (corners ray sign limit4 limit6) ≤ 8
+corners-few : (ray : Ray) (sign : Float) (limit4 limit6 : Range) → length (corners ray sign limit4 limit6) ≤ 8
 unfolding corners
 corners-few ray sign Nothing limit6 = omega arith
 corners-few ray sign (Between a b) Nothing = omega arith
@@ -91,30 +89,30 @@ corners-few ray sign (Between a b) (Between c d) =
     (corner-few ray sign b c))
     (corner-few ray sign b d)
 
-pub phase-roots-few : (ray : Ray) (sign : Float) (m4 m6 : Marks) → length (phase-roots ray sign m4 m6) ≤ 10
+phase-roots-few : (ray : Ray) (sign : Float) (m4 m6 : Marks) → length (phase-roots ray sign m4 m6) ≤ 10
 unfolding phase-roots
 phase-roots-few ray sign m4 m6 =
     both (corner ray sign (m4 .reference) (m6 .reference)) (corners ray sign (m4 .range) (m6 .range))
     (corner-few ray sign (m4 .reference) (m6 .reference))
     (corners-few ray sign (m4 .range) (m6 .range))
 
-pub phases-few : (w : Wrist) (m4 m6 : Marks) → length (phases w m4 m6) ≤ 20
+phases-few : (w : Wrist) (m4 m6 : Marks) → length (phases w m4 m6) ≤ 20
 unfolding phases
 phases-few w m4 m6 =
     both (phase-roots (w .sum) one-float m4 m6) (phase-roots (w .difference) (neg one-float) m4 m6)
     (phase-roots-few (w .sum) one-float m4 m6)
     (phase-roots-few (w .difference) (neg one-float) m4 m6)
 
-pub sixth-roots-few : (w : Wrist) (m4 : Marks) (s : Sixth) → length (sixth-roots w m4 s) ≤ 28
+sixth-roots-few : (w : Wrist) (m4 : Marks) (s : Sixth) → length (sixth-roots w m4 s) ≤ 28
 unfolding sixth-roots
 sixth-roots-few w m4 Fixed = omega arith
 sixth-roots-few w m4 (Turns m6) = both (ray-marks (w .q6) m6) (phases w m4 m6) (ray-marks-few (w .q6) m6) (phases-few w m4 m6)
 
-norm-roots-few : (x y : Harmonic) (norm : Float) → length (norm-roots x y norm) ≤ 58
+pub norm-roots-few : (x y : Harmonic) (norm : Float) → length (norm-roots x y norm) ≤ 58
 unfolding norm-roots
 norm-roots-few x y norm = either (squared-norm-holds x y norm) (squared-norm-roots x y norm) [] (squared-norm-few x y norm) (omega arith)
 
-pub bend-roots-few : (cos5 : Trig) (q4 : Ray) (angle : Float) → length (bend-roots cos5 q4 angle) ≤ 60
+bend-roots-few : (cos5 : Trig) (q4 : Ray) (angle : Float) → length (bend-roots cos5 q4 angle) ≤ 60
 unfolding bend-roots
 bend-roots-few cos5 q4 angle =
     let sine = abs (sin-cos angle .sine) in
@@ -123,16 +121,16 @@ bend-roots-few cos5 q4 angle =
     (roots-few cos5 (sin-cos angle .cosine))
     (either (narrow sine) found [] (norm-roots-few (harmonic (q4 .x)) (harmonic (q4 .y)) sine) (omega arith))
 
-pub bend-at-few : (cos5 : Trig) (q4 : Ray) (angle : Float) → length (bend-at cos5 q4 angle) ≤ 60
+bend-at-few : (cos5 : Trig) (q4 : Ray) (angle : Float) → length (bend-at cos5 q4 angle) ≤ 60
 unfolding bend-at
 bend-at-few cos5 q4 angle = either (finite angle) (bend-roots cos5 q4 angle) [] (bend-roots-few cos5 q4 angle) (omega arith)
 
-pub bend-range-few : (cos5 : Trig) (q4 : Ray) (range : Range) → length (bend-range cos5 q4 range) ≤ 120
+bend-range-few : (cos5 : Trig) (q4 : Ray) (range : Range) → length (bend-range cos5 q4 range) ≤ 120
 unfolding bend-range
 bend-range-few cos5 q4 Nothing = omega arith
 bend-range-few cos5 q4 (Between lower upper) = both (bend-at cos5 q4 lower) (bend-at cos5 q4 upper) (bend-at-few cos5 q4 lower) (bend-at-few cos5 q4 upper)
 
-pub bend-marks-few : (cos5 : Trig) (q4 : Ray) (m : Marks) → length (bend-marks cos5 q4 m) ≤ 240
+bend-marks-few : (cos5 : Trig) (q4 : Ray) (m : Marks) → length (bend-marks cos5 q4 m) ≤ 240
 unfolding bend-marks
 bend-marks-few cos5 q4 m =
     let at = bend-at cos5 q4 in
@@ -178,17 +176,17 @@ unfolding all-turns
 all-turns-few lower upper [] = omega arith
 all-turns-few lower upper (x ∷ l) = omega (arith, both (turns lower upper x) (all-turns lower upper l) (turns-few lower upper x) (all-turns-few lower upper l))
 
-pub windings-few : (lower upper root : Float) → length (windings lower upper root) ≤ 3
+windings-few : (lower upper root : Float) → length (windings lower upper root) ≤ 3
 unfolding windings
 windings-few lower upper root = either (finite root) (turns lower upper root) [] (turns-few lower upper root) (omega arith)
 
-pub all-windings-few : (lower upper : Float) (l : List Float) → length (all-windings lower upper l) ≤ 3 * length l
+all-windings-few : (lower upper : Float) (l : List Float) → length (all-windings lower upper l) ≤ 3 * length l
 unfolding all-windings
 all-windings-few lower upper [] = omega arith
 all-windings-few lower upper (x ∷ l) =
     omega (arith, both (windings lower upper x) (all-windings lower upper l) (windings-few lower upper x) (all-windings-few lower upper l))
 
-pub interval-values-few : (near : Float) (l : List Float) (range : Range) → length (interval-values near l range) ≤ 2 + 3 * length l
+interval-values-few : (near : Float) (l : List Float) (range : Range) → length (interval-values near l range) ≤ 2 + 3 * length l
 unfolding interval-values
 interval-values-few near l Nothing = omega arith
 interval-values-few near l (Between lower upper) = omega (arith, all-windings-few (near ⊕ lower) (near ⊕ upper) l)
@@ -201,7 +199,7 @@ interval-cuts-few near l range = omega (arith, cuts-short (interval-values near 
 -- ---- one free joint
 
 module _ (f : Free) where
-  pub free-roots-few : length (One.roots f) ≤ 282
+  free-roots-few : length (One.roots f) ≤ 282
   unfolding One.roots
   free-roots-few = all-roots-few (f .wrist) (f .near) (f .fourth) (f .fifth) (f .sixth) (f .limits .center)
 

@@ -14,23 +14,20 @@ use Rattle.float.specs.Trig.{P, sin-cos, hypot, atan2, asin}
 use Rattle.float.specs.declared.trig.SinCos.{SinCos}
 use Rattle.polynomial.specs.Angle.{wrapped-angle}
 use Rattle.polynomial.specs.Cuts.{cuts}
-use Rattle.polynomial.specs.Curve.{inner-holds, all-hold, squared-norm-holds, squared-norm-roots}
+use Rattle.polynomial.specs.Curve.{inner-holds, all-hold}
 use Rattle.polynomial.specs.Operation.{bounds-hold}
 use Rattle.polynomial.specs.Roots.{roots}
 use Rattle.polynomial.specs.Laws.Enclosed.{cuts-short}
-use Rattle.polynomial.specs.Laws.Norm.{squared-norm-few}
 use Rattle.polynomial.specs.declared.compensated.Compensated.{Compensated}
 use Rattle.polynomial.specs.declared.curve.Curve.{Curve}
-use Rattle.polynomial.specs.declared.curve.Harmonic.{Harmonic}
 use Rattle.sampling.specs.Constraints.{pick}
 use Rattle.sampling.specs.Continuum.{root-roundoff}
-use Rattle.sampling.specs.Bends.{norm-roots}
 use Rattle.sampling.specs.Samples.{all-turns}
 use Rattle.sampling.specs.Boundaries.{across, second-curves, pole-curves, fourth-curves, fifth-curves, sixth-curves, signed-corners, corner-curves, boundaries}
 use Rattle.sampling.specs.BendSlices.{transverse, transverse-range, transverses, axis-angles, axes-range, fold, folds, folds-range, bend-slice, bend-slices}
 use Rattle.sampling.specs.CriticalSlices.{chart, angles, chart-roots, Polynomials, polynomials, tangency, intersection, meetings, critical}
 use Rattle.sampling.specs.J1j2free.{curves, bends, critical-slices, half-cuts, first-half, second-half, cut-count}
-use Rattle.sampling.specs.Laws.Few.{both, either, all-turns-few}
+use Rattle.sampling.specs.Laws.Few.{both, either, norm-roots-few, all-turns-few}
 use Rattle.sampling.specs.declared.critical_slices.Chart.{Chart}
 use Rattle.sampling.specs.declared.intervals.Range.{Range}
 use Rattle.sampling.specs.declared.intervals.Range.the-variants.{Nothing, Between}
@@ -41,35 +38,35 @@ use Rattle.sampling.specs.Pose as Pose
 
 -- ---- curves
 
-second-few : (q3 : Float) (range : Range) → length (second-curves q3 range) ≤ 2
+second-curves-few : (q3 : Float) (range : Range) → length (second-curves q3 range) ≤ 2
 unfolding second-curves
-second-few q3 Nothing = omega arith
-second-few q3 (Between lower upper) = omega arith
+second-curves-few q3 Nothing = omega arith
+second-curves-few q3 (Between lower upper) = omega arith
 
-poles-few : (z : Vector) → length (pole-curves z) ≤ 2
+pole-curves-few : (z : Vector) → length (pole-curves z) ≤ 2
 unfolding pole-curves
-poles-few z = omega arith
+pole-curves-few z = omega arith
 
-fourth-few : (z : Vector) (range : Range) → length (fourth-curves z range) ≤ 2
+fourth-curves-few : (z : Vector) (range : Range) → length (fourth-curves z range) ≤ 2
 unfolding fourth-curves
-fourth-few z Nothing = omega arith
-fourth-few z (Between lower upper) = omega arith
+fourth-curves-few z Nothing = omega arith
+fourth-curves-few z (Between lower upper) = omega arith
 
-fifth-few : (z : Vector) (range : Range) → length (fifth-curves z range) ≤ 2
+fifth-curves-few : (z : Vector) (range : Range) → length (fifth-curves z range) ≤ 2
 unfolding fifth-curves
-fifth-few z Nothing = omega arith
-fifth-few z (Between lower upper) = omega arith
+fifth-curves-few z Nothing = omega arith
+fifth-curves-few z (Between lower upper) = omega arith
 
-sixth-few : (m : Matrix) (range : Range) → length (sixth-curves m range) ≤ 2
+sixth-curves-few : (m : Matrix) (range : Range) → length (sixth-curves m range) ≤ 2
 unfolding sixth-curves
-sixth-few m Nothing = omega arith
-sixth-few m (Between lower upper) = omega arith
+sixth-curves-few m Nothing = omega arith
+sixth-curves-few m (Between lower upper) = omega arith
 
-corners-few : (m : Matrix) (range4 range6 : Range) → length (corner-curves m range4 range6) ≤ 8
+corner-curves-few : (m : Matrix) (range4 range6 : Range) → length (corner-curves m range4 range6) ≤ 8
 unfolding corner-curves signed-corners
-corners-few m Nothing range6 = omega arith
-corners-few m (Between a b) Nothing = omega arith
-corners-few m (Between a b) (Between c d) = omega arith
+corner-curves-few m Nothing range6 = omega arith
+corner-curves-few m (Between a b) Nothing = omega arith
+corner-curves-few m (Between a b) (Between c d) = omega arith
 
 module _ (m : Matrix) (q3 : Float) (range2 range4 range5 range6 : Range) where
   pub boundaries-few : length (boundaries m q3 range2 range4 range5 range6) ≤ 18
@@ -82,9 +79,9 @@ module _ (m : Matrix) (q3 : Float) (range2 range4 range5 range6 : Range) where
       let c = sixth-curves m range6 in
       both ((((s ++ p) ++ a) ++ b) ++ c) (corner-curves m range4 range6)
       (both (((s ++ p) ++ a) ++ b) c
-      (both ((s ++ p) ++ a) b (both (s ++ p) a (both s p (second-few q3 range2) (poles-few (m .z))) (fourth-few (m .z) range4)) (fifth-few (m .z) range5))
-      (sixth-few m range6))
-      (corners-few m range4 range6)
+      (both ((s ++ p) ++ a) b (both (s ++ p) a (both s p (second-curves-few q3 range2) (pole-curves-few (m .z))) (fourth-curves-few (m .z) range4)) (fifth-curves-few (m .z) range5))
+      (sixth-curves-few m range6))
+      (corner-curves-few m range4 range6)
 
 -- ---- slices of narrow bends
 
@@ -116,18 +113,14 @@ transverses-few z s5 range =
     (both a b (transverse-few radius azimuth (neg norm ⊗ s5)) (transverse-few radius azimuth (norm ⊗ s5)))
     (transverse-range-few radius azimuth (norm ⊗ s5) range)
 
-axes-few : (m : Matrix) (q5 : SinCos) (range : Range) → length (axes-range m q5 range) ≤ 4
+axes-range-few : (m : Matrix) (q5 : SinCos) (range : Range) → length (axes-range m q5 range) ≤ 4
 unfolding axes-range axis-angles
-axes-few m q5 Nothing = omega arith
-axes-few m q5 (Between lower upper) = omega arith
-
-norm-few : (x y : Harmonic) (norm : Float) → length (norm-roots x y norm) ≤ 58
-unfolding norm-roots
-norm-few x y norm = either (squared-norm-holds x y norm) (squared-norm-roots x y norm) [] (squared-norm-few x y norm) (omega arith)
+axes-range-few m q5 Nothing = omega arith
+axes-range-few m q5 (Between lower upper) = omega arith
 
 folds-few : (z : Vector) (q3 s5 angle2 : Float) → length (folds z q3 s5 angle2) ≤ 58
 unfolding folds
-folds-few z q3 s5 angle2 = norm-few (fold z (angle2 ⊕ q3)) (across z) (Pose.vector-length z ⊗ abs s5)
+folds-few z q3 s5 angle2 = norm-roots-few (fold z (angle2 ⊕ q3)) (across z) (Pose.vector-length z ⊗ abs s5)
 
 folds-range-few : (z : Vector) (q3 s5 : Float) (range : Range) → length (folds-range z q3 s5 range) ≤ 116
 unfolding folds-range
@@ -141,7 +134,7 @@ module _ (m : Matrix) (q3 : Float) (range2 range4 : Range) where
       let q5 = sin-cos angle5 in
       let a = transverses (m .z) (q5 .sine) range4 in
       let b = axes-range m q5 range6 in
-      both (a ++ b) (folds-range (m .z) q3 (q5 .sine) range2) (both a b (transverses-few (m .z) (q5 .sine) range4) (axes-few m q5 range6)) (folds-range-few (m .z) q3 (q5 .sine) range2)
+      both (a ++ b) (folds-range (m .z) q3 (q5 .sine) range2) (both a b (transverses-few (m .z) (q5 .sine) range4) (axes-range-few m q5 range6)) (folds-range-few (m .z) q3 (q5 .sine) range2)
 
   pub bend-slices-few : (range5 range6 : Range) → length (bend-slices m q3 range2 range4 range5 range6) ≤ 256
   unfolding bend-slices
@@ -220,9 +213,9 @@ unfolding bends
 bends-few t = bend-slices-few (t .matrix) (t .q3) (t .range2) (t .range4) (t .range5) (t .range6)
 
 -- two ends, 18 curves and 153 pairs of them, three turns of 256 bends
-pub half-few : (t : Folded) (lower upper : Float) → length (half-cuts t lower upper) ≤ 87809
+pub half-cuts-few : (t : Folded) (lower upper : Float) → length (half-cuts t lower upper) ≤ 87809
 unfolding half-cuts critical-slices
-half-few t lower upper =
+half-cuts-few t lower upper =
     let c = critical (chart lower upper) (curves t) in
     let ends = (lower ∷ [] ++ upper ∷ []) ++ c in
     let turned = all-turns lower upper (bends t) in
@@ -239,4 +232,4 @@ half-few t lower upper =
 pub cut-count-few : (t : Folded) (range : Range) → cut-count t range ≤ 175618
 unfolding cut-count first-half second-half
 cut-count-few t Nothing = omega arith
-cut-count-few t (Between lower upper) = omega (arith, half-few t lower (middle lower upper), half-few t (middle lower upper) upper)
+cut-count-few t (Between lower upper) = omega (arith, half-cuts-few t lower (middle lower upper), half-cuts-few t (middle lower upper) upper)

@@ -44,7 +44,7 @@ unfolding meetings
 meetings-fit c k [] = tt
 meetings-fit c k (d ∷ l) = let p = intersection k (polynomials d (c .origin)) in fit-append (chart-roots c p) (meetings c k l) (chart-roots-fit c p) (meetings-fit c k l)
 
-pub critical-fit : (c : Chart) (l : List Curve) → Fit (critical c l)
+critical-fit : (c : Chart) (l : List Curve) → Fit (critical c l)
 unfolding critical
 critical-fit c [] = tt
 critical-fit c (d ∷ l) =
@@ -63,7 +63,7 @@ turns-fit lower upper angle =
     let fit : (w : Float) → Fit (at w) = λ w. inside-fit lower upper (angle ⊕ w ⊗ turn) (add-fits binary64 angle (w ⊗ turn)) in
     fit-append (at (neg one-float) ++ at zero-float) (at one-float) (fit-append (at (neg one-float)) (at zero-float) (fit (neg one-float)) (fit zero-float)) (fit one-float)
 
-pub all-turns-fit : (lower upper : Float) (l : List Float) → Fit (all-turns lower upper l)
+all-turns-fit : (lower upper : Float) (l : List Float) → Fit (all-turns lower upper l)
 unfolding all-turns
 all-turns-fit lower upper [] = tt
 all-turns-fit lower upper (a ∷ l) = fit-append (turns lower upper a) (all-turns lower upper l) (turns-fit lower upper a) (all-turns-fit lower upper l)

@@ -23,7 +23,7 @@ use Rattle.sampling.specs.declared.intervals.Range.the-variants.{Nothing
 use Rattle.sampling.specs.declared.job.Joint.{Joint}
 
 -- ---- the half width of a tolerance that is a number and not below zero
-pub half-in : (t : Float) → T (not (isNan t)) → T (not (lt t zero-float)) → In zero-float P (minimum t P)
+half-in : (t : Float) → T (not (isNan t)) → T (not (lt t zero-float)) → In zero-float P (minimum t P)
 unfolding minimum isNan le
 half-in nan n h = absurd n
 half-in (inf true) n h = absurd h
@@ -34,7 +34,7 @@ half-in (fin s m e) n h = go (lt P (fin s m e)) (nlt→Le P (fin s m e) tt tt)
     go true k = record { lower = le→Le zero-float P tt tt tt; upper = Le-refl P tt }
     go false k = record { lower = nlt→Le (fin s m e) zero-float tt tt h; upper = k tt }
 
-pub half-within : {x : Float} → In zero-float P x → Within P x
+half-within : {x : Float} → In zero-float P x → Within P x
 unfolding neg le
 half-within h = Le→within tt (h .upper) (Le-trans (le→Le (neg P) zero-float tt tt tt) (h .lower))
 
@@ -71,7 +71,7 @@ around-ends c h w k =
       order = le→Le (c ⊖ h) (c ⊕ h) (lower .real) (upper .real) (add-mono binary64 (Le-refl c (w .real)) turned);
     }
 
-pub ends : {lo hi : Float} → Around lo hi → Ends lo hi
+ends : {lo hi : Float} → Around lo hi → Ends lo hi
 ends a = rw (a .lower-is, a .upper-is) (around-ends (a .center) (a .half) (a .center-within) (a .half-between))
 
 -- ---- the centre
@@ -115,7 +115,7 @@ chosen true true true s a b c n = a
 chosen true true false true a b c n = b
 chosen true true false false a b c n = c
 
-pub compute-fits : (a b : Float) → Center-fits (compute-center a b)
+compute-fits : (a b : Float) → Center-fits (compute-center a b)
 unfolding compute-center fits
 compute-fits a b =
     chosen (finite a) (finite b) (eq a b) (lt a b)
@@ -124,13 +124,13 @@ compute-fits a b =
     (fitting (a ⊕ arc a b ⊘ two-float) (arc a b ⊘ two-float) (add-fits binary64 a (arc a b ⊘ two-float)) (div-fits binary64 (arc a b) two-float))
     (fitting nan nan tt tt)
 
-pub centered-fits : (limited : Bool) (j : Joint) → T (fits binary64 (j .reference)) → Center-fits (centered limited j)
+centered-fits : (limited : Bool) (j : Joint) → T (fits binary64 (j .reference)) → Center-fits (centered limited j)
 unfolding centered fits
 centered-fits true j t = compute-fits (j .from) (j .to)
 centered-fits false j t = fitting (j .reference) P t tt
 
 -- ---- the laws
-pub limits-of-around : (c : Center) (sign offset lo hi : Float) → Center-fits c → Within one-float sign → Within turn offset → limits-of c sign offset ≡ Between lo hi → Around lo hi
+limits-of-around : (c : Center) (sign offset lo hi : Float) → Center-fits c → Within one-float sign → Within turn offset → limits-of c sign offset ≡ Between lo hi → Around lo hi
 unfolding limits-of
 limits-of-around c sign offset lo hi t s o e =
     let m = wrapped-angle (c .center) ⊗ sign ⊖ offset in

@@ -16,7 +16,7 @@ use Rattle.sampling.specs.declared.stream.Cursor.{Cursor}
 use Rattle.sampling.specs.declared.stream.Step.{Step}
 use Rattle.sampling.specs.declared.stream.Step.the-variants.{Yield, Done}
 
-pub three-length : (a b c : List Float) → length (three-samples a b c) ≡ sample-count (length a) + sample-count (length b) + sample-count (length c)
+three-length : (a b c : List Float) → length (three-samples a b c) ≡ sample-count (length a) + sample-count (length b) + sample-count (length c)
 unfolding three-samples
 three-length a b c =
     let s = length-append (samples a ++ samples b) (samples c) in

@@ -11,7 +11,7 @@ use lib.Seq.{take-at, drop-at}
 use lib.Ieee.{Float, binary64, fits, isNan}
 use lib.Ieee.Fits.{add-fits}
 use Rattle.float.specs.Number.{_⊖_, _⊘_, middle, two-float}
-use Rattle.polynomial.specs.Laws.Enclosed.{number}
+use Rattle.float.specs.Laws.Tests.{finite-number}
 use Rattle.sampling.specs.Angles as Of
 use Rattle.sampling.specs.Constraints.{pick}
 use Rattle.sampling.specs.Cutting as Cuts
@@ -159,7 +159,7 @@ streams t lower upper e fit real =
       number = real;
       same =
           rw (p, q)
-          (halves-slices (t .reference) lower upper m _ _ _ _ refl refl fit (number lower (e .lower-within .real)) (number upper (e .upper-within .real))
+          (halves-slices (t .reference) lower upper m _ _ _ _ refl refl fit (finite-number lower (e .lower-within .real)) (finite-number upper (e .upper-within .real))
           (half-fit t lower m (e .lower-fits) fm)
           (half-fit t m upper fm (e .upper-fits)));
     }

@@ -7,9 +7,10 @@ use Rattle.float.specs.Number.{_⊖_, _⊗_, one-float}
 use Rattle.float.specs.Trig.{P}
 use Rattle.float.specs.Laws.Within.{Within, held, fits→held, mul-within}
 use Rattle.float.specs.Laws.Interval.{in-wider, sub-in, within-in}
+use Rattle.float.specs.Laws.Tests.{finite-number}
+use Rattle.float.specs.Laws.Extremes.{largest, held-largest}
 use Rattle.polynomial.specs.Angle.{turn}
-use Rattle.polynomial.specs.Laws.Enclosed.{number}
-use Rattle.polynomial.specs.Laws.Wrapped.{largest, held-largest, wrapped-fits, wrapped-within}
+use Rattle.polynomial.specs.Laws.Wrapped.{wrapped-fits, wrapped-within}
 use Rattle.sampling.specs.J1j2free.{model-reference}
 use Rattle.sampling.specs.Planned.{Moderate}
 use Rattle.sampling.specs.Laws.Limits.{unit-sign}
@@ -34,4 +35,4 @@ reference-within j t m =
     (turned-held (j .reference) (j .sign) (j .offset) (fits→held binary64 (j .reference) t (m .reference)) (unit-sign (m .sign)) (m .offset))
 
 pub reference-number : (j : Joint) → T (fits binary64 (j .reference)) → Moderate j → T (not (isNan (model-reference j)))
-reference-number j t m = number (model-reference j) (reference-within j t m .real)
+reference-number j t m = finite-number (model-reference j) (reference-within j t m .real)

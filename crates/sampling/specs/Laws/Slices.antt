@@ -31,7 +31,7 @@ unfolding dedup rest
 rest-nan [] = refl
 rest-nan (x ∷ l) = rw (eq-nan x)
 
-pub distinct-cuts : (a b : List Float) (r : Float) → distinct a b r start ≡ cuts (weave a ++ (weave b ++ r ∷ []))
+distinct-cuts : (a b : List Float) (r : Float) → distinct a b r start ≡ cuts (weave a ++ (weave b ++ r ∷ []))
 unfolding distinct stream cuts
 distinct-cuts a b r = rest-nan (sort (weave a ++ (weave b ++ r ∷ [])))
 

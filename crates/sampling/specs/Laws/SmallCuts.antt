@@ -19,10 +19,11 @@ use Rattle.polynomial.specs.Curve.{inner-holds, all-hold}
 use Rattle.polynomial.specs.Operation.{bounds-hold}
 use Rattle.polynomial.specs.Roots.{roots}
 use Rattle.polynomial.specs.Laws.Bounds.{bounds-span}
-use Rattle.polynomial.specs.Laws.Enclosed.{All, all-append, all-in, between-number}
+use Rattle.polynomial.specs.Laws.Enclosed.{all-in, between-number}
 use Rattle.polynomial.specs.Laws.Halving.{Between}
 use Rattle.polynomial.specs.declared.compensated.Compensated.{Compensated}
 use Rattle.polynomial.specs.declared.curve.Curve.{Curve}
+use Rattle.polynomial.specs.Laws.Lists.{All, all-append}
 use Rattle.sampling.specs.Constraints.{pick}
 use Rattle.sampling.specs.Samples.{inside, turns, all-turns}
 use Rattle.sampling.specs.CriticalSlices.{chart, angles, chart-roots, Polynomials, polynomials, tangency, intersection, meetings, critical}
@@ -38,7 +39,7 @@ use Rattle.sampling.specs.declared.j1j2free.Folded.{Folded}
 abbrev eight : Float
 eight = fin false 1 (pos 3)
 
-pub ends-span : {lower upper : Float} → Ends lower upper → Span 3 lower upper
+ends-span : {lower upper : Float} → Ends lower upper → Span 3 lower upper
 ends-span e = record {
   room = lit< tt;
   lo-fits = e .lower-fits;
@@ -138,7 +139,7 @@ module _ (lower upper : Float) (s : Span 3 lower upper) where
   -- ---- a half
 
   module _ (t : Folded) where
-    pub half-small : All Small (half-values (curves t) (bends t) lower upper)
+    half-small : All Small (half-values (curves t) (bends t) lower upper)
     half-small =
         let ends = lower ∷ [] ++ upper ∷ [] in
         let c = critical (chart lower upper) (curves t) in

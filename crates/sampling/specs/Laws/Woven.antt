@@ -12,10 +12,12 @@ use Rattle.float.specs.Laws.Within.{Within}
 use Rattle.float.specs.Laws.Range.{lt→Le}
 use Rattle.float.specs.Laws.Middle.{Span, middle-within}
 use Rattle.polynomial.specs.Cuts.{cuts}
-use Rattle.polynomial.specs.Laws.Cuts.{From, Fit, Above, Strict, from-sorted, fit-cuts, strict-cuts}
-use Rattle.polynomial.specs.Laws.Enclosed.{All, all-cuts, number, less}
+use Rattle.polynomial.specs.Laws.Cuts.{From, Fit, Above, Strict, from-sorted, fit-cuts, strict-cuts, all-cuts}
+use Rattle.polynomial.specs.Laws.Enclosed.{less}
+use Rattle.polynomial.specs.Laws.Lists.{All}
 use Rattle.sampling.specs.Stream.{weave, Woven}
-use Rattle.sampling.specs.Laws.Between.{middle-above, middle-below}
+use Rattle.float.specs.Laws.Between.{middle-above, middle-below}
+use Rattle.float.specs.Laws.Tests.{finite-number}
 
 -- at most 64 in size
 abbrev pub Small : Float → Type 0
@@ -31,17 +33,17 @@ pair : (x y : Float) → T (fits binary64 x) → T (fits binary64 y) → Small x
 pair x y fx fy hx hy t e =
     let l = less x y (hy .real) t e in
     let s : Span 6 x y = record { room = omega arith; lo-fits = fx; hi-fits = fy; lo-within = hx; hi-within = hy; order = lt→Le x y (hx .real) (hy .real) l } in
-    record { above = middle-above s l; below = middle-below s l; number-it = number (middle x y) (middle-within s .real) }
+    record { above = middle-above s l; below = middle-below s l; number-it = finite-number (middle x y) (middle-within s .real) }
 
 -- p stands before x
 behind : (p x : Float) (l : List Float) → T (total-le p x) → T (fits binary64 x) → Fit l → Small x → All Small l → Above x l
     → From p (weave (x ∷ l)) × All (λ z. T (not (isNan z))) (weave (x ∷ l))
 unfolding weave
-behind p x [] t fx f hx h a = ((t, tt), (number x (hx .real), tt))
+behind p x [] t fx f hx h a = ((t, tt), (finite-number x (hx .real), tt))
 behind p x (y ∷ l) t fx f hx h a =
     let m = pair x y fx (f .0) hx (h .0) (a .0) (a .1) in
     let i = behind (middle x y) y l (m .below) (f .0) (f .1) (h .0) (h .1) (a .2) in
-    ((t, (m .above, i .0)), (number x (hx .real), (m .number-it, i .1)))
+    ((t, (m .above, i .0)), (finite-number x (hx .real), (m .number-it, i .1)))
 
 strict-woven : (l : List Float) → Fit l → All Small l → Strict l → Woven l
 strict-woven [] f h a = record { order = unfold weave in tt; numbers = unfold weave in tt }

@@ -1,23 +1,19 @@
 -- `float::mul_add::combine` meets its contract: what it hands `finish` is the sum or the difference of the two numbers. Assumes nothing.
-use mathlib.Core.Path.{_≡_, refl, sym, _∙_, subst}
-use mathlib.Core.Bool.{false, true≢false}
+use mathlib.Core.Path.{_≡_, sym, _∙_, subst}
+use mathlib.Core.Bool.{true≢false}
 use Prim.Native.Nat.{ℕ, _+_, _-_, _*_, _^_, _≤_, _<_}
-use native.Mathlib.Nat.{lt-of-le-of-lt, le-trans, le-of-eq, le-add-right, lt-of-mul-lt-mul-right}
+use native.Mathlib.Nat.{le-of-lt}
 use native.Mathlib.Omega.{arith}
 use lib.Arith.{digits-lt}
-use lib.IntN.{pos}
-use lib.Ieee.{fin, binary64, ofBits}
 use borrow.Author.Needs.{needs}
 use borrow.Author.Tests.{ltb-true, ltb-false}
 use Rattle.float.specs.Parts.{Finishes}
+use Rattle.float.specs.Laws.Zero.{zero-bits}
 use Rattle.float.proofs.mul_add.combine.Statement.{statement}
 use Rattle.float.proofs.mul_add.combine.Tie as tie
+use Rattle.float.proofs.mul_add.Fuse.{upper}
 
 -- ---- numbers
--- the upper word of a number below M * N
-upper : (h l Z M N : ℕ) → h * N + l ≡ Z → Z < M * N → h < M
-upper h l Z M N e b = lt-of-mul-lt-mul-right N (lt-of-le-of-lt (le-trans (le-add-right (h * N) l) (le-of-eq e)) b)
-
 room : (x v M N : ℕ) → x < M * N → v < M * N → x + v < 2 * M * N
 room x v M N a b = omega arith
 
@@ -30,16 +26,8 @@ apart x v h = omega arith
 not-below : (x v : ℕ) → x ≤ v → v < x → ⊥
 not-below x v a b = omega arith
 
-above : (x v : ℕ) → v < x → v ≤ x
-above x v h = omega arith
-
 not-level : (x v : ℕ) → x < v → x ≡ v → ⊥
 not-level x v a e = omega arith
-
--- the result of the last branch
-zero-is : ofBits binary64 0 ≡ fin false 0 (pos 0)
-unfolding ofBits
-zero-is = refl
 
 -- ---- the two numbers
 module _ (a : tie.Start) where
@@ -95,7 +83,7 @@ less-requires : tie.Need-less-requires
 less-requires c κs = search needs
 
 sub-requires : tie.Need-sub-requires
-sub-requires c κs = let a = c .before .before .before in above (X a) (W a) (x-more c)
+sub-requires c κs = let a = c .before .before .before in le-of-lt (x-more c)
 
 finish-requires-2 : tie.Need-finish-requires-2
 finish-requires-2 c κs =
@@ -115,7 +103,7 @@ returns-2 c =
     record {
       same = λ s. absurd (true≢false (sym s ∙ e .if1 .left));
       more = λ _ _. subst (λ (n : ℕ). Finishes (a .args .neg) n (a .args .y) (c .finish2 .result)) (c .before .sub .ensures) (c .finish2 .ensures);
-      less = λ _ h. absurd (not-below (X a) (W a) (above (W a) (X a) h) (x-more t));
+      less = λ _ h. absurd (not-below (X a) (W a) (le-of-lt h) (x-more t));
       none = λ _ h. absurd (not-level (W a) (X a) (x-more t) (sym h));
     }
 
@@ -123,7 +111,7 @@ less-requires-2 : tie.Need-less-requires-2
 less-requires-2 c κs = search needs
 
 sub-requires-2 : tie.Need-sub-requires-2
-sub-requires-2 c κs = let a = c .before .before .before .before .before in above (W a) (X a) (w-more c)
+sub-requires-2 c κs = let a = c .before .before .before .before .before in le-of-lt (w-more c)
 
 finish-requires-3 : tie.Need-finish-requires-3
 finish-requires-3 c κs =
@@ -142,7 +130,7 @@ returns-3 c =
     let a = e .before in
     record {
       same = λ s. absurd (true≢false (sym s ∙ e .if1 .left));
-      more = λ _ h. absurd (not-below (W a) (X a) (above (X a) (W a) h) (w-more t));
+      more = λ _ h. absurd (not-below (W a) (X a) (le-of-lt h) (w-more t));
       less = λ _ _. subst (λ (n : ℕ). Finishes (a .args .other) n (a .args .y) (c .finish3 .result)) (c .before .sub2 .ensures) (c .finish3 .ensures);
       none = λ _ h. absurd (not-level (X a) (W a) (w-more t) h);
     }
@@ -156,7 +144,7 @@ returns-4 c =
       same = λ s. absurd (true≢false (sym s ∙ e .if1 .left));
       more = λ _ h. absurd (not-below (X a) (W a) (x-less l) h);
       less = λ _ h. absurd (not-below (W a) (X a) (w-less c) h);
-      none = λ _ _. zero-is;
+      none = λ _ _. zero-bits;
     }
 
 pub combine-spec : {M : Type 1} → statement M

@@ -7,7 +7,8 @@ use lib.Bits.{bitAnd, and-mask, mask-lt}
 use lib.Ieee.{binary64, fits, toBits}
 use borrow.Author.Needs.{needs}
 use Rattle.float.specs.Parts.{Splits}
-use Rattle.float.proofs.Read.{finite-no-nan, split-low, split-high}
+use Rattle.float.specs.Laws.Tests.{finite-number}
+use Rattle.float.proofs.Read.{split-low, split-high}
 use Rattle.float.proofs.mul_add.split.Statement.{statement}
 use Rattle.float.proofs.mul_add.split.Tie as tie
 
@@ -26,7 +27,7 @@ one-less : (n : ℕ) → (n ≡ 0 → ⊥) → n ≡ suc (n - 1)
 one-less n h = omega arith
 
 float-to-bits-bits : tie.Need-float-to-bits-bits
-float-to-bits-bits c = finite-no-nan (c .args .x) (c .pre)
+float-to-bits-bits c = finite-number (c .args .x) (c .pre)
 
 add-t9 : tie.Need-add-t9
 add-t9 c = omega (arith, mask-lt (bits (c .before)) 52)

@@ -3,7 +3,7 @@ use mathlib.Core.Path.{_≡_, refl, sym, ap, _∙_}
 use mathlib.Core.Bool.{Bool, true, false, cond}
 use Prim.Native.Nat.{ℕ}
 use lib.IntN.{ℤ}
-use lib.Ieee.{Float, nan, binary64, add, sub, mul, div, le, ofInt, ofBits}
+use lib.Ieee.{Float, nan, binary64, add, sub, mul, le, ofInt, ofBits}
 use mir.Syntax.{w64}
 use mir.Val.{toZ, ofZ}
 use mir.ValLaws.{toZ-ofZ}
@@ -13,6 +13,7 @@ use Rattle.float.specs.Trig.{widest, turns, reduced, quadrant, sine, cos
 use Rattle.float.specs.declared.trig.SinCos.{SinCos}
 use Rattle.float.specs.Laws.Range.{abs-within}
 use Rattle.float.specs.Laws.Reduce.{quad, turns-held}
+use Rattle.float.specs.Laws.Literals.{nan-bits}
 use Rattle.float.proofs.trig.sin_cos.Statement.{statement}
 use Rattle.float.proofs.trig.sin_cos.Tie as tie
 
@@ -55,11 +56,6 @@ inside x a f s w k q out ea t ek ef eq es ew eo =
     r : steps x f ≡ reduced (turns x) x
     r = ap (steps x) (ef ∙ ap (ofInt binary64) whole) ∙ steps-are x (turns x)
 
--- 0 / 0
-nan-is : div binary64 (ofBits binary64 0) (ofBits binary64 0) ≡ nan
-unfolding div ofBits
-nan-is = refl
-
 abs-requires : tie.Need-abs-requires
 abs-requires c κs = search needs
 
@@ -99,7 +95,7 @@ returns-2 : tie.Need-returns-2
 unfolding sin-cos
 returns-2 c =
     let a = c .before in
-    (λ i. record { sine = nan-is i; cosine = nan-is i }) ∙ sym (ap (λ (b : Bool). cond b (turned (quadrant (turns (a .before .args .x))) (sine (reduced (turns (a .before .args .x)) (a .before .args .x))) (cosine (reduced (turns (a .before .args .x)) (a .before .args .x)))) (record { sine = nan; cosine = nan })) (test-is (a .before .args .x) (a .abs .result) false (a .abs .ensures) (c .if1 .left)))
+    (λ i. record { sine = nan-bits i; cosine = nan-bits i }) ∙ sym (ap (λ (b : Bool). cond b (turned (quadrant (turns (a .before .args .x))) (sine (reduced (turns (a .before .args .x)) (a .before .args .x))) (cosine (reduced (turns (a .before .args .x)) (a .before .args .x)))) (record { sine = nan; cosine = nan })) (test-is (a .before .args .x) (a .abs .result) false (a .abs .ensures) (c .if1 .left)))
 
 pub sin-cos-spec : {M : Type 1} → statement M
 sin-cos-spec =

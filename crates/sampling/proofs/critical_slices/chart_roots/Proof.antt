@@ -3,7 +3,7 @@ use borrow.Author.Needs.{needs}
 use mathlib.Core.Path.{sym}
 use Rattle.sampling.specs.CriticalSlices.{angles, chart-roots, chart-holds}
 use Rattle.sampling.specs.Laws.Grown.{none}
-use Rattle.sampling.proofs.critical_slices.Inner.{refused, holds, within, list}
+use Rattle.polynomial.specs.Laws.Inner.{call-refused, call-holds, call-within, call-list}
 use Rattle.sampling.proofs.critical_slices.chart_roots.Statement.{statement}
 use Rattle.sampling.proofs.critical_slices.chart_roots.Tie as tie
 
@@ -22,7 +22,7 @@ slice-aggregate-angles c = search needs
 angles-requires : tie.Need-angles-requires
 angles-requires c κs =
     let g = c .before .before .before .before .before .before in
-    within _ _ _ _ (g .inner-roots .ensures .0) _ _ (g .inner-roots .ensures .1) _ (c .before .before .before .answer .given .1)
+    call-within _ _ _ _ (g .inner-roots .ensures .0) _ _ (g .inner-roots .ensures .1) _ (c .before .before .before .answer .given .1)
 
 enum-told : tie.Need-enum-told
 enum-told c = search needs
@@ -36,8 +36,8 @@ returns c =
     let g = c .before .before .before .before .before .before .before .before .before in
     let e = g .inner-roots .ensures in
     let f = c .before .before .before .before .before .before .answer .given .1 in
-    let h = holds _ _ _ _ (e .0) _ _ (e .1) _ f in
-    let l = list _ _ _ _ (e .0) _ _ (e .1) _ f in (
+    let h = call-holds _ _ _ _ (e .0) _ _ (e .1) _ f in
+    let l = call-list _ _ _ _ (e .0) _ _ (e .1) _ f in (
       sym h,
       rw (h, ← l) (c .before .before .angles .ensures),
     )
@@ -46,7 +46,7 @@ returns-2 : tie.Need-returns-2
 unfolding chart-roots chart-holds
 returns-2 c =
     let g = c .before .before .before in
-    let h = refused _ _ _ _ (g .inner-roots .ensures .0) (c .enum-told .given .1) in
+    let h = call-refused _ _ _ _ (g .inner-roots .ensures .0) (c .enum-told .given .1) in
     (sym h, rw h none)
 
 pub chart-roots-spec : {M : Type 1} → statement M

@@ -1,17 +1,14 @@
 -- `sampling::plan::count_slices` meets its contract: what `count` says of the two parts. Assumes nothing.
 use borrow.Author.Needs.{needs}
-use mathlib.Core.Path.{_≡_, sym, ap, subst, _∙_}
-use Prim.Native.Nat.{ℕ, _+_, _-_}
+use mathlib.Core.Path.{sym, ap, subst, _∙_}
+use Prim.Native.Nat.{ℕ}
 use native.Mathlib.Omega.{arith}
+use native.Mathlib.Nat.{add-sub-cancel-left}
 use lib.Seq.{length-take-le}
 use lib.ListN.{length, take, drop}
 use Rattle.sampling.specs.Stream.{distinct, start, Woven}
 use Rattle.sampling.proofs.plan.count_slices.Statement.{statement}
 use Rattle.sampling.proofs.plan.count_slices.Tie as tie
-
--- the second part's length, as the code's range has it
-part : (a b : ℕ) → a + b - a ≡ b
-part a b = omega arith
 
 add-end : tie.Need-add-end
 add-end c = let s = c .before .before in omega (arith, s .pre .room, s .good)
@@ -36,14 +33,14 @@ count-requires c κs =
     let s = c .before .before .before .before in
     let a = s .args in (
       s .pre .first,
-      (subst (λ (k : ℕ). Woven (take k (drop (a .h .first) (a .work .now)))) (sym (part (a .h .first) (a .h .second))) (s .pre .second), s .pre .number),
+      (subst (λ (k : ℕ). Woven (take k (drop (a .h .first) (a .work .now)))) (sym (add-sub-cancel-left (a .h .first) (a .h .second))) (s .pre .second), s .pre .number),
     )
 
 returns : tie.Need-returns
 returns c =
     let a = c .before .before .before .before .before .args in
     let w = a .work .now in
-    c .count .ensures ∙ ap (λ (k : ℕ). length (distinct (take (a .h .first) w) (take k (drop (a .h .first) w)) (a .h .reference) start)) (part (a .h .first) (a .h .second))
+    c .count .ensures ∙ ap (λ (k : ℕ). length (distinct (take (a .h .first) w) (take k (drop (a .h .first) w)) (a .h .reference) start)) (add-sub-cancel-left (a .h .first) (a .h .second))
 
 pub count-slices-spec : {M : Type 1} → statement M
 count-slices-spec = tie.close (tie.spec add-end slice-aggregate-count mul-count sub-count part-count-start part-count-end count-requires returns)

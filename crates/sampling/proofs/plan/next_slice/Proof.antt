@@ -1,18 +1,15 @@
 -- `sampling::plan::next_slice` meets its contract: what `next` says of the two parts. Assumes nothing.
 use borrow.Author.Needs.{needs}
-use mathlib.Core.Path.{_≡_, sym, subst}
-use Prim.Native.Nat.{ℕ, _+_, _-_}
+use mathlib.Core.Path.{sym, subst}
+use Prim.Native.Nat.{ℕ}
 use native.Mathlib.Omega.{arith}
+use native.Mathlib.Nat.{add-sub-cancel-left}
 use lib.Seq.{length-take-le}
 use lib.ListN.{take, drop}
 use Rattle.sampling.specs.Stream.{distinct, Steps, Woven}
 use Rattle.sampling.specs.Laws.Plan.{gives}
 use Rattle.sampling.proofs.plan.next_slice.Statement.{statement}
 use Rattle.sampling.proofs.plan.next_slice.Tie as tie
-
--- the second part's length, as the code's range has it
-part : (a b : ℕ) → a + b - a ≡ b
-part a b = omega arith
 
 add-end : tie.Need-add-end
 add-end c = let s = c .before .before in omega (arith, s .pre .room, s .good)
@@ -37,7 +34,7 @@ next-requires c κs =
     let s = c .before .before .before .before in
     let a = s .args in (
       s .pre .first,
-      (subst (λ (k : ℕ). Woven (take k (drop (a .h .first) (a .work .now)))) (sym (part (a .h .first) (a .h .second))) (s .pre .second), s .pre .number),
+      (subst (λ (k : ℕ). Woven (take k (drop (a .h .first) (a .work .now)))) (sym (add-sub-cancel-left (a .h .first) (a .h .second))) (s .pre .second), s .pre .number),
     )
 
 returns : tie.Need-returns
@@ -48,7 +45,7 @@ returns c =
     let m = take (a .h .second) (drop (a .h .first) w) in
     gives (distinct l m (a .h .reference) (a .c)) (distinct l m (a .h .reference)) (c .next .result)
     (subst (λ (k : ℕ). Steps (distinct l (take k (drop (a .h .first) w)) (a .h .reference) (a .c)) (distinct l (take k (drop (a .h .first) w)) (a .h .reference)) (c .next .result))
-    (part (a .h .first) (a .h .second))
+    (add-sub-cancel-left (a .h .first) (a .h .second))
     (c .next .ensures))
 
 pub next-slice-spec : {M : Type 1} → statement M

@@ -6,10 +6,11 @@ use lib.ListN.{take}
 use lib.Ieee.{Float}
 use borrow.Author.Needs.{needs}
 use Rattle.sampling.specs.Samples.{interval-values, interval-cuts}
-use Rattle.sampling.specs.Laws.Cutting.{Laid, no-place, no-place-behind, laid-first, laid-next, laid-front, replaced, short-first, short-second, short-third, all-three}
+use Rattle.sampling.specs.Laws.Cutting.{Laid, no-place-behind, laid-first, laid-next, laid-front, replaced, short-first, short-second, short-third, all-three}
 use Rattle.sampling.specs.declared.intervals.Range.{Range}
 use Rattle.sampling.proofs.sample_angles.cut_intervals.Statement.{statement}
 use Rattle.sampling.proofs.sample_angles.cut_intervals.Tie as tie
+use Rattle.polynomial.specs.Laws.Held.{kept-full}
 
 -- what is lent at the start, the values of a range and its cuts
 abbrev work : tie.Start → List Float
@@ -65,7 +66,7 @@ same-length c = search needs
 
 returns : tie.Need-returns
 unfolding interval-cuts
-returns c = (short-first _ _ _ _ (no-place _ _ _ _ (c .before .before .before .before .interval-cuts .ensures) (c .enum-told .given .1)), refl)
+returns c = (short-first _ _ _ _ (kept-full _ _ _ _ (c .before .before .before .before .interval-cuts .ensures) (c .enum-told .given .1)), refl)
 
 mul-interval-cuts : tie.Need-mul-interval-cuts
 mul-interval-cuts c = let h = one c .within in search (needs, h)

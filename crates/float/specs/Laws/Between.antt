@@ -14,16 +14,16 @@ use lib.Ieee.{Float, nan, inf, fin, binary64, up, down, round, neg, add, sub, di
 use lib.Ieee.Fits.{up-pos, down-pos, div-fits, and-i, and-l, and-r}
 use lib.Ieee.Scale.{finite}
 use lib.Ieee.Positive.{num, den}
 use Rattle.float.specs.Number.{_⊕_, _⊖_, _⊘_, middle, two-float, negative, total-le}
 use Rattle.float.specs.Laws.Sign.{round-neg}
 use Rattle.float.specs.Laws.Zero.{sum-same-sign, sum-less, sum-more}
 use Rattle.float.specs.Laws.Total.{total-le-eq}
 use Rattle.float.specs.Laws.Tests.{total-le-lt}
 use Rattle.float.specs.Laws.Like.{zero-l}
 use Rattle.float.specs.Laws.Le.{Le, Le→le, or-r, or-split, plain, round-plain, div-mono-by}
-use Rattle.float.specs.Laws.Within.{Within, held, fits→held, drop-pow, round-within, div-exact, within→Le}
+use Rattle.float.specs.Laws.Within.{Within, held, fits→held, drop-pow, round-within, div-exact, within→Le, plain-finite}
 use Rattle.float.specs.Laws.Whole.{le-units, lt-units}
 use Rattle.float.specs.Laws.Middle.{Span, middle-in}
 
 -- ---- no minus sign
 
@@ -191,15 +191,6 @@ lt-finite (inf true) m e p l = absurd p
 lt-finite (inf false) m e p l = absurd l
 lt-finite (fin s n d) m e p l = tt
 
-le-finite : (x y : Float) → T (plain x) → T (finite y) → T (le x y) → T (finite x)
-unfolding le
-le-finite nan y p q l = absurd p
-le-finite (inf true) y p q l = absurd p
-le-finite (inf false) nan p q l = absurd q
-le-finite (inf false) (inf t) p q l = absurd q
-le-finite (inf false) (fin t n d) p q l = absurd l
-le-finite (fin s n d) y p q l = tt
-
 fits-sign : (m : ℕ) (e : ℤ) → T (fits binary64 (fin true m e)) → T (fits binary64 (fin false m e))
 unfolding fits
 fits-sign zero e t = t
@@ -214,7 +205,7 @@ half-under m e g t p w =
     let a : T (le h H) = div-mono-by binary64 two-float tt tt (lit< tt) (within→Le tt tt w .0) in
     let b : T (lt H L) = half-less m e (fits→held binary64 L t tt) in
     let q : T (finite H) = lt-finite H (suc m) e (half-plain L tt) b in
-    let r : T (finite h) = le-finite h H (half-plain g p) q a in
+    let r : T (finite h) = plain-finite h H (half-plain g p) q a in
     let s = div-fits binary64 g two-float in
     let u = div-fits binary64 L two-float in
     let x = le-units binary64 h H s r u q .0 a in

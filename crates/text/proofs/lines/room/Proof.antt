@@ -1,9 +1,9 @@
--- `float_vectors::room` meets its contract: the length is by a law, since so many places are too many to count. Assumes nothing.
+-- `text::lines::room` meets its contract: the length is by a law, since so many places are too many to count. Assumes nothing.
 use Prim.Native.Nat.{ℕ}
 use mathlib.Core.Path.{sym}
 use lib.ListN.{length-replicate}
-use Rattle.float_vectors.proofs.room.Statement.{statement}
-use Rattle.float_vectors.proofs.room.Tie as tie
+use Rattle.text.proofs.lines.room.Statement.{statement}
+use Rattle.text.proofs.lines.room.Tie as tie
 
 returns : tie.Need-returns
 returns c = sym (length-replicate {A = ℕ} 2097152 0)

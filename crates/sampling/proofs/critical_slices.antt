@@ -1,2 +1,0 @@
--- What the proofs of `critical_slices` share.
-pub mod Inner
