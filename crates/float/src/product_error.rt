@@ -71,7 +71,7 @@ pub fn error_by_halves(a: f64, b: Halves) -> f64
 }
 
 // The error of a product with an operand whose halves are at hand.
-pub fn product_error_by(a: f64, b: Halves) -> f64
+pub(crate) fn product_error_by(a: f64, b: Halves) -> f64
     requires { ⌜ b ≡ ProductError.halves (b .whole) ⌝ }
     ensures { λ r. ⌜ r ≡ ProductError.product-error a (b .whole) ⌝ }
 {

@@ -62,7 +62,7 @@ pub fn less(ah: u64, al: u64, bh: u64, bl: u64) -> bool
 }
 
 // a + b, where the upper words leave room.
-pub fn add(ah: u64, al: u64, bh: u64, bl: u64) -> Wide
+pub(crate) fn add(ah: u64, al: u64, bh: u64, bl: u64) -> Wide
     requires { ⌜ (ah < 2 ^ 62) × (bh < 2 ^ 62) ⌝ }
     ensures { λ r. ⌜ r .hi * 2 ^ 64 + r .lo ≡ ah * 2 ^ 64 + al + (bh * 2 ^ 64 + bl) ⌝ }
 {
@@ -78,7 +78,7 @@ pub fn add(ah: u64, al: u64, bh: u64, bl: u64) -> Wide
 }
 
 // a - b, where b is not larger.
-pub fn sub(ah: u64, al: u64, bh: u64, bl: u64) -> Wide
+pub(crate) fn sub(ah: u64, al: u64, bh: u64, bl: u64) -> Wide
     requires { ⌜ bh * 2 ^ 64 + bl ≤ ah * 2 ^ 64 + al ⌝ }
     ensures { λ r. ⌜ r .hi * 2 ^ 64 + r .lo ≡ ah * 2 ^ 64 + al - (bh * 2 ^ 64 + bl) ⌝ }
 {

@@ -3,7 +3,7 @@ use float::number::bits;
 use float::number::of_bits;
 
 // A function of one operand.
-pub fn one(letter: u8, a: u64) -> u64 {
+pub(crate) fn one(letter: u8, a: u64) -> u64 {
     let x = of_bits(a);
     match letter {
         b's' => bits(float::trig::sin(x)),
@@ -16,7 +16,7 @@ pub fn one(letter: u8, a: u64) -> u64 {
 }
 
 // A function of two operands; those of atan2 are y and x.
-pub fn two(letter: u8, a: u64, b: u64) -> u64 {
+pub(crate) fn two(letter: u8, a: u64, b: u64) -> u64 {
     let first = of_bits(a);
     let second = of_bits(b);
     match letter {

@@ -16,7 +16,7 @@ fn complement(n: i64) -> u64 {
 }
 
 // A function of one operand.
-pub fn one(letter: u8, a: u64) -> u64 {
+pub(crate) fn one(letter: u8, a: u64) -> u64 {
     let x = of_bits(a);
     match letter {
         b'B' => bits(x),
@@ -30,7 +30,7 @@ pub fn one(letter: u8, a: u64) -> u64 {
 }
 
 // A function of two operands.
-pub fn two(letter: u8, a: u64, b: u64) -> u64 {
+pub(crate) fn two(letter: u8, a: u64, b: u64) -> u64 {
     let x = of_bits(a);
     let y = of_bits(b);
     match letter {
@@ -43,6 +43,6 @@ pub fn two(letter: u8, a: u64, b: u64) -> u64 {
 }
 
 // The fused product.
-pub fn three(a: u64, b: u64, c: u64) -> u64 {
+pub(crate) fn three(a: u64, b: u64, c: u64) -> u64 {
     bits(float::mul_add::mul_add(of_bits(a), of_bits(b), of_bits(c)))
 }

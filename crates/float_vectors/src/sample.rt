@@ -18,7 +18,7 @@ fn words(letter: u8) -> usize
 }
 
 // The number of words of the sample whose line begins at `at`, or 0 where there is none.
-pub fn line(s: &[u8], at: usize) -> usize
+pub(crate) fn line(s: &[u8], at: usize) -> usize
     requires { ⌜ at < length (now s) ⌝ }
     ensures { λ r. ⌜ (0 < r → at + 17 * r + 2 ≤ length (now (s .entry))) ⌝ }
 {

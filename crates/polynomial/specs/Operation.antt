@@ -1,12 +1,13 @@
 -- The operation Roots (01): its refusals in 01's order, its answer, and the result slice afterwards. Definitions only.
 use Prim.Native.Nat.{ℕ, _%_}
-use mathlib.Core.Bool.{Bool, true, false, _&&_, _||_}
+use mathlib.Core.Bool.{Bool, true, false, _&&_, _||_, cond}
 use mathlib.Core.List.{List, [], _∷_, _++_}
 use lib.IntN.{ℤ, pos, negℤ}
 use lib.Dec.{ltb, leb, eqb}
 use lib.ListN.{length, drop}
-use lib.Ieee.{Float, fin, le}
+use lib.Ieee.{Float, le}
 use Rattle.float.specs.Number.{abs}
+use Rattle.float.specs.Trig.{four-float}
 use Rattle.float.specs.ProductError.{most}
 use Rattle.polynomial.specs.Roots.{roots}
 use Rattle.polynomial.specs.declared.compensated.Compensated.{Compensated}
@@ -23,12 +24,9 @@ pairs (h ∷ (l ∷ r)) = record { high = h; low = l } ∷ pairs r
 abbrev pub bad-length : List Float → Bool
 bad-length s = eqb (length s % 2) 1 || ltb 18 (length s)
 
-abbrev pub four : Float
-four = fin false 1 (pos 2)
-
 -- 22, a bound is NaN or outside ±4, or lower > upper
 abbrev pub bounds-hold : Float → Float → Bool
-bounds-hold lower upper = le (abs lower) four && le (abs upper) four && le lower upper
+bounds-hold lower upper = le (abs lower) four-float && le (abs upper) four-float && le lower upper
 
 -- 23, a part is not finite or exceeds 2^400 in magnitude
 abbrev pub part-holds : Float → Bool
@@ -38,17 +36,13 @@ unfoldable pub parts-hold : List Float → Bool
 parts-hold [] = true
 parts-hold (x ∷ xs) = part-holds x && parts-hold xs
 
-abbrev pub pick : {A : Type 0} → Bool → A → A → A
-pick true a b = a
-pick false a b = b
-
 -- the answer for a result slice of `room` places; 24, it is shorter than the list
 unfoldable pub answer : List Float → Float → Float → ℕ → Answer
 answer s lower upper room =
-    pick (bad-length s) BadLength
-    (pick (bounds-hold lower upper)
-    (pick (parts-hold s)
-    (pick (leb (length (roots (pairs s) lower upper)) room) (Count (length (roots (pairs s) lower upper))) ShortResult)
+    cond (bad-length s) BadLength
+    (cond (bounds-hold lower upper)
+    (cond (parts-hold s)
+    (cond (leb (length (roots (pairs s) lower upper)) room) (Count (length (roots (pairs s) lower upper))) ShortResult)
     BadPart)
     BadBounds)
 

@@ -30,7 +30,7 @@ pub fn passes(w: f64, v: f64) -> bool
 }
 
 // The first of `count` places that v does not go past, or count.
-pub fn find(room: &[f64], count: usize, v: f64) -> usize
+pub(crate) fn find(room: &[f64], count: usize, v: f64) -> usize
     requires { ⌜ count ≤ length (now room) ⌝ }
     ensures { λ r. ⌜ Found (now (room .entry)) count v r ⌝ }
 {
@@ -45,7 +45,7 @@ pub fn find(room: &[f64], count: usize, v: f64) -> usize
 }
 
 // Moves `many` values from `at` one place up, and puts v before them.
-pub fn shift(room: &mut [f64], at: usize, many: usize, v: f64)
+pub(crate) fn shift(room: &mut [f64], at: usize, many: usize, v: f64)
     requires { ⌜ at + many < length (now room) ⌝ }
     ensures { λ _. ⌜ now (room .exit) ≡ paste (now (room .entry)) at (v ∷ drop at (now (room .entry))) (many + 1) ⌝ }
 {

@@ -80,7 +80,7 @@ fn narrowed(p: [Compensated; 9], n: usize, lo: f64, hi: f64, positive: bool) -> 
 
 // Halves the interval until no float lies strictly inside; the value at `from` is positive where
 // `positive` says so.
-pub fn bisect(p: [Compensated; 9], n: usize, from: f64, to: f64, positive: bool) -> f64
+pub(crate) fn bisect(p: [Compensated; 9], n: usize, from: f64, to: f64, positive: bool) -> f64
     requires { ⌜ (n ≤ 9) × Span 2 from to ⌝ }
     ensures { λ r. ⌜ r ≡ Roots.bisected (Of.evaluate (take n p)) positive from to ⌝ }
 {

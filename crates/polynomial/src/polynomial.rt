@@ -12,7 +12,7 @@ use float::product_error::halved_operand;
 use float::product_error::in_range;
 
 // The value at x of the first n coefficients, by compensated Horner arithmetic.
-pub fn evaluate(p: [Compensated; 9], n: usize, x: f64) -> f64
+pub(crate) fn evaluate(p: [Compensated; 9], n: usize, x: f64) -> f64
     requires { ⌜ n ≤ 9 ⌝ }
     ensures { λ r. ⌜ r ≡ Of.evaluate (take n p) x ⌝ }
 {
@@ -35,7 +35,7 @@ pub enum Three {
 
 // The values at x, y and z, worked out side by side; none where Dekker's halves do not serve. The
 // tests stand between the products, so that these are not put into pairs.
-pub fn evaluate_three(p: [Compensated; 9], n: usize, x: f64, y: f64, z: f64) -> Three
+pub(crate) fn evaluate_three(p: [Compensated; 9], n: usize, x: f64, y: f64, z: f64) -> Three
     requires { ⌜ n ≤ 9 ⌝ }
     ensures { λ r. ⌜ Known (Of.evaluate (take n p)) x y z r ⌝ }
 {
@@ -87,7 +87,7 @@ fn magnitudes(p: [Compensated; 9], n: usize, x: f64) -> f64
 }
 
 // Whether v, the value at x, fits a coefficient-scaled roundoff bound.
-pub fn value_near(p: [Compensated; 9], n: usize, x: f64, v: f64) -> bool
+pub(crate) fn value_near(p: [Compensated; 9], n: usize, x: f64, v: f64) -> bool
     requires { ⌜ n ≤ 9 ⌝ }
     ensures { λ r. ⌜ r ≡ Of.value-near (take n p) x v ⌝ }
 {
@@ -96,7 +96,7 @@ pub fn value_near(p: [Compensated; 9], n: usize, x: f64, v: f64) -> bool
 }
 
 // How many of the first n coefficients are left without the zeros at the end.
-pub fn trimmed(p: [Compensated; 9], n: usize) -> usize
+pub(crate) fn trimmed(p: [Compensated; 9], n: usize) -> usize
     requires { ⌜ n ≤ 9 ⌝ }
     ensures { λ r. ⌜ (r ≤ n) × (take r p ≡ Of.trim (take n p)) ⌝ }
 {
@@ -112,7 +112,7 @@ pub fn trimmed(p: [Compensated; 9], n: usize) -> usize
 }
 
 // Whether each part of the first n coefficients is finite.
-pub fn all_finite(p: [Compensated; 9], n: usize) -> bool
+pub(crate) fn all_finite(p: [Compensated; 9], n: usize) -> bool
     requires { ⌜ n ≤ 9 ⌝ }
     ensures { λ r. ⌜ r ≡ Of.all-finite (take n p) ⌝ }
 {
@@ -131,7 +131,7 @@ pub fn all_finite(p: [Compensated; 9], n: usize) -> bool
 }
 
 // The derivative of the first n coefficients, in its first n - 1 places.
-pub fn derivative(p: [Compensated; 9], n: usize) -> [Compensated; 9]
+pub(crate) fn derivative(p: [Compensated; 9], n: usize) -> [Compensated; 9]
     requires { ⌜ (0 < n) × (n ≤ 9) ⌝ }
     ensures { λ r. ⌜ take (n - 1) r ≡ Of.derivative (take n p) ⌝ }
 {

@@ -120,7 +120,7 @@ fn scan(p: [Compensated; 9], n: usize, points: &[f64], count: usize, out: &mut [
 }
 
 // The roots of the first n coefficients, in the first places of out. What stands behind them is left.
-pub fn roots(p: [Compensated; 9], n: usize, lower: f64, upper: f64, out: &mut [f64]) -> usize
+pub(crate) fn roots(p: [Compensated; 9], n: usize, lower: f64, upper: f64, out: &mut [f64]) -> usize
     requires { ⌜ (n ≤ 9) × (2 ^ n ≤ length (now out)) × Span 2 lower upper ⌝ }
     ensures { λ r. ⌜ (r ≡ length (Roots.roots-at n (take n p) lower upper)) × (now (out .exit) ≡ Roots.roots-at n (take n p) lower upper ++ drop r (now (out .entry))) ⌝ }
 {
@@ -143,7 +143,7 @@ pub fn roots(p: [Compensated; 9], n: usize, lower: f64, upper: f64, out: &mut [f
 
 // The bounds with the derivative's roots between them, sorted, each once, in the first places of
 // points. What stands behind them is left.
-pub fn partitions(
+pub(crate) fn partitions(
     p: [Compensated; 9],
     n: usize,
     lower: f64,

@@ -102,7 +102,7 @@ fn answers(s: &[u8], at: usize, n: usize, m: usize) -> bool
 }
 
 // The same for a call whose line has k words.
-pub fn agrees(s: &[u8], at: usize, k: usize) -> bool
+pub(crate) fn agrees(s: &[u8], at: usize, k: usize) -> bool
     requires { ⌜ at + 17 * k + 2 ≤ length (now s) ⌝ }
 {
     if k < 5 {

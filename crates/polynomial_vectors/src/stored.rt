@@ -42,7 +42,7 @@ fn is_mark(b: u8) -> bool {
 }
 
 // The number of words of the call whose line begins at `at`, or 0 where there is none.
-pub fn line(s: &[u8], at: usize) -> usize
+pub(crate) fn line(s: &[u8], at: usize) -> usize
     requires { ⌜ at < length (now s) ⌝ }
     ensures { λ r. ⌜ (0 < r → at + 17 * r + 2 ≤ length (now (s .entry))) ⌝ }
 {

@@ -1,10 +1,9 @@
 -- A job's angles: kind 1's those of free joint 1, kind 2's those of free joint 2, kind 3's the slices of joint 1 where joints 1 and 2 are free (01, modules 5 and 6). m is the matrix of the target's rotation. Every field of the job is taken as given. Definitions only.
 use Prim.Native.Nat.{ℕ}
-use mathlib.Core.Bool.{Bool}
+use mathlib.Core.Bool.{Bool, cond}
 use mathlib.Core.List.{List}
 use lib.Dec.{eqb}
 use lib.Ieee.{Float}
-use Rattle.sampling.specs.Constraints.{pick}
 use Rattle.sampling.specs.J1free as J1free
 use Rattle.sampling.specs.J2free as J2free
 use Rattle.sampling.specs.SampleAngles as One
@@ -22,7 +21,7 @@ second-free job m = One.free (J2free.arm-axes (job .arm)) m job (job .j2)
 
 -- what a kind has
 abbrev pub by-kind : {A : Type 0} → ℕ → A → A → A → A
-by-kind kind first second both = pick (eqb kind 1) first (pick (eqb kind 2) second both)
+by-kind kind first second both = cond (eqb kind 1) first (cond (eqb kind 2) second both)
 
 -- The angles to try, in order.
 unfoldable pub angles : Job → Matrix → List Float

@@ -1,5 +1,5 @@
 -- The slices of narrow bends: `bend_slices` of j1j2free.rs (01, module 6). Beside the list stands whether no inner call of the root finder on the way is refused; a refused call gives no angle. Definitions only.
-use mathlib.Core.Bool.{Bool, true, _&&_}
+use mathlib.Core.Bool.{Bool, true, _&&_, cond}
 use mathlib.Core.List.{List, [], _∷_, _++_}
 use lib.Ieee.{Float, neg, lt, le}
 use Rattle.float.specs.Number.{_⊕_, _⊖_, _⊗_, _⊘_, abs, clamp, zero-float, one-float}
@@ -8,7 +8,6 @@ use Rattle.float.specs.declared.trig.SinCos.{SinCos}
 use Rattle.polynomial.specs.Angle.{wrapped-angle}
 use Rattle.polynomial.specs.Curve.{squared-norm-holds}
 use Rattle.polynomial.specs.declared.curve.Harmonic.{Harmonic}
-use Rattle.sampling.specs.Constraints.{pick}
 use Rattle.sampling.specs.Continuum.{root-roundoff}
 use Rattle.sampling.specs.Bends.{norm-roots}
 use Rattle.sampling.specs.Boundaries.{across}
@@ -24,8 +23,8 @@ use Rattle.sampling.specs.Pose as Pose
 unfoldable pub transverse : Float → Float → Float → List Float
 transverse radius azimuth component =
     let offset = asin (clamp (component ⊘ radius)) in
-    pick (lt zero-float radius)
-    (pick (le (abs component) (radius ⊗ (one-float ⊕ root-roundoff)))
+    cond (lt zero-float radius)
+    (cond (le (abs component) (radius ⊗ (one-float ⊕ root-roundoff)))
     (wrapped-angle (azimuth ⊖ offset) ∷ [] ++ wrapped-angle (azimuth ⊖ P ⊕ offset) ∷ [])
     [])
     []

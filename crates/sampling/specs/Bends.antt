@@ -1,5 +1,5 @@
 -- The boundary angles of joint 5, and all boundary angles in the order in which the Rust finds them: `bend_roots` and `sample_angles` of continuum.rs (01, module 5). Beside each list stands whether no inner call of the root finder on the way is refused; a refused call gives no angle. Definitions only.
-use mathlib.Core.Bool.{Bool, true, false, _&&_}
+use mathlib.Core.Bool.{Bool, true, false, _&&_, cond}
 use mathlib.Core.List.{List, [], _∷_, _++_}
 use lib.Ieee.{Float, binary64, round, lt}
 use lib.Ieee.Scale.{finite}
@@ -7,7 +7,6 @@ use Rattle.float.specs.Number.{abs, zero-float}
 use Rattle.float.specs.Trig.{sin-cos}
 use Rattle.polynomial.specs.Curve.{squared-norm-roots, squared-norm-holds}
 use Rattle.polynomial.specs.declared.curve.Harmonic.{Harmonic}
-use Rattle.sampling.specs.Constraints.{pick}
 use Rattle.sampling.specs.Continuum.{roots}
 use Rattle.sampling.specs.Rays.{poles, ray-marks, sixth-roots}
 use Rattle.sampling.specs.declared.continuum.Trig.{Trig}
@@ -20,7 +19,7 @@ use Rattle.sampling.specs.declared.intervals.Range.the-variants.{Nothing
 
 -- roots of x(angle)^2 + y(angle)^2 = norm^2, where the root finder takes both halves
 unfoldable pub norm-roots : Harmonic → Harmonic → Float → List Float
-norm-roots x y norm = pick (squared-norm-holds x y norm) (squared-norm-roots x y norm) []
+norm-roots x y norm = cond (squared-norm-holds x y norm) (squared-norm-roots x y norm) []
 
 -- constant, cosine and sine coefficients of a first harmonic
 unfoldable pub harmonic : Trig → Harmonic
@@ -28,25 +27,25 @@ harmonic t = record { constant = t .constant; cosine = t .cosine; sine = t .sine
 
 -- above 0 and below 1.0e-4: close to a pole, where a cosine can round to ±1 although the bend is not zero
 unfoldable pub narrow : Float → Bool
-narrow sine = pick (lt zero-float sine) (lt sine (round binary64 false 1 10000)) false
+narrow sine = cond (lt zero-float sine) (lt sine (round binary64 false 1 10000)) false
 
 -- where the cosine of joint 5 is that of the angle and, for a narrow sine, where the vector of joint 4 has that length
 unfoldable pub bend-roots : Trig → Ray → Float → List Float
 bend-roots cos5 q4 angle =
     let sine = abs (sin-cos angle .sine) in
-    roots cos5 (sin-cos angle .cosine) ++ pick (narrow sine) (norm-roots (harmonic (q4 .x)) (harmonic (q4 .y)) sine) []
+    roots cos5 (sin-cos angle .cosine) ++ cond (narrow sine) (norm-roots (harmonic (q4 .x)) (harmonic (q4 .y)) sine) []
 
 unfoldable pub bend-roots-hold : Ray → Float → Bool
 bend-roots-hold q4 angle =
     let sine = abs (sin-cos angle .sine) in
-    pick (narrow sine) (squared-norm-holds (harmonic (q4 .x)) (harmonic (q4 .y)) sine) true
+    cond (narrow sine) (squared-norm-holds (harmonic (q4 .x)) (harmonic (q4 .y)) sine) true
 
 -- an angle counts if it is finite
 unfoldable pub bend-at : Trig → Ray → Float → List Float
-bend-at cos5 q4 angle = pick (finite angle) (bend-roots cos5 q4 angle) []
+bend-at cos5 q4 angle = cond (finite angle) (bend-roots cos5 q4 angle) []
 
 unfoldable pub bend-at-holds : Ray → Float → Bool
-bend-at-holds q4 angle = pick (finite angle) (bend-roots-hold q4 angle) true
+bend-at-holds q4 angle = cond (finite angle) (bend-roots-hold q4 angle) true
 
 unfoldable pub bend-range : Trig → Ray → Range → List Float
 bend-range cos5 q4 Nothing = []
@@ -58,10 +57,10 @@ bend-range-holds q4 (Between lower upper) = bend-at-holds q4 lower && bend-at-ho
 
 -- the reference and, with limits, their centre and ends
 unfoldable pub bend-marks : Trig → Ray → Marks → List Float
-bend-marks cos5 q4 m = bend-at cos5 q4 (m .reference) ++ pick (m .limited) (bend-at cos5 q4 (m .center) ++ bend-range cos5 q4 (m .range)) []
+bend-marks cos5 q4 m = bend-at cos5 q4 (m .reference) ++ cond (m .limited) (bend-at cos5 q4 (m .center) ++ bend-range cos5 q4 (m .range)) []
 
 unfoldable pub bend-marks-hold : Ray → Marks → Bool
-bend-marks-hold q4 m = pick (m .limited) (bend-at-holds q4 (m .reference) && (bend-at-holds q4 (m .center) && bend-range-holds q4 (m .range))) (bend-at-holds q4 (m .reference))
+bend-marks-hold q4 m = cond (m .limited) (bend-at-holds q4 (m .reference) && (bend-at-holds q4 (m .center) && bend-range-holds q4 (m .range))) (bend-at-holds q4 (m .reference))
 
 -- All of them: the free joint's reference, the poles, joints 4, 5 and 6, the centre of the free joint's limits.
 unfoldable pub all-roots : Wrist → Float → Marks → Marks → Sixth → Float → List Float

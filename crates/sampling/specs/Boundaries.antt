@@ -1,12 +1,11 @@
 -- The boundary curves of two free joints, in the order in which the Rust pushes them: `boundaries` of j1j2free.rs (01, module 6). Definitions only.
-use mathlib.Core.Bool.{Bool}
+use mathlib.Core.Bool.{Bool, cond}
 use mathlib.Core.List.{List, [], _∷_, _++_}
 use lib.Ieee.{Float, neg, le}
 use Rattle.float.specs.Number.{_⊕_, _⊗_, zero-float, one-float}
 use Rattle.float.specs.Trig.{P, sin-cos}
 use Rattle.polynomial.specs.declared.curve.Harmonic.{Harmonic}
 use Rattle.polynomial.specs.declared.curve.Curve.{Curve}
-use Rattle.sampling.specs.Constraints.{pick}
 use Rattle.sampling.specs.Limits.{centered, limits-of}
 use Rattle.sampling.specs.declared.intervals.Range.{Range}
 use Rattle.sampling.specs.declared.intervals.Range.the-variants.{Nothing, Between}
@@ -82,8 +81,8 @@ corner-curve m sign q4 q6 =
 -- The limits of a wrist joint where they are present and leave a part of the turn out: a tolerance of P or more gives no boundary.
 unfoldable pub wrist-limits : Bool → Joint → Range
 wrist-limits limited j =
-    pick limited
-    (pick (le P (centered limited j .tolerance)) Nothing (limits-of (centered limited j) (j .sign) (j .offset)))
+    cond limited
+    (cond (le P (centered limited j .tolerance)) Nothing (limits-of (centered limited j) (j .sign) (j .offset)))
     Nothing
 
 -- both ends of a joint's interval

@@ -1,10 +1,9 @@
 -- The centre and the tolerance of a joint's limits: `compute_centers` of the Rust, for one joint (01, module 4). Definitions only.
-use mathlib.Core.Bool.{false}
+use mathlib.Core.Bool.{false, cond}
 use lib.Ieee.{Float, nan, inf, eq, lt}
 use lib.Ieee.Scale.{finite}
 use Rattle.float.specs.Number.{_⊕_, _⊖_, _⊘_, rem-euclid, zero-float, two-float}
 use Rattle.polynomial.specs.Angle.{turn}
-pub use Rattle.polynomial.specs.Operation.{pick}
 use Rattle.sampling.specs.declared.constraints.Center.{Center}
 
 -- the forward arc from a to b
@@ -14,10 +13,10 @@ arc a b = rem-euclid (rem-euclid b turn ⊖ rem-euclid a turn) turn
 -- Limits that are not finite admit no angle; equal ones are no constraint; values that do not wrap around have their middle; others the forward arc's.
 unfoldable pub compute-center : Float → Float → Center
 compute-center a b =
-    pick (finite a)
-    (pick (finite b)
-    (pick (eq a b) (record { center = zero-float; tolerance = inf false })
-    (pick (lt a b) (record { center = (a ⊕ b) ⊘ two-float; tolerance = (b ⊖ a) ⊘ two-float })
+    cond (finite a)
+    (cond (finite b)
+    (cond (eq a b) (record { center = zero-float; tolerance = inf false })
+    (cond (lt a b) (record { center = (a ⊕ b) ⊘ two-float; tolerance = (b ⊖ a) ⊘ two-float })
     (record { center = a ⊕ arc a b ⊘ two-float; tolerance = arc a b ⊘ two-float })))
     (record { center = nan; tolerance = nan }))
     (record { center = nan; tolerance = nan })

@@ -1,5 +1,5 @@
 -- First harmonics of a free model angle, shared by joints 1 and 2: continuum.rs of the Rust up to its boundary lines (01, module 5). Definitions only.
-use mathlib.Core.Bool.{false}
+use mathlib.Core.Bool.{false, cond}
 use mathlib.Core.List.{List, [], _∷_}
 use lib.IntN.{negsuc}
 use lib.Ieee.{Float, fin, neg, eq, lt}
@@ -7,7 +7,6 @@ use lib.Ieee.Scale.{finite}
 use Rattle.float.specs.Number.{_⊕_, _⊖_, _⊗_, _⊘_, abs, clamp, zero-float}
 use Rattle.float.specs.Trig.{hypot, atan2, acos, sin-cos}
 use Rattle.polynomial.specs.Angle.{wrapped-angle}
-use Rattle.sampling.specs.Constraints.{pick}
 use Rattle.sampling.specs.Pose as Pose
 use Rattle.sampling.specs.declared.pose.Vector.{Vector}
 use Rattle.sampling.specs.declared.continuum.Trig.{Trig}
@@ -41,10 +40,10 @@ crossings t target =
     let constant = t .constant ⊖ target in
     let phase = atan2 (t .sine) (t .cosine) in
     let offset = acos (clamp (neg constant ⊘ radius)) in
-    pick (finite radius)
-    (pick (finite constant)
-    (pick (eq radius zero-float) Neither
-    (pick (lt (radius ⊕ error t target) (abs constant)) Neither
+    cond (finite radius)
+    (cond (finite constant)
+    (cond (eq radius zero-float) Neither
+    (cond (lt (radius ⊕ error t target) (abs constant)) Neither
     (Both (wrapped-angle (phase ⊖ offset)) (wrapped-angle (phase ⊕ offset)))))
     Neither)
     Neither

@@ -1,5 +1,5 @@
 -- The cuts of joint 1 at the intersections and the vertical tangencies of curves: `critical_slices` of j1j2free.rs (01, module 6). Beside each list stands whether no inner call of the root finder on the way is refused; a refused call gives no angle. Definitions only.
-use mathlib.Core.Bool.{Bool, true, _&&_}
+use mathlib.Core.Bool.{Bool, true, _&&_, cond}
 use mathlib.Core.List.{List, [], _∷_, _++_}
 use lib.Ieee.{Float, neg}
 use Rattle.float.specs.Number.{_⊕_, _⊖_, _⊗_, _⊘_, middle, one-float, two-float}
@@ -9,7 +9,6 @@ use Rattle.polynomial.specs.Roots.{roots}
 use Rattle.polynomial.specs.Curve.{numerator, harmonic-a, harmonic-b, harmonic-c, inner-holds}
 use Rattle.polynomial.specs.declared.compensated.Compensated.{Compensated}
 use Rattle.polynomial.specs.declared.curve.Curve.{Curve}
-use Rattle.sampling.specs.Constraints.{pick}
 use Rattle.sampling.specs.declared.critical_slices.Chart.{Chart}
 
 -- the chart u = tan((q1 - origin) / 2) of a part of joint 1's interval: its origin and its bounds
@@ -25,7 +24,7 @@ angles origin (u ∷ us) = (origin ⊕ two-float ⊗ atan u) ∷ angles origin u
 
 -- an inner call of the root finder
 unfoldable pub chart-roots : Chart → List Compensated → List Float
-chart-roots c p = pick (inner-holds p (c .lower) (c .upper)) (angles (c .origin) (roots p (c .lower) (c .upper))) []
+chart-roots c p = cond (inner-holds p (c .lower) (c .upper)) (angles (c .origin) (roots p (c .lower) (c .upper))) []
 
 unfoldable pub chart-holds : Chart → List Compensated → Bool
 chart-holds c p = inner-holds p (c .lower) (c .upper)

@@ -1,11 +1,10 @@
 -- What the functions below `plan_of` ask and promise: `Planned`, by whatever the cuts are those of. Nothing that a public contract of an upper crate says.
 use Prim.Native.Nat.{ℕ}
 use mathlib.Core.Path.{_≡_}
-use mathlib.Core.Bool.{Bool, not}
+use mathlib.Core.Bool.{Bool, not, cond}
 use mathlib.Core.List.{List}
 use lib.Dec.{T, leb}
 use lib.Ieee.{Float, isNan}
-use Rattle.sampling.specs.Constraints.{pick}
 use Rattle.sampling.specs.J1j2free.{first-half, second-half}
 use Rattle.sampling.specs.Slices.{slices}
 use Rattle.sampling.specs.Stream.{distinct, start, Woven}
@@ -17,7 +16,7 @@ use Rattle.sampling.specs.declared.plan.Plan.{Plan}
 
 -- the promise, of work w: by whether no inner call of the root finder is refused, the number of cuts and the angles
 pub record Drawn (holds : Bool) (count : ℕ) (angles : List Float) (places : ℕ) (p : Plan) (w : List Float) : Type 0 where
-  pub outcome-is : came p ≡ pick holds (pick (leb count places) found short) refused
+  pub outcome-is : came p ≡ cond holds (cond (leb count places) found short) refused
   pub ready : Ready p w
   pub yields : came p ≡ found → to-come p w start ≡ angles
 

@@ -1,4 +1,5 @@
 -- Cuts that grow in a lent slice. Definition only; `Laws.Grown` puts one after the other.
+use mathlib.Core.Bool.{cond}
 use mathlib.Core.Path.{_≡_}
 use mathlib.Core.List.{List, _++_}
 use Prim.Native.Nat.{ℕ, _+_}
@@ -7,7 +8,6 @@ use lib.ListN.{length}
 use lib.Ieee.{Float}
 use Rattle.polynomial.specs.Laws.Cuts.{Fit}
 use Rattle.polynomial.specs.Laws.Held.{Kept}
-use Rattle.polynomial.specs.Insert.{pickPut}
 use Rattle.polynomial.specs.declared.cuts.Put.{Put}
 use Rattle.polynomial.specs.declared.cuts.Put.the-variants.{Count, Full}
 
@@ -19,7 +19,7 @@ pub record Grown (l a : List Float) (s : Put) (b : List Float) (t : Put) : Type 
 
 -- The number of cuts by a number alone: one above that of the places says that there are too few.
 abbrev pub counted : ℕ → List Float → Put
-counted n w = pickPut (leb n (length w)) (Count n) Full
+counted n w = cond (leb n (length w)) (Count n) Full
 
 -- that number, for so many places
 abbrev pub number : Put → ℕ → ℕ

@@ -1,4 +1,5 @@
 -- What the functions that put both halves' cuts into the lent work slice answer. Nothing that a public contract of an upper crate says.
+use mathlib.Core.Bool.{cond}
 use Prim.Native.Nat.{ℕ, _+_}
 use mathlib.Core.List.{List, [], _∷_, _++_}
 use lib.Dec.{leb}
@@ -7,7 +8,6 @@ use lib.Ieee.{Float}
 use Rattle.polynomial.specs.declared.curve.Curve.{Curve}
 use Rattle.polynomial.specs.declared.cuts.Put.{Put}
 use Rattle.polynomial.specs.declared.cuts.Put.the-variants.{Count, Full}
-use Rattle.sampling.specs.Constraints.{pick}
 use Rattle.sampling.specs.Samples.{all-turns}
 use Rattle.sampling.specs.CriticalSlices.{chart, critical}
 use Rattle.sampling.specs.J1j2free.{first-half, second-half, halves-hold}
@@ -23,12 +23,12 @@ half-values curves bends lower upper = ((lower ∷ [] ++ upper ∷ []) ++ critic
 
 -- two lists, one after the other, in that many places
 unfoldable pub halving : List Float → List Float → ℕ → Halving
-halving a b places = pick (leb (length a + length b) places) (Halves (length a) (length b)) Short
+halving a b places = cond (leb (length a + length b) places) (Halves (length a) (length b)) Short
 
 -- the same where joint 1 may have no interval, and an inner call of the root finder may be refused
 unfoldable pub cut-answer : Folded → Range → ℕ → Halving
 cut-answer t range.Nothing places = Nothing
-cut-answer t (range.Between lower upper) places = pick (halves-hold t lower upper) (halving (first-half t lower upper) (second-half t lower upper) places) Refused
+cut-answer t (range.Between lower upper) places = cond (halves-hold t lower upper) (halving (first-half t lower upper) (second-half t lower upper) places) Refused
 
 unfoldable pub both-halves : Folded → Range → List Float
 both-halves t range.Nothing = []

@@ -1,10 +1,10 @@
 -- Allowed displacements from a reference, bounded to the nearest full turn: `wrist_limit_intervals` of the Rust (01, module 4). A limit interval is either none or a pair of angles. Definitions only.
+use mathlib.Core.Bool.{cond}
 use lib.Ieee.{Float, le, neg}
 use lib.Ieee.Scale.{finite}
 use Rattle.float.specs.Number.{_⊕_, _⊖_, _⊗_, minimum, maximum, zero-float}
 use Rattle.float.specs.Trig.{P}
 use Rattle.polynomial.specs.Angle.{turn, wrapped-angle}
-use Rattle.sampling.specs.Constraints.{pick}
 use Rattle.sampling.specs.declared.constraints.Center.{Center}
 use Rattle.sampling.specs.declared.intervals.Range.{Range}
 use Rattle.sampling.specs.declared.intervals.Range.the-variants.{Nothing, Between}
@@ -13,7 +13,7 @@ use Rattle.sampling.specs.declared.intervals.Intervals.{Intervals}
 -- the centre seen from the reference; a tolerance of P or more, the infinite one included, is the whole turn
 unfoldable pub seen : Center → Float → Float → Center
 seen c reference sign =
-    pick (le P (c .tolerance))
+    cond (le P (c .tolerance))
     (record { center = zero-float; tolerance = P })
     (record { center = wrapped-angle (sign ⊗ (wrapped-angle (c .center) ⊖ reference)); tolerance = c .tolerance })
 
@@ -26,9 +26,9 @@ upper-end c shift = minimum (c .center ⊕ shift ⊕ c .tolerance) P
 
 unfoldable pub interval : Center → Float → Range
 interval c shift =
-    pick (finite (c .center))
-    (pick (le zero-float (c .tolerance))
-    (pick (le (lower-end c shift) (upper-end c shift)) (Between (lower-end c shift) (upper-end c shift)) Nothing)
+    cond (finite (c .center))
+    (cond (le zero-float (c .tolerance))
+    (cond (le (lower-end c shift) (upper-end c shift)) (Between (lower-end c shift) (upper-end c shift)) Nothing)
     Nothing)
     Nothing
 

@@ -1,6 +1,6 @@
 -- Two free joints: `search` of j1j2free.rs up to its last dedup, whose list is kind 3 (01, module 6). Definitions only.
 use Prim.Native.Nat.{ℕ, _+_}
-use mathlib.Core.Bool.{Bool, true, _&&_}
+use mathlib.Core.Bool.{Bool, true, _&&_, cond}
 use mathlib.Core.List.{List, [], _∷_, _++_}
 use lib.ListN.{length}
 use lib.Ieee.{Float}
@@ -8,7 +8,6 @@ use Rattle.float.specs.Number.{_⊖_, _⊗_, middle}
 use Rattle.polynomial.specs.Angle.{wrapped-angle}
 use Rattle.polynomial.specs.Cuts.{cuts}
 use Rattle.polynomial.specs.declared.curve.Curve.{Curve}
-use Rattle.sampling.specs.Constraints.{pick}
 use Rattle.sampling.specs.Limits.{limits}
 use Rattle.sampling.specs.Samples.{all-turns}
 use Rattle.sampling.specs.Boundaries.{wrist-limits, boundaries}
@@ -28,7 +27,7 @@ model-reference j = wrapped-angle (j .reference ⊗ j .sign ⊖ j .offset)
 
 -- the limits of joint 6; a fixed one is not read
 unfoldable pub sixth-limits : Bool → Bool → Joint → Range
-sixth-limits fixed limited j = pick fixed Nothing (wrist-limits limited j)
+sixth-limits fixed limited j = cond fixed Nothing (wrist-limits limited j)
 
 -- What counts of a job whose joints 1 and 2 are free.
 unfoldable pub folded : Matrix → Job → Folded

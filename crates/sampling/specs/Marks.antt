@@ -1,11 +1,11 @@
 -- The angles of a wrist joint that bound the free joint's samples: its reference and, with limits, their centre and ends; from `sample_angles` of continuum.rs (01, module 5). Definitions only.
-use mathlib.Core.Bool.{Bool, true, false}
+use mathlib.Core.Bool.{Bool, true, false, cond}
 use lib.Ieee.{Float, le, lt}
 use lib.Ieee.Scale.{finite}
 use Rattle.float.specs.Number.{_⊕_, _⊖_, _⊗_, zero-float}
 use Rattle.float.specs.Trig.{P}
 use Rattle.polynomial.specs.Angle.{wrapped-angle}
-use Rattle.sampling.specs.Constraints.{pick, compute-center}
+use Rattle.sampling.specs.Constraints.{compute-center}
 use Rattle.sampling.specs.declared.intervals.Range.{Range}
 use Rattle.sampling.specs.declared.intervals.Range.the-variants.{Nothing, Between}
 use Rattle.sampling.specs.declared.job.Joint.{Joint}
@@ -18,9 +18,9 @@ model-angle sign offset angle = wrapped-angle (wrapped-angle angle ⊗ sign ⊖ 
 -- the ends of limits whose tolerance is finite, at least 0 and below P
 unfoldable pub ends : Float → Float → Range
 ends center tolerance =
-    pick (finite tolerance)
-    (pick (le zero-float tolerance)
-    (pick (lt tolerance P) (Between (center ⊖ tolerance) (center ⊕ tolerance)) Nothing)
+    cond (finite tolerance)
+    (cond (le zero-float tolerance)
+    (cond (lt tolerance P) (Between (center ⊖ tolerance) (center ⊕ tolerance)) Nothing)
     Nothing)
     Nothing
 
@@ -28,6 +28,6 @@ unfoldable pub marks : Bool → Joint → Marks
 marks limited j =
     let reference = model-angle (j .sign) (j .offset) (j .reference) in
     let center = model-angle (j .sign) (j .offset) (compute-center (j .from) (j .to) .center) in
-    pick limited
+    cond limited
     (record { reference = reference; limited = true; center = center; range = ends center (compute-center (j .from) (j .to) .tolerance) })
     (record { reference = reference; limited = false; center = zero-float; range = Nothing })

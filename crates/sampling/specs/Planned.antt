@@ -1,4 +1,5 @@
 -- What `plan_of` asks of a job and promises of its angles.
+use mathlib.Core.Bool.{cond}
 use Prim.Native.Nat.{ℕ}
 use mathlib.Core.Path.{_≡_}
 use mathlib.Core.Logic.{_⊎_}
@@ -9,7 +10,6 @@ use lib.Ieee.Scale.{finite}
 use Rattle.float.specs.Number.{one-float}
 use Rattle.float.specs.Laws.Within.{Within}
 use Rattle.polynomial.specs.Angle.{turn}
-use Rattle.sampling.specs.Constraints.{pick}
 use Rattle.sampling.specs.Angles.{angles, cut-count, hold}
 use Rattle.sampling.specs.Stream.{start}
 use Rattle.sampling.specs.Plan.{to-come, Ready}
@@ -40,7 +40,7 @@ came (Two h) = found
 
 -- the same by the job, with so many places
 unfoldable pub outcome : Job → Matrix → ℕ → Outcome
-outcome job m places = pick (hold job m) (pick (leb (cut-count job m) places) found short) refused
+outcome job m places = cond (hold job m) (cond (leb (cut-count job m) places) found short) refused
 
 -- the promise, of work w: the outcome, and where the angles are found, that they can be read off, and are the job's
 pub record Planned (job : Job) (m : Matrix) (places : ℕ) (p : Plan) (w : List Float) : Type 0 where

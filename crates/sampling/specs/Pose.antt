@@ -1,10 +1,9 @@
 -- The pose: `try_normalize_dquat` of the Rust, and the rotation matrix, dot product and length by 01's formulas (module 4). Definitions only.
-use mathlib.Core.Bool.{Bool, false}
+use mathlib.Core.Bool.{Bool, false, cond}
 use lib.Ieee.{Float, binary64, le, neg}
 use lib.Ieee.Scale.{finite}
 use Rattle.float.specs.Number.{_⊕_, _⊖_, _⊗_, _⊘_, zero-float, one-float}
 use Rattle.float.specs.Sqrt.{sqrt}
-use Rattle.sampling.specs.Constraints.{pick}
 use Rattle.sampling.specs.declared.pose.Quaternion.{Quaternion}
 use Rattle.sampling.specs.declared.pose.Vector.{Vector}
 use Rattle.sampling.specs.declared.pose.Matrix.{Matrix}
@@ -16,16 +15,16 @@ unfoldable pub quaternion-length : Quaternion → Float
 quaternion-length q = sqrt binary64 (q .x ⊗ q .x ⊕ q .y ⊗ q .y ⊕ q .z ⊗ q .z ⊕ q .w ⊗ q .w)
 
 abbrev pub all-finite : Quaternion → Bool
-all-finite q = pick (finite (q .x)) (pick (finite (q .y)) (pick (finite (q .z)) (finite (q .w)) false) false) false
+all-finite q = cond (finite (q .x)) (cond (finite (q .y)) (cond (finite (q .z)) (finite (q .w)) false) false) false
 
 abbrev pub over : Quaternion → Float → Quaternion
 over q l = record { x = q .x ⊘ l; y = q .y ⊘ l; z = q .z ⊘ l; w = q .w ⊘ l }
 
 unfoldable pub try-normalize : Quaternion → Normalized
 try-normalize q =
-    pick (all-finite q)
-    (pick (finite (quaternion-length q))
-    (pick (le (quaternion-length q) zero-float) Zero (Unit (over q (quaternion-length q))))
+    cond (all-finite q)
+    (cond (finite (quaternion-length q))
+    (cond (le (quaternion-length q) zero-float) Zero (Unit (over q (quaternion-length q))))
     NotFinite)
     NotFinite
 

@@ -1,9 +1,9 @@
 -- The boundary angles of joints 4 and 6, in the order in which the Rust finds them: `sample_angles` of continuum.rs (01, module 5). Definitions only.
+use mathlib.Core.Bool.{cond}
 use mathlib.Core.List.{List, [], _++_}
 use lib.Ieee.{Float, neg}
 use lib.Ieee.Scale.{finite}
 use Rattle.float.specs.Number.{_⊕_, _⊗_, one-float}
-use Rattle.sampling.specs.Constraints.{pick}
 use Rattle.sampling.specs.Continuum.{roots, ray-roots}
 use Rattle.sampling.specs.declared.continuum.Trig.{Trig}
 use Rattle.sampling.specs.declared.wrist.Ray.{Ray}
@@ -20,7 +20,7 @@ poles cos5 = roots cos5 one-float ++ roots cos5 (neg one-float)
 
 -- an angle counts if it is finite
 unfoldable pub ray-at : Ray → Float → List Float
-ray-at ray angle = pick (finite angle) (ray-roots (ray .x) (ray .y) angle) []
+ray-at ray angle = cond (finite angle) (ray-roots (ray .x) (ray .y) angle) []
 
 unfoldable pub ray-range : Ray → Range → List Float
 ray-range ray Nothing = []
@@ -28,7 +28,7 @@ ray-range ray (Between lower upper) = ray-at ray lower ++ ray-at ray upper
 
 -- the reference and, with limits, their centre and ends
 unfoldable pub ray-marks : Ray → Marks → List Float
-ray-marks ray m = ray-at ray (m .reference) ++ pick (m .limited) (ray-at ray (m .center) ++ ray-range ray (m .range)) []
+ray-marks ray m = ray-at ray (m .reference) ++ cond (m .limited) (ray-at ray (m .center) ++ ray-range ray (m .range)) []
 
 -- at a pole, an angle of joint 4 with one of joint 6; whether it is finite is not asked
 unfoldable pub corner : Ray → Float → Float → Float → List Float

@@ -1,13 +1,13 @@
 -- One free joint: `sample_angles` of continuum.rs (01, module 5). Kind 1's angles are those of joint 1, kind 2's those of joint 2. Definitions only.
 use Prim.Native.Nat.{ℕ, _+_}
-use mathlib.Core.Bool.{Bool, true}
+use mathlib.Core.Bool.{Bool, true, cond}
 use mathlib.Core.List.{List, []}
 use lib.ListN.{length}
 use lib.Ieee.{Float}
 use lib.Ieee.Scale.{finite}
 use Rattle.float.specs.Number.{zero-float, one-float}
 use Rattle.float.specs.Trig.{P}
-use Rattle.sampling.specs.Constraints.{pick, compute-center}
+use Rattle.sampling.specs.Constraints.{compute-center}
 use Rattle.sampling.specs.Intervals.{wrist-limit-intervals}
 use Rattle.sampling.specs.Marks.{model-angle, marks}
 use Rattle.sampling.specs.Wrist.{wrist}
@@ -26,13 +26,13 @@ use Rattle.sampling.specs.declared.sample_angles.Free.{Free}
 -- the centre and the tolerance of the free joint's limits as a model angle; without limits, 0 and P
 unfoldable pub free-limits : Bool → Joint → Center
 free-limits limited j =
-    pick limited
+    cond limited
     (record { center = model-angle (j .sign) (j .offset) (compute-center (j .from) (j .to) .center); tolerance = compute-center (j .from) (j .to) .tolerance })
     (record { center = zero-float; tolerance = P })
 
 -- a fixed sixth joint is not read
 unfoldable pub sixth : Bool → Bool → Joint → Sixth
-sixth fixed limited j = pick fixed Fixed (Turns (marks limited j))
+sixth fixed limited j = cond fixed Fixed (Turns (marks limited j))
 
 -- what counts of a job whose joint j is free, and which has these columns of the arm's rotation
 unfoldable pub free : Axes → Matrix → Job → Joint → Free
@@ -56,13 +56,13 @@ intervals f = wrist-limit-intervals (f .limits) (f .near) one-float
 
 -- The cuts of each interval; none where the reference is not finite.
 unfoldable pub first-cuts : Free → List Float
-first-cuts f = pick (finite (f .near)) (interval-cuts (f .near) (roots f) (intervals f .first)) []
+first-cuts f = cond (finite (f .near)) (interval-cuts (f .near) (roots f) (intervals f .first)) []
 
 unfoldable pub second-cuts : Free → List Float
-second-cuts f = pick (finite (f .near)) (interval-cuts (f .near) (roots f) (intervals f .second)) []
+second-cuts f = cond (finite (f .near)) (interval-cuts (f .near) (roots f) (intervals f .second)) []
 
 unfoldable pub third-cuts : Free → List Float
-third-cuts f = pick (finite (f .near)) (interval-cuts (f .near) (roots f) (intervals f .third)) []
+third-cuts f = cond (finite (f .near)) (interval-cuts (f .near) (roots f) (intervals f .third)) []
 
 -- their lengths added
 unfoldable pub cut-count : Free → ℕ
@@ -70,7 +70,7 @@ cut-count f = length (first-cuts f) + length (second-cuts f) + length (third-cut
 
 -- whether no inner call of the root finder is refused
 unfoldable pub hold : Free → Bool
-hold f = pick (finite (f .near)) (all-roots-hold (f .wrist) (f .fifth)) true
+hold f = cond (finite (f .near)) (all-roots-hold (f .wrist) (f .fifth)) true
 
 -- The angles: each interval's samples, one interval after the other.
 unfoldable pub sample-angles : Free → List Float

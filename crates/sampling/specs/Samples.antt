@@ -1,21 +1,20 @@
 -- From the boundary angles of one free joint to its samples: the end of `sample_angles` of continuum.rs (01, module 5). Cuts: each interval's list after its dedup. Definitions only.
-use mathlib.Core.Bool.{false}
+use mathlib.Core.Bool.{false, cond}
 use mathlib.Core.List.{List, [], _∷_, _++_}
 use Prim.Native.Nat.{ℕ, zero, suc, _*_}
-use lib.IntN.{pos}
-use lib.Ieee.{Float, fin, neg, le}
+use lib.Ieee.{Float, neg, le}
 use lib.Ieee.Scale.{finite}
 use Rattle.float.specs.Number.{_⊕_, _⊖_, _⊗_, _⊘_, abs, minimum, maximum, middle, zero-float, one-float}
+use Rattle.float.specs.Trig.{four-float}
 use Rattle.polynomial.specs.Angle.{turn}
 use Rattle.polynomial.specs.Cuts.{cuts}
-use Rattle.sampling.specs.Constraints.{pick}
 use Rattle.sampling.specs.Continuum.{root-roundoff}
 use Rattle.sampling.specs.declared.intervals.Range.{Range}
 use Rattle.sampling.specs.declared.intervals.Range.the-variants.{Nothing, Between}
 
 -- an angle where it lies in the interval, ends included
 unfoldable pub inside : Float → Float → Float → List Float
-inside lower upper angle = pick (le lower angle) (pick (le angle upper) (angle ∷ []) []) []
+inside lower upper angle = cond (le lower angle) (cond (le angle upper) (angle ∷ []) []) []
 
 -- an angle, a turn below, as it is and a turn above
 unfoldable pub turns : Float → Float → Float → List Float
@@ -28,7 +27,7 @@ all-turns lower upper (angle ∷ angles) = turns lower upper angle ++ all-turns 
 
 -- a root counts if it is finite
 unfoldable pub windings : Float → Float → Float → List Float
-windings lower upper root = pick (finite root) (turns lower upper root) []
+windings lower upper root = cond (finite root) (turns lower upper root) []
 
 unfoldable pub all-windings : Float → Float → List Float → List Float
 all-windings lower upper [] = []
@@ -42,9 +41,6 @@ interval-values near roots (Between lower upper) =
 
 unfoldable pub interval-cuts : Float → List Float → Range → List Float
 interval-cuts near roots range = cuts (interval-values near roots range)
-
-abbrev four-float : Float
-four-float = fin false 1 (pos 2)
 
 -- How far inside a pair of neighbouring cuts the outer samples lie.
 unfoldable pub inset : Float → Float → Float

@@ -1,11 +1,11 @@
 // Two free joints: `search` of src/singularity/j1j2free.rs, up to the cuts of both halves; `stream`
 // yields the slices.
+ghost use mathlib.Core.Bool.{cond};
 ghost use mathlib.Core.Path.{_≡_};
 ghost use mathlib.Core.List.{_++_};
 ghost use Prim.Native.Nat.{_≤_};
 ghost use lib.ListN.{length, take};
 ghost use Rattle.polynomial.specs.Laws.Held.{Kept};
-ghost use Rattle.sampling.specs.Constraints.{pick};
 ghost use Rattle.sampling.specs.CriticalSlices.{chart, critical-holds};
 ghost use Rattle.sampling.specs.Halving.{half-values, halving, cut-answer, both-halves, filled, listed, start, both};
 ghost use Rattle.sampling.specs.J1j2free as Of;
@@ -140,7 +140,7 @@ fn halving_of(first: Put, second: Put) -> Halving
 // The cuts of both halves, one list after the other in the front of work. Every inner call of the
 // root finder is made, whether or not there are places.
 fn cut_halves(work: &mut [f64], t: Folded, lower: f64, upper: f64) -> Halving
-    ensures { λ r. ⌜ r ≡ pick (Of.halves-hold t lower upper) (halving (Of.first-half t lower upper) (Of.second-half t lower upper) (length (now (work .entry)))) answer.Refused ⌝ }
+    ensures { λ r. ⌜ r ≡ cond (Of.halves-hold t lower upper) (halving (Of.first-half t lower upper) (Of.second-half t lower upper) (length (now (work .entry)))) answer.Refused ⌝ }
     ensures { λ r. ⌜ take (filled r) (now (work .exit)) ≡ listed r (Of.first-half t lower upper ++ Of.second-half t lower upper) ⌝ }
 {
     let range2 = t.range2;

@@ -17,7 +17,7 @@ use crate::wrist::Ray;
 use crate::wrist::Wrist;
 use float::number::is_finite;
 
-pub fn push(v: f64, out: &mut [f64], n: usize) -> usize
+pub(crate) fn push(v: f64, out: &mut [f64], n: usize) -> usize
     requires { ⌜ n < length (now out) ⌝ }
     ensures { λ r. ⌜ Pushed 1 (v ∷ []) n (now (out .entry)) r (now (out .exit)) ⌝ }
 {
@@ -25,7 +25,7 @@ pub fn push(v: f64, out: &mut [f64], n: usize) -> usize
     n + 1
 }
 
-pub fn push_crossings(p: Crossings, out: &mut [f64], n: usize) -> usize
+pub(crate) fn push_crossings(p: Crossings, out: &mut [f64], n: usize) -> usize
     requires { ⌜ n + 2 ≤ length (now out) ⌝ }
     ensures { λ r. ⌜ Pushed 2 (Continuum.listed p) n (now (out .entry)) r (now (out .exit)) ⌝ }
 {
@@ -39,7 +39,7 @@ pub fn push_crossings(p: Crossings, out: &mut [f64], n: usize) -> usize
 }
 
 // Angles where the polynomial equals the target.
-pub fn roots(t: Trig, target: f64, out: &mut [f64], n: usize) -> usize
+pub(crate) fn roots(t: Trig, target: f64, out: &mut [f64], n: usize) -> usize
     requires { ⌜ n + 2 ≤ length (now out) ⌝ }
     ensures { λ r. ⌜ Pushed 2 (Continuum.roots t target) n (now (out .entry)) r (now (out .exit)) ⌝ }
 {
@@ -47,14 +47,14 @@ pub fn roots(t: Trig, target: f64, out: &mut [f64], n: usize) -> usize
 }
 
 // Angles where the vector lies on the boundary line of an angle.
-pub fn ray_roots(ray: Ray, angle: f64, out: &mut [f64], n: usize) -> usize
+pub(crate) fn ray_roots(ray: Ray, angle: f64, out: &mut [f64], n: usize) -> usize
     requires { ⌜ n + 2 ≤ length (now out) ⌝ }
     ensures { λ r. ⌜ Pushed 2 (Continuum.ray-roots (ray .x) (ray .y) angle) n (now (out .entry)) r (now (out .exit)) ⌝ }
 {
     roots(line(ray.x, ray.y, angle), 0.0, out, n)
 }
 
-pub fn poles(cos5: Trig, out: &mut [f64], n: usize) -> usize
+pub(crate) fn poles(cos5: Trig, out: &mut [f64], n: usize) -> usize
     requires { ⌜ n + 4 ≤ length (now out) ⌝ }
     ensures { λ r. ⌜ Pushed 4 (Of.poles cos5) n (now (out .entry)) r (now (out .exit)) ⌝ }
 {
@@ -87,7 +87,7 @@ fn ray_range(ray: Ray, range: Range, out: &mut [f64], n: usize) -> usize
 }
 
 // The reference and, with limits, their centre and ends.
-pub fn ray_marks(ray: Ray, marks: Marks, out: &mut [f64], n: usize) -> usize
+pub(crate) fn ray_marks(ray: Ray, marks: Marks, out: &mut [f64], n: usize) -> usize
     requires { ⌜ n + 8 ≤ length (now out) ⌝ }
     ensures { λ r. ⌜ Pushed 8 (Of.ray-marks ray marks) n (now (out .entry)) r (now (out .exit)) ⌝ }
 {
@@ -146,7 +146,7 @@ fn phases(w: Wrist, fourth: Marks, sixth: Marks, out: &mut [f64], n: usize) -> u
 }
 
 // Joint 6, if it is not fixed.
-pub fn sixth_roots(w: Wrist, fourth: Marks, sixth: Sixth, out: &mut [f64], n: usize) -> usize
+pub(crate) fn sixth_roots(w: Wrist, fourth: Marks, sixth: Sixth, out: &mut [f64], n: usize) -> usize
     requires { ⌜ n + 28 ≤ length (now out) ⌝ }
     ensures { λ r. ⌜ Pushed 28 (Of.sixth-roots w fourth sixth) n (now (out .entry)) r (now (out .exit)) ⌝ }
 {

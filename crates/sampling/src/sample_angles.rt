@@ -1,10 +1,10 @@
 // One free joint: `sample_angles` of src/singularity/continuum.rs, up to the cuts; `lists` reads the
 // samples off them.
+ghost use mathlib.Core.Bool.{cond};
 ghost use mathlib.Core.Path.{_≡_};
 ghost use mathlib.Core.List.{_++_};
 ghost use Prim.Native.Nat.{_≤_};
 ghost use lib.ListN.{length, take};
-ghost use Rattle.sampling.specs.Constraints.{pick};
 ghost use Rattle.sampling.specs.Cutting.{cutting, filled, listed};
 ghost use Rattle.sampling.specs.Samples.{interval-cuts};
 ghost use Rattle.sampling.specs.SampleAngles as Of;
@@ -124,7 +124,7 @@ fn cut_intervals(work: &mut [f64], near: f64, three: Intervals, roots: &[f64], n
 // The cuts of a free joint, in the front of work. Every inner call of the root finder is made before
 // a place of work is asked for.
 pub(crate) fn cut(work: &mut [f64], f: Free) -> Cutting
-    ensures { λ r. ⌜ r ≡ pick (Of.hold f) (cutting (Of.first-cuts f) (Of.second-cuts f) (Of.third-cuts f) (length (now (work .entry)))) answer.Refused ⌝ }
+    ensures { λ r. ⌜ r ≡ cond (Of.hold f) (cutting (Of.first-cuts f) (Of.second-cuts f) (Of.third-cuts f) (length (now (work .entry)))) answer.Refused ⌝ }
     ensures { λ r. ⌜ take (filled r) (now (work .exit)) ≡ listed r ((Of.first-cuts f ++ Of.second-cuts f) ++ Of.third-cuts f) ⌝ }
 {
     if is_finite(f.near) {

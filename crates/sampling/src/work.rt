@@ -1,10 +1,10 @@
 // Cuts in the lent work slice.
+ghost use mathlib.Core.Bool.{cond};
 ghost use mathlib.Core.Path.{_≡_};
 ghost use mathlib.Core.List.{[], _∷_};
 ghost use Prim.Native.Nat.{_<_};
 ghost use lib.Dec.{leb};
 ghost use lib.ListN.{length};
-ghost use Rattle.polynomial.specs.Insert.{pickPut};
 ghost use Rattle.polynomial.specs.declared.cuts.Put.the-variants as put;
 ghost use Rattle.sampling.specs.Grown.{Grown, counted, number};
 use polynomial::cuts::Put;
@@ -55,7 +55,7 @@ pub(crate) fn number_of(cuts: Put, places: usize) -> usize
 
 // The cuts of such a number.
 pub(crate) fn put_of(n: usize, places: usize) -> Put
-    ensures { λ r. ⌜ r ≡ pickPut (leb n places) (put.Count n) put.Full ⌝ }
+    ensures { λ r. ⌜ r ≡ cond (leb n places) (put.Count n) put.Full ⌝ }
 {
     if n <= places {
         return Put::Count(n);

@@ -1,9 +1,9 @@
 -- The numbers of module 4's answers, each by its place: a float by its bits. Definitions only.
 use Prim.Native.Nat.{ℕ, _-_}
-use mathlib.Core.Bool.{Bool, true, false}
+use mathlib.Core.Bool.{Bool, true, false, cond}
 use lib.Dec.{eqb, ltb}
 use lib.Ieee.{Float, binary64, toBits, ofBits}
-use Rattle.sampling.specs.Constraints.{pick, compute-center}
+use Rattle.sampling.specs.Constraints.{compute-center}
 use Rattle.sampling.specs.Intervals.{wrist-limit-intervals}
 use Rattle.sampling.specs.Limits as Limits
 use Rattle.sampling.specs.Pose.{try-normalize, from-quat}
@@ -20,15 +20,15 @@ use Rattle.sampling.specs.declared.pose.Normalized.the-variants.{Unit, NotFinit
 
 -- whether a number is not 0
 unfoldable pub yes : ℕ → Bool
-yes n = pick (eqb n 0) false true
+yes n = cond (eqb n 0) false true
 
 -- 0 the centre, else the tolerance
 unfoldable pub of-center : Center → ℕ → ℕ
-of-center c part = pick (eqb part 0) (toBits binary64 (c .center)) (toBits binary64 (c .tolerance))
+of-center c part = cond (eqb part 0) (toBits binary64 (c .center)) (toBits binary64 (c .tolerance))
 
 -- 0 for no interval; else 1 at 0, the lower end at 1, and else the upper end
 unfoldable pub of-ends : Float → Float → ℕ → ℕ
-of-ends lower upper part = pick (eqb part 0) 1 (pick (eqb part 1) (toBits binary64 lower) (toBits binary64 upper))
+of-ends lower upper part = cond (eqb part 0) 1 (cond (eqb part 1) (toBits binary64 lower) (toBits binary64 upper))
 
 unfoldable pub of-range : Range → ℕ → ℕ
 of-range Nothing part = 0
@@ -36,30 +36,30 @@ of-range (Between lower upper) part = of-ends lower upper part
 
 -- the first at 0, the second at 1, else the third
 unfoldable pub one-of : Intervals → ℕ → Range
-one-of i which = pick (eqb which 0) (i .first) (pick (eqb which 1) (i .second) (i .third))
+one-of i which = cond (eqb which 0) (i .first) (cond (eqb which 1) (i .second) (i .third))
 
 -- x at 0, y at 1, else z
 unfoldable pub of-vector : Vector → ℕ → Float
-of-vector v at = pick (eqb at 0) (v .x) (pick (eqb at 1) (v .y) (v .z))
+of-vector v at = cond (eqb at 0) (v .x) (cond (eqb at 1) (v .y) (v .z))
 
 -- the parts of the columns, one column after the other
 unfoldable pub of-matrix : Matrix → ℕ → Float
-of-matrix m at = pick (ltb at 3) (of-vector (m .x) at) (pick (ltb at 6) (of-vector (m .y) (at - 3)) (of-vector (m .z) (at - 6)))
+of-matrix m at = cond (ltb at 3) (of-vector (m .x) at) (cond (ltb at 6) (of-vector (m .y) (at - 3)) (of-vector (m .z) (at - 6)))
 
 -- x at 1, y at 2, z at 3, else w
 unfoldable pub of-quaternion : Quaternion → ℕ → Float
-of-quaternion q at = pick (eqb at 1) (q .x) (pick (eqb at 2) (q .y) (pick (eqb at 3) (q .z) (q .w)))
+of-quaternion q at = cond (eqb at 1) (q .x) (cond (eqb at 2) (q .y) (cond (eqb at 3) (q .z) (q .w)))
 
 -- 2 at 0, the quaternion's parts at 1 to 4, those of its matrix at 5 to 13, else 0
 unfoldable pub of-unit : Quaternion → ℕ → ℕ
 of-unit q part =
-    pick (eqb part 0) 2
-    (pick (ltb part 5) (toBits binary64 (of-quaternion q part))
-    (pick (ltb part 14) (toBits binary64 (of-matrix (from-quat q) (part - 5))) 0))
+    cond (eqb part 0) 2
+    (cond (ltb part 5) (toBits binary64 (of-quaternion q part))
+    (cond (ltb part 14) (toBits binary64 (of-matrix (from-quat q) (part - 5))) 0))
 
 -- 1 at 0, else 0
 unfoldable pub of-zero : ℕ → ℕ
-of-zero part = pick (eqb part 0) 1 0
+of-zero part = cond (eqb part 0) 1 0
 
 unfoldable pub of-pose : Normalized → ℕ → ℕ
 of-pose NotFinite part = 0

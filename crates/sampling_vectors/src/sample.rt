@@ -4,7 +4,7 @@ ghost use Prim.Native.Nat.{_+_, _*_, _≤_, _<_};
 ghost use lib.ListN.{length};
 
 // How many operands the function of a letter has; 0 for a letter that no function has.
-pub fn operands(letter: u8) -> usize {
+pub(crate) fn operands(letter: u8) -> usize {
     match letter {
         b'C' => 2,
         b'L' => 6,
@@ -28,7 +28,7 @@ fn words(letter: u8) -> usize
 }
 
 // The number of words of the sample whose line begins at `at`, or 0 where there is none.
-pub fn line(s: &[u8], at: usize) -> usize
+pub(crate) fn line(s: &[u8], at: usize) -> usize
     requires { ⌜ at < length (now s) ⌝ }
     ensures { λ r. ⌜ (0 < r → at + 17 * r + 2 ≤ length (now (s .entry))) ⌝ }
 {

@@ -19,7 +19,7 @@ pub fn new<'a>(request: &'a [u8]) -> View<'a>
 }
 
 // The float whose eight bytes start at `at`.
-pub fn float<'a>(v: View<'a>, at: usize) -> f64
+pub(crate) fn float<'a>(v: View<'a>, at: usize) -> f64
     requires { ⌜ at + 8 ≤ length (now (v .request)) ⌝ }
     ensures { λ r. ⌜ r ≡ Bytes.float-at (now (v .entry .request)) at ⌝ }
 {
@@ -27,7 +27,7 @@ pub fn float<'a>(v: View<'a>, at: usize) -> f64
 }
 
 // The byte at `at`.
-pub fn byte<'a>(v: View<'a>, at: usize) -> u8
+pub(crate) fn byte<'a>(v: View<'a>, at: usize) -> u8
     requires { ⌜ at < length (now (v .request)) ⌝ }
     ensures { λ r. ⌜ r ≡ getD (now (v .entry .request)) at 0 ⌝ }
 {

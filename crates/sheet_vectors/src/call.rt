@@ -136,7 +136,7 @@ fn check_agrees(s: &[u8], at: usize, k: usize, n: usize, places: usize) -> bool
 }
 
 // Whether the call whose line of k words begins at `at` answers as stored.
-pub fn agrees(s: &[u8], at: usize, k: usize) -> bool
+pub(crate) fn agrees(s: &[u8], at: usize, k: usize) -> bool
     requires { ⌜ at + 17 * k + 2 ≤ length (now s) ⌝ }
 {
     if k < 2 {

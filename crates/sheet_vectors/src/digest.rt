@@ -14,7 +14,7 @@ fn times_prime(h: u64) -> u64
     wrapping_add_u64(wrapping_add_u64(high, low), shifted)
 }
 
-pub fn digest(s: &[u8]) -> u64
+pub(crate) fn digest(s: &[u8]) -> u64
     ensures { λ r. ⌜ r ≡ Digest.digest (now (s .entry)) ⌝ }
 {
     let mut h = 0xcbf2_9ce4_8422_2325u64;

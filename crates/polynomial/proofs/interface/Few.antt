@@ -2,7 +2,7 @@
 use Prim.Native.Nat.{ℕ, _+_, _%_, _≤_, zero-le}
 use native.Mathlib.Omega.{arith}
 use mathlib.Core.Path.{_≡_, refl}
-use mathlib.Core.Bool.{Bool, true, false}
+use mathlib.Core.Bool.{Bool, true, false, cond}
 use mathlib.Core.List.{List, [], _∷_}
 use lib.IntN.{natAbs}
 use lib.Dec.{ltb, leb, eqb, lit≤}
@@ -10,7 +10,7 @@ use lib.ListN.{length}
 use lib.Ieee.{Float}
 use borrow.Author.Tests.{ltb-false}
 use Rattle.polynomial.specs.Roots.{roots}
-use Rattle.polynomial.specs.Operation.{pairs, bad-length, bounds-hold, parts-hold, pick, number, answer}
+use Rattle.polynomial.specs.Operation.{pairs, bad-length, bounds-hold, parts-hold, number, answer}
 use Rattle.polynomial.specs.Laws.Enclosed.{all-most}
 use Rattle.polynomial.specs.declared.operation.Answer.{Answer}
 use Rattle.polynomial.specs.declared.operation.Answer.the-variants.{Count, BadLength, BadBounds, BadPart, ShortResult}
@@ -25,7 +25,7 @@ pairs-short (h ∷ (l ∷ r)) = let k = pairs-short r in omega arith
 abbrev Few : Answer → Type 0
 Few a = natAbs (number a) ≤ 509
 
-pick-few : (b : Bool) (x y : Answer) → (b ≡ true → Few x) → (b ≡ false → Few y) → Few (pick b x y)
+pick-few : (b : Bool) (x y : Answer) → (b ≡ true → Few x) → (b ≡ false → Few y) → Few (cond b x y)
 pick-few true x y f g = f refl
 pick-few false x y f g = g refl
 

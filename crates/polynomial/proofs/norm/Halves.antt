@@ -3,7 +3,7 @@ use Prim.Native.Nat.{ℕ, _+_, _≤_}
 use native.Mathlib.Nat.{le-refl, le-trans}
 use native.Mathlib.Omega.{arith}
 use mathlib.Core.Path.{_≡_, refl, sym, ap, ap₂, subst₂, _∙_}
-use mathlib.Core.Bool.{Bool, true, false, _&&_}
+use mathlib.Core.Bool.{Bool, true, false, _&&_, cond}
 use mathlib.Core.List.{List, [], _∷_, _++_, append-nil, append-assoc}
 use lib.ListN.{length, take, drop, length-take}
 use lib.Ieee.{Float, neg}
@@ -12,7 +12,6 @@ use Rattle.float.specs.Trig.{P}
 use Rattle.polynomial.specs.Cuts.{cuts, put}
 use Rattle.polynomial.specs.Curve.{inner-holds, norm-polynomial, chart-angles, half-roots, half-holds, squared-norm-roots, squared-norm-holds}
 use Rattle.polynomial.specs.Norm.{squared-norm-answer, size, listed, put-all}
-use Rattle.polynomial.specs.Operation.{pick}
 use Rattle.polynomial.specs.Roots.{roots}
 use Rattle.polynomial.specs.declared.compensated.Compensated.{Compensated}
 use Rattle.polynomial.specs.declared.curve.Harmonic.{Harmonic}
@@ -67,7 +66,7 @@ module _ (x y : Harmonic) (norm lower upper : Float) where
 
   -- the result r of the inner call; where it is a number n, the roots stand in the first n places
   abbrev pub Half : Inner → List Float → Type 0
-  Half r last = (r ≡ pick holds (Count (length found)) Refused) × ((n : ℕ) → r ≡ Count n → take n last ≡ found)
+  Half r last = (r ≡ cond holds (Count (length found)) Refused) × ((n : ℕ) → r ≡ Count n → take n last ≡ found)
 
   -- by the origin, the polynomial and the code's 1.0
   pub half-of : (o one : Float) (p : List Compensated) (r : Inner) (before last : List Float) → o ≡ middle lower upper → p ≡ norm-polynomial x y norm o → one ≡ one-float

@@ -7,7 +7,8 @@ use Rattle.float.specs.Number.{abs}
 use Rattle.float.specs.Laws.Le.{le→Le}
 use Rattle.float.specs.Laws.Range.{abs-within}
 use Rattle.float.specs.Laws.Middle.{Span}
-use Rattle.polynomial.specs.Operation.{four, bounds-hold}
+use Rattle.float.specs.Trig.{four-float}
+use Rattle.polynomial.specs.Operation.{bounds-hold}
 
 three : (a b c : Bool) → (a && b && c) ≡ true → (a ≡ true) × (b ≡ true) × (c ≡ true)
 three true true c h = (refl, refl, h)
@@ -16,7 +17,7 @@ three false b c h = absurd (false≢true h)
 
 pub bounds-span : (lower upper : Float) → T (fits binary64 lower) → T (fits binary64 upper) → bounds-hold lower upper ≡ true → Span 2 lower upper
 bounds-span lower upper s t h =
-    let k = three (le (abs lower) four) (le (abs upper) four) (le lower upper) h in
-    let l = abs-within four lower tt tt (k .0) in
-    let u = abs-within four upper tt tt (k .1) in
+    let k = three (le (abs lower) four-float) (le (abs upper) four-float) (le lower upper) h in
+    let l = abs-within four-float lower tt tt (k .0) in
+    let u = abs-within four-float upper tt tt (k .1) in
     record { room = lit< tt; lo-fits = s; hi-fits = t; lo-within = l; hi-within = u; order = le→Le lower upper (l .real) (u .real) (subst T (sym (k .2)) tt) }

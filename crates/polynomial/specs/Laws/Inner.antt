@@ -1,6 +1,6 @@
 -- What an inner call of the root finder says, by its answer: whether the list and the bounds hold, and where the roots stand. Assumes nothing.
 use mathlib.Core.Path.{_≡_, sym, ap, _∙_, refl}
-use mathlib.Core.Bool.{true, false, Bool}
+use mathlib.Core.Bool.{true, false, Bool, cond}
 use mathlib.Core.List.{List, _++_}
 use Prim.Native.Nat.{ℕ, _≤_}
 use native.Mathlib.Omega.{arith}
@@ -13,15 +13,14 @@ use Rattle.polynomial.specs.Curve.{inner-holds}
 use Rattle.polynomial.specs.declared.compensated.Compensated.{Compensated}
 use Rattle.polynomial.specs.declared.norm.Inner.{Inner}
 use Rattle.polynomial.specs.declared.norm.Inner.the-variants.{Count, Refused}
-use Rattle.polynomial.specs.Operation.{pick}
 
 -- ---- an answer by its test b
 
-pub inner-refused : (b : Bool) (n : ℕ) (r : Inner) → r ≡ pick b (Count n) Refused → r ≡ Refused → b ≡ false
+pub inner-refused : (b : Bool) (n : ℕ) (r : Inner) → r ≡ cond b (Count n) Refused → r ≡ Refused → b ≡ false
 inner-refused true n r e f = let z : _≡_ {A = ℕ} 0 1 = cc in absurd (omega arith)
 inner-refused false n r e f = refl
 
-pub inner-counted : (b : Bool) (n m : ℕ) (r : Inner) → r ≡ pick b (Count n) Refused → r ≡ Count m → (b ≡ true) × (m ≡ n)
+pub inner-counted : (b : Bool) (n m : ℕ) (r : Inner) → r ≡ cond b (Count n) Refused → r ≡ Count m → (b ≡ true) × (m ≡ n)
 inner-counted true n m r e f = (refl, cc)
 inner-counted false n m r e f = let z : _≡_ {A = ℕ} 0 1 = cc in absurd (omega arith)
 

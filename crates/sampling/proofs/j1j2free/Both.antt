@@ -2,7 +2,7 @@
 use Prim.Native.Nat.{ℕ, _+_, _-_, _≤_, _<_}
 use native.Mathlib.Omega.{arith}
 use mathlib.Core.Path.{_≡_, refl, sym, ap, subst, _∙_}
-use mathlib.Core.Bool.{Bool, true, false, _&&_}
+use mathlib.Core.Bool.{Bool, true, false, _&&_, cond}
 use mathlib.Core.List.{List, _++_, append-assoc}
 use lib.Dec.{T}
 use lib.ListN.{length, take, drop, length-append, length-drop}
@@ -17,7 +17,6 @@ use Rattle.polynomial.specs.Laws.Lists.{tail-part, tail-post}
 use Rattle.polynomial.specs.declared.curve.Curve.{Curve}
 use Rattle.polynomial.specs.declared.cuts.Put.{Put}
 use Rattle.polynomial.specs.declared.cuts.Put.the-variants.{Count, Full}
-use Rattle.sampling.specs.Constraints.{pick}
 use Rattle.sampling.specs.CriticalSlices.{chart, critical-holds}
 use Rattle.sampling.specs.BendSlices.{bend-slices-hold}
 use Rattle.sampling.specs.J1j2free.{curves, bends, first-half, second-half, halves-hold}
@@ -70,7 +69,7 @@ module _ (t : Folded) (lower upper m : Float) (f : T (fits binary64 lower)) (g :
   unfolding halves-hold
   hold = rw (ex, ey, ez, ec, em)
 
-  pub refused : (x && (y && z)) ≡ false → (h : Halving) → Refused ≡ pick (halves-hold t lower upper) h Refused
+  pub refused : (x && (y && z)) ≡ false → (h : Halving) → Refused ≡ cond (halves-hold t lower upper) h Refused
   refused e h = rw (sym hold ∙ e)
 
   module _ (w v last : List Float) (s r : Put) (n : ℕ) (en : n ≡ start s (length v))
@@ -87,7 +86,7 @@ module _ (t : Folded) (lower upper m : Float) (f : T (fits binary64 lower)) (g :
     behind = rw (← en) (subst (λ (d : List Float). Kept (half-values cs bs m upper) d last r) (tail-part n v) l)
 
     pub holds : (x && (y && z)) ≡ true → (q : Halving) → q ≡ both s r
-        → (q ≡ pick (halves-hold t lower upper) (halving (first-half t lower upper) (second-half t lower upper) (length w)) Refused)
+        → (q ≡ cond (halves-hold t lower upper) (halving (first-half t lower upper) (second-half t lower upper) (length w)) Refused)
         × (take (filled q) (take n v ++ (last ++ drop (length v - n) (drop n v))) ≡ listed q (first-half t lower upper ++ second-half t lower upper))
     holds e q eq = (
       eq ∙ rw (sym hold ∙ e, first, second) (answers (half-values cs bs lower m) (half-values cs bs m upper) w v last s r k behind),

@@ -1,13 +1,12 @@
 -- Two theorems about a job's angles: how many there are at most, and that kind 3 tries the reference. Assumes nothing.
 use mathlib.Core.Path.{_≡_, ap}
-use mathlib.Core.Bool.{true, false, not}
+use mathlib.Core.Bool.{true, false, not, cond}
 use Prim.Native.Nat.{ℕ, _^_, _≤_, _<_}
 use native.Mathlib.Omega.{arith}
 use lib.Dec.{T, eqb}
 use lib.ListN.{length}
 use lib.Ieee.{Float, binary64, fits, isNan}
 use Rattle.sampling.specs.Angles.{first-free, second-free, angles}
-use Rattle.sampling.specs.Constraints.{pick}
 use Rattle.sampling.specs.J1j2free.{model-reference, folded, first-half, second-half, cut-count, all-slices}
 use Rattle.sampling.specs.Limits.{limits}
 use Rattle.sampling.specs.Planned.{Moderate}
@@ -40,7 +39,7 @@ most job m =
     let z = all-slices (folded m job) (folded m job .range1) in
     let first : length x ≤ 351239 = omega (arith, sample-angles-few (first-free job m)) in
     let second : length y ≤ 351239 = omega (arith, sample-angles-few (second-free job m)) in
-    either (eqb (job .kind) 1) x (pick (eqb (job .kind) 2) y z) first (either (eqb (job .kind) 2) y z second (all-slices-few (folded m job) (folded m job .range1)))
+    either (eqb (job .kind) 1) x (cond (eqb (job .kind) 2) y z) first (either (eqb (job .kind) 2) y z second (all-slices-few (folded m job) (folded m job .range1)))
 
 -- THEOREM: A job has fewer than 2 ^ 29 angles, whatever its fields are.
 pub angles-few : (job : Job) (m : Matrix) → length (angles job m) < 2 ^ 29

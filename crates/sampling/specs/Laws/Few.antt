@@ -1,6 +1,6 @@
 -- How many boundary angles of one free joint there are at most, how many cuts, and how many angles. Assumes nothing.
 use mathlib.Core.Path.{_≡_}
-use mathlib.Core.Bool.{Bool, true, false}
+use mathlib.Core.Bool.{Bool, true, false, cond}
 use mathlib.Core.List.{List, [], _∷_, _++_}
 use Prim.Native.Nat.{ℕ, _+_, _*_, _≤_}
 use native.Mathlib.Omega.{arith}
@@ -14,7 +14,6 @@ use Rattle.polynomial.specs.Curve.{squared-norm-roots, squared-norm-holds}
 use Rattle.polynomial.specs.declared.curve.Harmonic.{Harmonic}
 use Rattle.polynomial.specs.Laws.Enclosed.{cuts-short}
 use Rattle.polynomial.specs.Laws.Norm.{squared-norm-few}
-use Rattle.sampling.specs.Constraints.{pick}
 use Rattle.sampling.specs.Continuum.{crossings, listed, line, roots, ray-roots}
 use Rattle.sampling.specs.Rays.{poles, ray-at, ray-range, ray-marks, corner, corners, phase-roots, phases, sixth-roots}
 use Rattle.sampling.specs.Bends.{norm-roots, harmonic, narrow, bend-roots, bend-at, bend-range, bend-marks, all-roots}
@@ -36,7 +35,7 @@ use Rattle.sampling.specs.declared.sample_angles.Free.{Free}
 pub both : {A : Type 0} {m n : ℕ} (a b : List A) → length a ≤ m → length b ≤ n → length (a ++ b) ≤ m + n
 both a b p q = omega (arith, length-append a b, p, q)
 
-pub either : {A : Type 0} {n : ℕ} (c : Bool) (a b : List A) → length a ≤ n → length b ≤ n → length (pick c a b) ≤ n
+pub either : {A : Type 0} {n : ℕ} (c : Bool) (a b : List A) → length a ≤ n → length b ≤ n → length (cond c a b) ≤ n
 either true a b p q = p
 either false a b p q = q
 
@@ -72,7 +71,7 @@ unfolding ray-marks
 ray-marks-few ray m =
     let limits = ray-at ray (m .center) ++ ray-range ray (m .range) in
     let few : length limits ≤ 6 = both (ray-at ray (m .center)) (ray-range ray (m .range)) (ray-at-few ray (m .center)) (ray-range-few ray (m .range)) in
-    both (ray-at ray (m .reference)) (pick (m .limited) limits []) (ray-at-few ray (m .reference)) (either (m .limited) limits [] few (omega arith))
+    both (ray-at ray (m .reference)) (cond (m .limited) limits []) (ray-at-few ray (m .reference)) (either (m .limited) limits [] few (omega arith))
 
 corner-few : (ray : Ray) (sign angle4 angle6 : Float) → length (corner ray sign angle4 angle6) ≤ 2
 unfolding corner
@@ -117,7 +116,7 @@ unfolding bend-roots
 bend-roots-few cos5 q4 angle =
     let sine = abs (sin-cos angle .sine) in
     let found = norm-roots (harmonic (q4 .x)) (harmonic (q4 .y)) sine in
-    both (roots cos5 (sin-cos angle .cosine)) (pick (narrow sine) found [])
+    both (roots cos5 (sin-cos angle .cosine)) (cond (narrow sine) found [])
     (roots-few cos5 (sin-cos angle .cosine))
     (either (narrow sine) found [] (norm-roots-few (harmonic (q4 .x)) (harmonic (q4 .y)) sine) (omega arith))
 
@@ -137,7 +136,7 @@ bend-marks-few cos5 q4 m =
     let few = bend-at-few cos5 q4 in
     let limits = at (m .center) ++ bend-range cos5 q4 (m .range) in
     let most : length limits ≤ 180 = both (at (m .center)) (bend-range cos5 q4 (m .range)) (few (m .center)) (bend-range-few cos5 q4 (m .range)) in
-    both (at (m .reference)) (pick (m .limited) limits []) (few (m .reference)) (either (m .limited) limits [] most (omega arith))
+    both (at (m .reference)) (cond (m .limited) limits []) (few (m .reference)) (either (m .limited) limits [] most (omega arith))
 
 pub all-roots-few : (w : Wrist) (near : Float) (m4 m5 : Marks) (m6 : Sixth) (center : Float) → length (all-roots w near m4 m5 m6 center) ≤ 282
 unfolding all-roots
@@ -157,7 +156,7 @@ all-roots-few w near m4 m5 m6 center =
 inside-few : (lower upper angle : Float) → length (inside lower upper angle) ≤ 1
 unfolding inside
 inside-few lower upper angle =
-    either (le lower angle) (pick (le angle upper) (angle ∷ []) []) []
+    either (le lower angle) (cond (le angle upper) (angle ∷ []) []) []
     (either (le angle upper) (angle ∷ []) [] (omega arith) (omega arith))
     (omega arith)
 
@@ -204,7 +203,7 @@ module _ (f : Free) where
   free-roots-few = all-roots-few (f .wrist) (f .near) (f .fourth) (f .fifth) (f .sixth) (f .limits .center)
 
   -- 2 ends and 282 roots, each with a turn below and a turn above
-  one-few : (range : Range) → length (pick (finite (f .near)) (interval-cuts (f .near) (One.roots f) range) []) ≤ 848
+  one-few : (range : Range) → length (cond (finite (f .near)) (interval-cuts (f .near) (One.roots f) range) []) ≤ 848
   one-few range =
       let most : length (interval-cuts (f .near) (One.roots f) range) ≤ 848 = omega (arith, interval-cuts-few (f .near) (One.roots f) range, free-roots-few) in
       either (finite (f .near)) (interval-cuts (f .near) (One.roots f) range) [] most (omega arith)

@@ -3,7 +3,7 @@ use Prim.Native.Nat.{ℕ, zero, suc, _+_, _*_, _≤_, zero-le}
 use native.Mathlib.Nat.{not-suc-le-zero, le-of-suc-le-suc}
 use native.Mathlib.Omega.{arith}
 use mathlib.Core.Path.{_≡_, refl, ap}
-use mathlib.Core.Bool.{Bool, true, false, _&&_, false≢true}
+use mathlib.Core.Bool.{Bool, true, false, _&&_, false≢true, cond}
 use mathlib.Core.List.{List, [], _∷_, _++_}
 use lib.Dec.{leb}
 use lib.ListN.{length, length-append}
@@ -20,7 +20,6 @@ use Rattle.polynomial.specs.Roots.{roots}
 use Rattle.polynomial.specs.Laws.Enclosed.{cuts-short}
 use Rattle.polynomial.specs.declared.compensated.Compensated.{Compensated}
 use Rattle.polynomial.specs.declared.curve.Curve.{Curve}
-use Rattle.sampling.specs.Constraints.{pick}
 use Rattle.sampling.specs.Continuum.{root-roundoff}
 use Rattle.sampling.specs.Samples.{all-turns}
 use Rattle.sampling.specs.Boundaries.{across, second-curves, pole-curves, fourth-curves, fifth-curves, sixth-curves, signed-corners, corner-curves, boundaries}
@@ -91,7 +90,7 @@ transverse-few radius azimuth component =
     let offset = asin (clamp (component ⊘ radius)) in
     let l = wrapped-angle (azimuth ⊖ offset) ∷ [] ++ wrapped-angle (azimuth ⊖ P ⊕ offset) ∷ [] in
     let near = le (abs component) (radius ⊗ (one-float ⊕ root-roundoff)) in
-    either (lt zero-float radius) (pick near l []) [] (either near l [] (omega arith) (omega arith)) (omega arith)
+    either (lt zero-float radius) (cond near l []) [] (either near l [] (omega arith) (omega arith)) (omega arith)
 
 transverse-range-few : (radius azimuth extreme : Float) (range : Range) → length (transverse-range radius azimuth extreme range) ≤ 4
 unfolding transverse-range
@@ -166,7 +165,7 @@ chart-roots-few c p = go (inner-holds p (c .lower) (c .upper)) refl
     l : List Float
     l = roots p (c .lower) (c .upper)
 
-    go : (b : Bool) → inner-holds p (c .lower) (c .upper) ≡ b → length (pick b (angles (c .origin) l) []) ≤ 509
+    go : (b : Bool) → inner-holds p (c .lower) (c .upper) ≡ b → length (cond b (angles (c .origin) l) []) ≤ 509
     go true e = omega (arith, angles-length (c .origin) l, inner-few p (c .lower) (c .upper) e)
     go false e = omega arith
 

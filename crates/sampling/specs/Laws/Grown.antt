@@ -1,6 +1,6 @@
 -- Laws of cuts that grow in a lent slice: nothing, one value, one list after another. Assumes nothing.
 use mathlib.Core.Path.{_≡_, refl, sym, ap, subst, subst₂, _∙_}
-use mathlib.Core.Bool.{Bool, true, false}
+use mathlib.Core.Bool.{Bool, true, false, cond}
 use mathlib.Core.List.{List, [], _∷_, _++_, append-assoc, append-nil}
 use Prim.Native.Nat.{ℕ, _+_, _≤_, _<_}
 use native.Mathlib.Omega.{arith}
@@ -10,7 +10,7 @@ use lib.ListN.{length}
 use lib.Ieee.{Float, binary64, fits}
 use Rattle.polynomial.specs.declared.cuts.Put.{Put}
 use Rattle.polynomial.specs.declared.cuts.Put.the-variants.{Count, Full}
-use Rattle.polynomial.specs.Insert.{pickPut, grown, putAnswer, putRoom, pushAnswer, pushRoom}
+use Rattle.polynomial.specs.Insert.{grown, putAnswer, putRoom, pushAnswer, pushRoom}
 use Rattle.polynomial.specs.Laws.Cuts.{Fit, fit-append}
 use Rattle.polynomial.specs.Laws.Held.{Kept, kept-none, kept-within, kept-push}
 use Rattle.sampling.specs.Grown.{Grown, counted, number}
@@ -73,7 +73,7 @@ counted-within n w h = rw (le-leb n (length w) h)
 pub counted-beyond : (n : ℕ) (w : List Float) → length w < n → counted n w ≡ Full
 counted-beyond n w h = rw (lt-leb n (length w) h)
 
-answer-within : (b : Bool) (k places m : ℕ) → leb k places ≡ b → Count m ≡ pickPut b (Count k) Full → m ≤ places
+answer-within : (b : Bool) (k places m : ℕ) → leb k places ≡ b → Count m ≡ cond b (Count k) Full → m ≤ places
 answer-within true k places m e q = let z : m ≡ k = cc in omega (arith, leb-true k places e, z)
 answer-within false k places m e q = let z : _≡_ {A = ℕ} 0 1 = cc in absurd (omega arith)
 

@@ -13,7 +13,6 @@ use Rattle.float.specs.Laws.Le.{Le, le→Le, Le→le}
 use Rattle.float.specs.Laws.Within.{Within, Le→within}
 use Rattle.float.specs.Laws.Interval.{Le-trans}
 use Rattle.float.specs.Laws.Range.{nlt→Le}
-use Rattle.sampling.specs.Constraints.{pick}
 use Rattle.sampling.specs.Intervals.{lower-end, upper-end, interval}
 use Rattle.sampling.specs.declared.constraints.Center.{Center}
 use Rattle.sampling.specs.declared.intervals.Range.the-variants.{Nothing, Between}
@@ -100,7 +99,7 @@ cut-within x y t u k =
 pub nothing-between : {lo hi : Float} → Nothing ≡ Between lo hi → ⊥
 nothing-between e = let z : _≡_ {A = ℕ} 0 1 = cc in omega arith
 
-taken : (f p o : Bool) (x y lo hi : Float) → pick f (pick p (pick o (Between x y) Nothing) Nothing) Nothing ≡ Between lo hi → T o × (lo ≡ x) × (hi ≡ y)
+taken : (f p o : Bool) (x y lo hi : Float) → cond f (cond p (cond o (Between x y) Nothing) Nothing) Nothing ≡ Between lo hi → T o × (lo ≡ x) × (hi ≡ y)
 taken false p o x y lo hi e = absurd (nothing-between e)
 taken true false o x y lo hi e = absurd (nothing-between e)
 taken true true false x y lo hi e = absurd (nothing-between e)

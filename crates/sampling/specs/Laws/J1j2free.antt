@@ -1,6 +1,6 @@
 -- The cuts of a half as those of one list of values, which all fit. Assumes nothing.
 use mathlib.Core.Path.{_≡_}
-use mathlib.Core.Bool.{Bool, true, false}
+use mathlib.Core.Bool.{Bool, true, false, cond}
 use mathlib.Core.List.{List, [], _∷_, _++_}
 use lib.Dec.{T}
 use lib.Ieee.{Float, binary64, neg, le, fits}
@@ -14,7 +14,6 @@ use Rattle.polynomial.specs.Roots.{roots}
 use Rattle.polynomial.specs.Laws.Cuts.{Fit, fit-append, cuts-left}
 use Rattle.polynomial.specs.declared.compensated.Compensated.{Compensated}
 use Rattle.polynomial.specs.declared.curve.Curve.{Curve}
-use Rattle.sampling.specs.Constraints.{pick}
 use Rattle.sampling.specs.Samples.{inside, turns, all-turns}
 use Rattle.sampling.specs.CriticalSlices.{chart, angles, chart-roots, Polynomials, polynomials, tangency, intersection, meetings, critical}
 use Rattle.sampling.specs.J1j2free.{curves, bends, critical-slices, half-cuts}
@@ -24,7 +23,7 @@ use Rattle.sampling.specs.declared.j1j2free.Folded.{Folded}
 
 -- ---- the values fit
 
-picked : (b : Bool) (l : List Float) → Fit l → Fit (pick b l [])
+picked : (b : Bool) (l : List Float) → Fit l → Fit (cond b l [])
 picked true l f = f
 picked false l f = tt
 
@@ -54,7 +53,7 @@ critical-fit c (d ∷ l) =
 
 inside-fit : (lower upper angle : Float) → T (fits binary64 angle) → Fit (inside lower upper angle)
 unfolding inside
-inside-fit lower upper angle f = picked (le lower angle) (pick (le angle upper) (angle ∷ []) []) (picked (le angle upper) (angle ∷ []) (f, tt))
+inside-fit lower upper angle f = picked (le lower angle) (cond (le angle upper) (angle ∷ []) []) (picked (le angle upper) (angle ∷ []) (f, tt))
 
 turns-fit : (lower upper angle : Float) → Fit (turns lower upper angle)
 unfolding turns

@@ -15,7 +15,7 @@ use Rattle.float.specs.Laws.Interval.{In, Le-refl, Le-trans}
 use Rattle.float.specs.Laws.Range.{nlt→Le}
 use Rattle.polynomial.specs.Angle.{turn, wrapped-angle}
 use Rattle.polynomial.specs.Laws.Wrapped.{wrapped-within, wrapped-fits, wrapped-not-minus-zero}
-use Rattle.sampling.specs.Constraints.{pick, arc, compute-center}
+use Rattle.sampling.specs.Constraints.{arc, compute-center}
 use Rattle.sampling.specs.Limits.{centered, limits-of, limits}
 use Rattle.sampling.specs.Laws.Intervals.{minimum-fits, nothing-between}
 use Rattle.sampling.specs.declared.constraints.Center.{Center}
@@ -94,7 +94,7 @@ record Taken (number below real : Bool) (x y lo hi : Float) : Type 0 where
   lower : lo ≡ x
   upper : hi ≡ y
 
-taken : (n b f : Bool) (x y lo hi : Float) → pick n Nothing (pick b Nothing (pick f (Between x y) Nothing)) ≡ Between lo hi → Taken n b f x y lo hi
+taken : (n b f : Bool) (x y lo hi : Float) → cond n Nothing (cond b Nothing (cond f (Between x y) Nothing)) ≡ Between lo hi → Taken n b f x y lo hi
 taken true b f x y lo hi e = absurd (nothing-between e)
 taken false true f x y lo hi e = absurd (nothing-between e)
 taken false false false x y lo hi e = absurd (nothing-between e)
@@ -108,7 +108,7 @@ pub record Center-fits (c : Center) : Type 0 where
 fitting : (x y : Float) → T (fits binary64 x) → T (fits binary64 y) → Center-fits (record { center = x; tolerance = y })
 fitting x y t u = record { center = t; tolerance = u }
 
-chosen : (p q r s : Bool) {a b c n : Center} → Center-fits a → Center-fits b → Center-fits c → Center-fits n → Center-fits (pick p (pick q (pick r a (pick s b c)) n) n)
+chosen : (p q r s : Bool) {a b c n : Center} → Center-fits a → Center-fits b → Center-fits c → Center-fits n → Center-fits (cond p (cond q (cond r a (cond s b c)) n) n)
 chosen false q r s a b c n = n
 chosen true false r s a b c n = n
 chosen true true true s a b c n = a

@@ -1,6 +1,6 @@
 -- What came of a job's cuts is the job's: of three lists that stand one after the other in work, and of two. Assumes nothing.
 use mathlib.Core.Path.{_≡_, refl, sym, ap, subst, _∙_}
-use mathlib.Core.Bool.{Bool, true, false, not}
+use mathlib.Core.Bool.{Bool, true, false, not, cond}
 use mathlib.Core.List.{List, _++_, append-assoc}
 use Prim.Native.Nat.{ℕ, _+_}
 use native.Mathlib.Omega.{arith}
@@ -13,7 +13,6 @@ use lib.Ieee.Fits.{add-fits}
 use Rattle.float.specs.Number.{_⊖_, _⊘_, middle, two-float}
 use Rattle.float.specs.Laws.Tests.{finite-number}
 use Rattle.sampling.specs.Angles as Of
-use Rattle.sampling.specs.Constraints.{pick}
 use Rattle.sampling.specs.Cutting as Cuts
 use Rattle.sampling.specs.Drawn.{Drawn, Streams, Streamed}
 use Rattle.sampling.specs.Halving as Halves
@@ -79,7 +78,7 @@ module _ (a b c w : List Float) (places : ℕ) (room : length w ≡ places) wher
   count = length a + length b + length c
 
   abbrev answer : Bool → Bool → Cutting
-  answer h t = pick h (pick t (cutting.Cuts (record { first = length a; second = length b; third = length c })) cutting.Short) cutting.Refused
+  answer h t = cond h (cond t (cutting.Cuts (record { first = length a; second = length b; third = length c })) cutting.Short) cutting.Refused
 
   three-drawn : (h t : Bool) → leb count places ≡ t → take (Cuts.filled (answer h t)) w ≡ Cuts.listed (answer h t) ((a ++ b) ++ c)
       → Drawn h count (three-samples a b c) places (of-cutting (answer h t)) w
@@ -89,7 +88,7 @@ module _ (a b c w : List Float) (places : ℕ) (room : length w ≡ places) wher
 
 -- what `sample_angles::cut` ensures
 pub one-drawn : (f : Free) (r : Cutting) (w : List Float) (places : ℕ) → length w ≡ places
-    → r ≡ pick (One.hold f) (Cuts.cutting (One.first-cuts f) (One.second-cuts f) (One.third-cuts f) places) cutting.Refused
+    → r ≡ cond (One.hold f) (Cuts.cutting (One.first-cuts f) (One.second-cuts f) (One.third-cuts f) places) cutting.Refused
     → take (Cuts.filled r) w ≡ Cuts.listed r ((One.first-cuts f ++ One.second-cuts f) ++ One.third-cuts f)
     → Drawn (One.hold f) (One.cut-count f) (One.sample-angles f) places (of-cutting r) w
 unfolding Cuts.cutting One.cut-count One.sample-angles
@@ -108,7 +107,7 @@ one-drawn f r w places room e s =
 module _ (a b w : List Float) (places : ℕ) (room : length w ≡ places) (r : Float) (l : List Float)
     (first : Woven a) (second : Woven b) (real : T (not (isNan r))) (same : distinct a b r start ≡ l) where
   abbrev pair : Bool → Bool → Halving
-  pair h t = pick h (pick t (halving.Halves (length a) (length b)) halving.Short) halving.Refused
+  pair h t = cond h (cond t (halving.Halves (length a) (length b)) halving.Short) halving.Refused
 
   two-drawn : (h t : Bool) → leb (length a + length b) places ≡ t → take (Halves.filled (pair h t)) w ≡ Halves.listed (pair h t) (a ++ b)
       → Drawn h (length a + length b) l places (of-halving (pair h t) r) w

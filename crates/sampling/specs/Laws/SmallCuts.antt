@@ -1,6 +1,6 @@
 -- Where the ends of a half are in order and lie within ±8, as those of a joint's interval do, all its values lie within ±64, so that its cuts can be streamed. Assumes nothing.
 use mathlib.Core.Path.{_≡_, refl}
-use mathlib.Core.Bool.{Bool, true, false, _&&_, false≢true}
+use mathlib.Core.Bool.{Bool, true, false, _&&_, false≢true, cond}
 use mathlib.Core.List.{List, [], _∷_, _++_}
 use lib.IntN.{pos}
 use lib.Dec.{T, leb, lit<}
@@ -24,7 +24,6 @@ use Rattle.polynomial.specs.Laws.Halving.{Between}
 use Rattle.polynomial.specs.declared.compensated.Compensated.{Compensated}
 use Rattle.polynomial.specs.declared.curve.Curve.{Curve}
 use Rattle.polynomial.specs.Laws.Lists.{All, all-append}
-use Rattle.sampling.specs.Constraints.{pick}
 use Rattle.sampling.specs.Samples.{inside, turns, all-turns}
 use Rattle.sampling.specs.CriticalSlices.{chart, angles, chart-roots, Polynomials, polynomials, tangency, intersection, meetings, critical}
 use Rattle.sampling.specs.Halving.{half-values}
@@ -87,7 +86,7 @@ module _ (c : Chart) (g : Charted c) where
   unfolding chart-roots
   chart-roots-small p = go (inner-holds p (c .lower) (c .upper)) refl
     where
-      go : (b : Bool) → inner-holds p (c .lower) (c .upper) ≡ b → All Small (pick b (angles (c .origin) (roots p (c .lower) (c .upper))) [])
+      go : (b : Bool) → inner-holds p (c .lower) (c .upper) ≡ b → All Small (cond b (angles (c .origin) (roots p (c .lower) (c .upper))) [])
       go true e =
           let s = bounds-span (c .lower) (c .upper) (g .lower-fits) (g .upper-fits) (inner-bounds p (c .lower) (c .upper) e) in
           angles-small (c .origin) (c .lower) (c .upper) (g .origin-within) (roots p (c .lower) (c .upper)) (all-in (c .lower) (c .upper) s p)
@@ -119,7 +118,7 @@ module _ (lower upper : Float) (s : Span 3 lower upper) where
   unfolding inside
   inside-small x = go (le lower x) (le x upper) (between-small x)
     where
-      go : (a b : Bool) → (T a → T b → Small x) → All Small (pick a (pick b (x ∷ []) []) [])
+      go : (a b : Bool) → (T a → T b → Small x) → All Small (cond a (cond b (x ∷ []) []) [])
       go true true f = (f tt tt, tt)
       go true false f = tt
       go false b f = tt

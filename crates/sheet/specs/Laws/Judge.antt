@@ -13,7 +13,6 @@ use Rattle.float.specs.Number.{one-float}
 use Rattle.float.specs.Laws.Le.{le→Le}
 use Rattle.float.specs.Laws.Within.{Within, Le→within}
 use Rattle.polynomial.specs.Angle.{turn}
-use Rattle.sampling.specs.Constraints.{pick}
 use Rattle.sampling.specs.Stream.{start}
 use Rattle.sampling.specs.Plan.{to-come}
 use Rattle.sampling.specs.Planned.{Moderate, Planned, Outcome, refused, short, found, came, outcome}
@@ -112,7 +111,7 @@ by-outcome refused n = Refusals.refused 9
 by-outcome short n = Refusals.refused 10
 by-outcome found n = accepted n
 
-in-turn : (b c : Bool) (n : ℕ) → need b 9 (need c 10 (accepted n)) ≡ by-outcome (pick b (pick c found short) refused) n
+in-turn : (b c : Bool) (n : ℕ) → need b 9 (need c 10 (accepted n)) ≡ by-outcome (cond b (cond c found short) refused) n
 unfolding need
 in-turn true true n = refl
 in-turn true false n = refl

@@ -4,7 +4,6 @@ use mathlib.Core.Path.{_≡_, refl, ap, _∙_}
 use mathlib.Core.Bool.{Bool, true, false, not, cond, _&&_, false≢true}
 use lib.Dec.{T, eqb}
 use lib.Ieee.Fits.{and-i}
-use Rattle.sampling.specs.Constraints.{pick}
 use Rattle.sampling.specs.Limits.{centered, limits}
 use Rattle.sampling.specs.Marks.{model-angle, marks}
 use Rattle.sampling.specs.Boundaries.{wrist-limits}
@@ -220,8 +219,8 @@ same-of a b m false false false e g = absurd (false≢true e)
 
 -- what depends on the kind's part alone
 kinds-same : {A : Type 0} (p q : Bool) (a b : Job) (m : Matrix) (one : Free → A) (two : Folded → A) → Same p q a b m
-    → pick p (one (first-free a m)) (pick q (one (second-free a m)) (two (Two.folded m a)))
-    ≡ pick p (one (first-free b m)) (pick q (one (second-free b m)) (two (Two.folded m b)))
+    → cond p (one (first-free a m)) (cond q (one (second-free a m)) (two (Two.folded m a)))
+    ≡ cond p (one (first-free b m)) (cond q (one (second-free b m)) (two (Two.folded m b)))
 kinds-same true q a b m one two h = ap one (h .first tt)
 kinds-same false true a b m one two h = ap one (h .second tt)
 kinds-same false false a b m one two h = ap two (h .both tt)

@@ -3,12 +3,12 @@ use mathlib.Core.Path.{_≡_, refl, sym}
 use lib.Ieee.{binary64, ofBits}
 use borrow.Author.Needs.{needs}
 use Rattle.float.specs.Number.{abs}
-use Rattle.polynomial.specs.Operation.{four}
+use Rattle.float.specs.Trig.{four-float}
 use Rattle.polynomial.proofs.operation.bounds_hold.Statement.{statement}
 use Rattle.polynomial.proofs.operation.bounds_hold.Tie as tie
 
 -- the code's 4.0
-four-is : ofBits binary64 0x4010_0000_0000_0000 ≡ four
+four-is : ofBits binary64 0x4010_0000_0000_0000 ≡ four-float
 unfolding ofBits
 four-is = refl
 
