@@ -1,6 +1,6 @@
 // The square root of IEEE 754, in integers: the nearest whole number to the root of the digits.
 ghost use mathlib.Core.Path.{_≡_};
-ghost use Prim.Native.Nat.{_*_, _^_, _≤_, _<_};
+ghost use Prim.Native.Nat.{_+_, _*_, _^_, _≤_, _<_};
 ghost use lib.Dec.{T, ltb};
 ghost use mathlib.Core.Bool.{not, false};
 ghost use lib.Ieee.{binary64, units, isNan};
@@ -57,18 +57,64 @@ fn guess(m: u64) -> u64
     0x10_0000_0000_0000
 }
 
-// The whole number nearest to the square root of m * 2^52, for m from 2^52 to 2^54: that of which
-// the squares of the two middles beside it, less a quarter, have m * 2^52 between them.
-fn root(m: u64) -> u64
-    requires { ⌜ (2 ^ 52 ≤ m) × (m < 2 ^ 54) ⌝ }
+// hi * 2^52 + lo.
+struct Halves {
+    hi: u64,
+    lo: u64,
+}
+
+// q * q. With q cut into a * 2^26 + b, that is a * a * 2^52 + 2 * a * b * 2^26 + b * b.
+fn square(q: u64) -> Halves
+    requires { ⌜ q ≤ 2 ^ 53 ⌝ }
+    ensures { λ r. ⌜ (r .hi * 2 ^ 52 + r .lo ≡ q * q) × (r .lo < 2 ^ 52) × (r .hi ≤ 2 ^ 55) ⌝ }
+{
+    let a = q >> 26;
+    let b = q & 0x3ff_ffff;
+    let s = b * b;
+    let t = 2 * a * b + (s >> 26);
+    Halves {
+        hi: a * a + (t >> 26),
+        lo: ((t & 0x3ff_ffff) << 26) + (s & 0x3ff_ffff),
+    }
+}
+
+// The whole number nearest to the square root of m * 2^52, sought from `start` down and up.
+fn seek(m: u64, start: u64) -> u64
+    requires { ⌜ (2 ^ 52 ≤ m) × (m < 2 ^ 54) × (2 ^ 52 ≤ start) × (start ≤ 2 ^ 53) ⌝ }
     ensures { λ r. ⌜ Roots (m * 2 ^ 52) r ⌝ }
 {
-    let mut q = guess(m);
+    let mut q = start;
     while !below(q, q - 1, m) {
         q -= 1;
     }
     while below(q, q + 1, m) {
         q += 1;
+    }
+    q
+}
+
+// The whole number nearest to the square root of m * 2^52, for m from 2^52 to 2^54: that of which
+// the squares of the two middles beside it, less a quarter, have m * 2^52 between them. Where q * q
+// is within 3 * 2^52 of m * 2^52, it is the guess q or one beside it.
+fn root(m: u64) -> u64
+    requires { ⌜ (2 ^ 52 ≤ m) × (m < 2 ^ 54) ⌝ }
+    ensures { λ r. ⌜ Roots (m * 2 ^ 52) r ⌝ }
+{
+    let q = guess(m);
+    let s = square(q);
+    if s.hi > m + 2 {
+        return seek(m, q);
+    }
+    if m > s.hi + 3 {
+        return seek(m, q);
+    }
+    // m * 2^52 - q * q + 3 * 2^52
+    let d = ((m + 3 - s.hi) << 52) - s.lo;
+    if d > q + 0x30_0000_0000_0000 {
+        return q + 1;
+    }
+    if d + q <= 0x30_0000_0000_0000 {
+        return q - 1;
     }
     q
 }

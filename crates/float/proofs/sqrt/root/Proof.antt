@@ -1,140 +1,150 @@
--- `float::sqrt::root` meets its contract. The first loop ends with q * (q - 1) below n, which m * 2 ^ 52 is, and the second keeps that and ends with n at most q * (q + 1), whatever the first guess was:
--- the guess decides only how many turns they take. Assumes nothing.
-use mathlib.Core.Path.{_≡_, sym, _∙_, subst}
-use Prim.Native.Nat.{ℕ, zero, suc, _+_, _-_, _*_, _^_, _≤_, _<_}
-use native.Mathlib.Nat.{le-trans, lt-of-le-of-lt, lt-of-not-le, not-le-of-lt, mul-le-mul}
+-- `float::sqrt::root` meets its contract. Where the guess q is not far off, d says exactly how m * 2 ^ 52 lies to q * q, and so to the middles beside q, and
+-- whether the result is q or one beside it; elsewhere `seek` finds it. Assumes nothing.
+use Prim.Native.Nat.{ℕ, zero, suc, _+_, _-_, _*_, _%_, _^_, _≤_, _<_}
+use native.Mathlib.Nat.{lt-of-not-le, mul-le-mul}
+use native.Mathlib.Numerals.{unary-clauses}
 use native.Mathlib.Omega.{arith}
-use lib.Dec.{lit≤}
+use mathlib.Core.Path.{_≡_, sym, ap, _∙_}
 use borrow.Author.Needs.{needs}
-use borrow.Author.Tests.{ltb-true, ltb-false, not-true, not-false}
+use Rattle.float.specs.Parts.{Roots}
 use Rattle.float.proofs.sqrt.root.Statement.{statement}
 use Rattle.float.proofs.sqrt.root.Tie as tie
 
-abbrev Inv-loop : tie.InvT-loop
-Inv-loop m q₀ q = (1 ≤ q) × (q ≤ 2 ^ 53)
+-- d is n - q * q + 3 * 2 ^ 52, where h and l are the parts of q * q
+distance : (h l m : ℕ) → h ≤ m + 2 → m ≤ h + 3 → l < 2 ^ 52 → (m + 3 - h) * 2 ^ 52 % 2 ^ 64 - l + (h * 2 ^ 52 + l) ≡ (m + 3) * 2 ^ 52
+distance h l m a b k = omega arith
 
-abbrev μ-loop : tie.MeasureT-loop
-μ-loop m q₀ q = q
+within : (h l m : ℕ) → h ≤ m + 2 → m ≤ h + 3 → l < 2 ^ 52 → (0 < (m + 3 - h) * 2 ^ 52 % 2 ^ 64 - l) × ((m + 3 - h) * 2 ^ 52 % 2 ^ 64 - l ≤ 6 * 2 ^ 52)
+within h l m a b k = (omega arith, omega arith)
 
-abbrev Inv-loop2 : tie.InvT-loop2
-Inv-loop2 m q₀ q = (1 ≤ q) × (q ≤ 2 ^ 53) × (q * (q - 1) < m * 2 ^ 52)
+less-one : (q : ℕ) → q * (q - 1) + q ≡ q * q
+less-one zero = omega arith
+less-one (suc p) = simp unary-clauses (omega arith)
 
-abbrev μ-loop2 : tie.MeasureT-loop2
-μ-loop2 m q₀ q = 2 ^ 53 - q
+one-before : (q : ℕ) → 1 ≤ q → q * q ≡ (q - 1) * (q - 1) + (q - 1) + q
+one-before zero h = absurd (omega arith)
+one-before (suc p) h = simp unary-clauses (omega arith)
 
--- a q whose product with q - 1 is not below a number above 0 is not 1
-not-one : (q n : ℕ) → 1 ≤ q → 0 < n → n ≤ q * (q - 1) → 2 ≤ q
-not-one zero n h p g = omega arith
-not-one (suc zero) n h p g = absurd (no n p g)
-  where
-    no : (n : ℕ) → 0 < n → n ≤ 1 * 0 → ⊥
-    no n p g = omega arith
-not-one (suc (suc q)) n h p g = omega arith
+-- the result by where d lies
+module _ (m d q : ℕ) (g : 2 ^ 52 ≤ q) (e : d + q * q ≡ (m + 3) * 2 ^ 52) where
+  same : d ≤ q + 3 * 2 ^ 52 → 3 * 2 ^ 52 < d + q → Roots (m * 2 ^ 52) q
+  same a b = record { above = omega (arith, less-one q); below = omega arith }
 
--- q * (q + 1) is below 2 ^ 106 only for a q below 2 ^ 53
-small : (q m : ℕ) → m < 2 ^ 54 → q * (q + 1) < m * 2 ^ 52 → q < 2 ^ 53
-small q m h g = lt-of-not-le (λ (k : 2 ^ 53 ≤ q). not-le-of-lt g (le-trans (top m h) (le-trans (lit≤ tt) (mul-le-mul k (more k)))))
-  where
-    top : (m : ℕ) → m < 2 ^ 54 → m * 2 ^ 52 ≤ 2 ^ 54 * 2 ^ 52
-    top m h = omega arith
+  up : d ≤ 6 * 2 ^ 52 → q + 3 * 2 ^ 52 < d → Roots (m * 2 ^ 52) (q + 1)
+  up a b = record { above = omega (arith, less-one (q + 1)); below = omega arith }
 
-    more : 2 ^ 53 ≤ q → 2 ^ 53 ≤ q + 1
-    more k = omega arith
+  -- q is not 2 ^ 52 here, since m * 2 ^ 52 is not below the square of that
+  more : 2 ^ 52 ≤ m → d + q ≤ 3 * 2 ^ 52 → 2 ^ 52 < q
+  more l b = lt-of-not-le (λ (k : q ≤ 2 ^ 52). no (mul-le-mul k k))
+    where
+      no : q * q ≤ 2 ^ 52 * 2 ^ 52 → ⊥
+      no k = omega arith
 
--- the next q, one up
-next : (q n : ℕ) → q * (q + 1) < n → (q + 1) * (q + 1 - 1) < n
-next q n h = subst (λ (x : ℕ). (q + 1) * x < n) (back q) (lt-of-le-of-lt (le-of-comm q) h)
-  where
-    back : (q : ℕ) → q ≡ q + 1 - 1
-    back q = omega arith
+  down : 2 ^ 52 ≤ m → 0 < d → d + q ≤ 3 * 2 ^ 52 → Roots (m * 2 ^ 52) (q - 1)
+  down l a b =
+      let k : 2 ^ 52 < q = more l b in
+      let x : q * q ≡ (q - 1) * (q - 1) + (q - 1) + q = one-before q (omega arith) in
+      record { above = omega (arith, less-one (q - 1)); below = omega arith }
 
-    le-of-comm : (q : ℕ) → (q + 1) * q ≤ q * (q + 1)
-    le-of-comm q = omega arith
+-- what is known once d is there
+module _ (c : tie.After-struct-known4) where
+  abbrev s : tie.After-square
+  s = c .before .before .before .before .before .before
 
--- what the tests say
-over : (c : tie.Then1 Inv-loop μ-loop Inv-loop2 μ-loop2) → c .before .before .before .before .args .m * 2 ^ 52 ≤ c .before .before .loop .q * (c .before .before .loop .q - 1)
-over c = ltb-false _ _ (sym (c .before .below .ensures) ∙ not-true _ (c .if1 .taken))
+  abbrev m : ℕ
+  m = s .before .before .args .m
 
-under : (c : tie.Else1 Inv-loop μ-loop Inv-loop2 μ-loop2) → c .before .before .loop .q * (c .before .before .loop .q - 1) < c .before .before .before .before .args .m * 2 ^ 52
-under c = ltb-true _ _ (sym (c .before .below .ensures) ∙ not-false _ (c .if1 .left))
+  abbrev q : ℕ
+  q = s .before .guess .result
 
-still : (c : tie.Then2 Inv-loop μ-loop Inv-loop2 μ-loop2) → c .before .before .loop2 .q * (c .before .before .loop2 .q + 1) < c .before .before .before .before .before .before .before .args .m * 2 ^ 52
-still c = ltb-true _ _ (sym (c .before .below2 .ensures) ∙ c .if2 .taken)
+  abbrev h : ℕ
+  h = s .square .result .hi
 
-enough : (c : tie.Else2 Inv-loop μ-loop Inv-loop2 μ-loop2) → c .before .before .before .before .before .before .before .args .m * 2 ^ 52 ≤ c .before .before .loop2 .q * (c .before .before .loop2 .q + 1)
-enough c = ltb-false _ _ (sym (c .before .below2 .ensures) ∙ c .if2 .left)
+  abbrev l : ℕ
+  l = s .square .result .lo
 
-guess-requires : tie.Need-guess-requires Inv-loop μ-loop Inv-loop2 μ-loop2
+  abbrev d : ℕ
+  d = (m + 3 - h) * 2 ^ 52 % 2 ^ 64 - l
+
+  d-is : d + q * q ≡ (m + 3) * 2 ^ 52
+  d-is = ap (λ (x : ℕ). d + x) (sym (s .square .ensures .0)) ∙ distance h l m (c .before .before .before .before .if1 .left) (c .before .before .if2 .left) (s .square .ensures .1)
+
+  d-within : (0 < d) × (d ≤ 6 * 2 ^ 52)
+  d-within = within h l m (c .before .before .before .before .if1 .left) (c .before .before .if2 .left) (s .square .ensures .1)
+
+guess-requires : tie.Need-guess-requires
 guess-requires c κs = search needs
 
-loop-holds : tie.Need-loop-holds Inv-loop μ-loop Inv-loop2 μ-loop2
-loop-holds c = search needs
+square-requires : tie.Need-square-requires
+square-requires c κs = search needs
 
-sub-below : tie.Need-sub-below Inv-loop μ-loop Inv-loop2 μ-loop2
-sub-below c = search needs
+add-if1 : tie.Need-add-if1
+add-if1 c = search needs
 
-below-requires : tie.Need-below-requires Inv-loop μ-loop Inv-loop2 μ-loop2
-below-requires c κs = search needs
+seek-requires : tie.Need-seek-requires
+seek-requires c κs = search needs
 
-sub-q : tie.Need-sub-q Inv-loop μ-loop Inv-loop2 μ-loop2
-sub-q c = c .before .before .loop .inv .0
+returns : tie.Need-returns
+returns c = search needs
 
-loop-less : tie.Need-loop-less Inv-loop μ-loop Inv-loop2 μ-loop2
-loop-less c = omega (arith, c .before .before .loop .inv .0)
+add-if2 : tie.Need-add-if2
+add-if2 c = search needs
 
-some : (m : ℕ) → 2 ^ 52 ≤ m → 0 < m * 2 ^ 52
-some m h = omega arith
+seek-requires-2 : tie.Need-seek-requires-2
+seek-requires-2 c κs = search needs
 
-loop-again : tie.Need-loop-again Inv-loop μ-loop Inv-loop2 μ-loop2
-loop-again c =
-    let l = c .before .before in
-    let m = l .before .before .args .m in
-    let h : 2 ≤ l .loop .q = not-one (l .loop .q) (m * 2 ^ 52) (l .loop .inv .0) (some m (l .before .before .pre .0)) (over c) in
-    (omega arith, omega (arith, l .loop .inv .1))
+returns-2 : tie.Need-returns-2
+returns-2 c = search needs
 
-loop2-holds : tie.Need-loop2-holds Inv-loop μ-loop Inv-loop2 μ-loop2
-loop2-holds c = (c .before .before .loop .inv .0, c .before .before .loop .inv .1, under c)
+add-d : tie.Need-add-d
+add-d c = search needs
 
-add-below : tie.Need-add-below Inv-loop μ-loop Inv-loop2 μ-loop2
-add-below c = search needs
+sub-d : tie.Need-sub-d
+sub-d c = search needs
 
-below-requires-2 : tie.Need-below-requires-2 Inv-loop μ-loop Inv-loop2 μ-loop2
-below-requires-2 c κs = search needs
+sub-d-2 : tie.Need-sub-d-2
+sub-d-2 c = search needs
 
-add-q : tie.Need-add-q Inv-loop μ-loop Inv-loop2 μ-loop2
-add-q c = omega (arith, c .before .before .loop2 .inv .1)
+add-if3 : tie.Need-add-if3
+add-if3 c = search needs
 
-lower : (c : tie.Then2 Inv-loop μ-loop Inv-loop2 μ-loop2) → c .before .before .loop2 .q < 2 ^ 53
-lower c = let a = c .before .before .before .before .before .before .before in small (c .before .before .loop2 .q) (a .args .m) (a .pre .1) (still c)
+add-result : tie.Need-add-result
+add-result c = search needs
 
-loop2-less : tie.Need-loop2-less Inv-loop μ-loop Inv-loop2 μ-loop2
-loop2-less c = omega (arith, lower c)
+returns-3 : tie.Need-returns-3
+returns-3 c = let k = c .before in up (m k) (d k) (q k) (s k .before .guess .ensures .0) (d-is k) (d-within k .1) (c .if3 .taken)
 
-loop2-again : tie.Need-loop2-again Inv-loop μ-loop Inv-loop2 μ-loop2
-loop2-again c = (omega arith, omega (arith, lower c), next (c .before .before .loop2 .q) _ (still c))
+add-if4 : tie.Need-add-if4
+add-if4 c = search needs
 
-returns : tie.Need-returns Inv-loop μ-loop Inv-loop2 μ-loop2
-returns c = record { above = c .before .before .loop2 .inv .2; below = enough c }
+sub-result : tie.Need-sub-result
+sub-result c = search needs
+
+returns-4 : tie.Need-returns-4
+returns-4 c = let k = c .before .before in down (m k) (d k) (q k) (s k .before .guess .ensures .0) (d-is k) (s k .before .before .pre .0) (d-within k .0) (c .if4 .taken)
+
+returns-5 : tie.Need-returns-5
+returns-5 c = let k = c .before .before in same (m k) (d k) (q k) (s k .before .guess .ensures .0) (d-is k) (c .before .if3 .left) (c .if4 .left)
 
 pub root-spec : {M : Type 1} → statement M
 root-spec =
     tie.close
     (tie.spec
-    Inv-loop
-    μ-loop
-    Inv-loop2
-    μ-loop2
     guess-requires
-    loop-holds
-    sub-below
-    below-requires
-    sub-q
-    loop-less
-    loop-again
-    loop2-holds
-    add-below
-    below-requires-2
-    add-q
-    loop2-less
-    loop2-again
-    returns)
+    square-requires
+    add-if1
+    seek-requires
+    returns
+    add-if2
+    seek-requires-2
+    returns-2
+    add-d
+    sub-d
+    sub-d-2
+    add-if3
+    add-result
+    returns-3
+    add-if4
+    sub-result
+    returns-4
+    returns-5)
