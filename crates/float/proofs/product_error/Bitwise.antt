@@ -1,32 +1,31 @@
 -- For a zero or from 2 ^ -(k + 1) to 2 ^ 400 in size, and b zero or from 2 ^ -(l + 1), where k + l is at most 968, Dekker's error equals the fused product of a, b and minus their rounded product, sign of a zero included.
 -- Signs: both forms are odd in a and in b (`Opp`). Zeros: neither form ever gives -0. Assumes nothing.
 use mathlib.Core.Path.{_≡_, refl, sym, ap, ap₂, _∙_, subst}
-use Prim.Native.Nat.{ℕ, zero, suc, _+_, _-_, _*_, _^_, _≤_, _<_, zero-le}
-use native.Mathlib.Nat.{le-trans, le-of-eq, le-of-lt, lt-of-lt-of-le, lt-irrefl, zero-lt-suc, mul-pos, mul-one, one-mul, zero-mul, mul-zero, mul-assoc, mul-comm, mul-left-comm, mul-right-comm, add-mul, mul-sub, le-of-mul-le-mul-right, mul-le-mul-right, mul-le-mul-left, eq-of-mul-eq-mul-right}
+use Prim.Native.Nat.{ℕ, zero, suc, _+_, _-_, _*_, _^_, _≤_, _<_}
+use native.Mathlib.Nat.{le-of-eq, lt-of-lt-of-le, lt-irrefl, zero-lt-suc, mul-pos, mul-one, one-mul, zero-mul, mul-zero, mul-assoc, mul-left-comm, mul-right-comm, eq-of-mul-eq-mul-right}
 use native.Mathlib.Omega.{arith}
 use mathlib.Core.Logic.{_⊎_, inl, inr}
 use mathlib.Core.Bool.{Bool, true, false, not, _&&_, Bool·beq, cond}
 use lib.IntN.{ℤ, pos, negsuc}
-use lib.Dec.{T, leb, ltb, eqb, ltb→lt, nltb→le, leb→le, eqb→eq}
+use lib.Dec.{T, ltb, eqb→eq}
 use lib.Pow.{pow-pos, pow-add}
-use lib.Ieee.{Float, nan, inf, fin, Format, binary64, unlike, up, down, odd, units, round, neg, sum, add, sub, mul, fits}
-use lib.Ieee.Fits.{up-pos, down-pos, and-l, and-r, add-fits, sub-fits, mul-fits, neg-fits, round-fits, cond-fits, nan-fits, inf-fits}
+use lib.Ieee.{Float, nan, inf, fin, binary64, unlike, up, down, round, neg, sum, add, sub, mul, fits}
+use lib.Ieee.Fits.{down-pos, add-fits, mul-fits, neg-fits, round-fits, cond-fits, nan-fits, inf-fits}
 use lib.Ieee.Scale.{finite}
-use lib.Ieee.Positive.{num, den, den-pos}
+use lib.Ieee.Positive.{num, den}
 use Rattle.float.specs.Number.{negative}
 use Rattle.float.specs.MulAdd.{mul-add}
 use Rattle.float.specs.Laws.Sign.{strip, Alike, zeroF, round-zero, neg-neg}
-use Rattle.float.specs.Laws.Like.{Like, Opp, like-refl, like-sym, like-trans, add-like, sub-like, mul-like, neg-like, add-opp, sub-opp, mul-opp-l, mul-opp-r, neg-opp, from-opp, first-zero, second-zero, zero-l, zero-r}
+use Rattle.float.specs.Laws.Like.{Like, Opp, like-refl, like-sym, like-trans, add-like, sub-like, mul-like, neg-like, add-opp, sub-opp, mul-opp-l, mul-opp-r, neg-opp, from-opp, first-zero, zero-l, zero-r}
 use Rattle.float.specs.Laws.MulAdd.{by-parts, plus, mul-add-is, by-parts-like, by-parts-opp, by-parts-opp-r}
-use Rattle.float.specs.Laws.Le.{plain, round-plain, neg-finite}
-use Rattle.float.specs.Laws.Within.{Within, Beyond, held, fits→held, shift, round-beyond, add-within, sub-within, mul-within, numeral, neg-within, neg-beyond}
+use Rattle.float.specs.Laws.Le.{plain, neg-finite}
+use Rattle.float.specs.Laws.Within.{Within, Beyond, held, fits→held, add-within, sub-within, mul-within, numeral, neg-within, neg-beyond}
 use Rattle.float.specs.Laws.Units.{Is}
 use Rattle.float.proofs.product_error.NotMinusZero.{nz, sum-nz, whole-units, over-l, over-r, add-nz, mul-sgn, neg-sgn, one-nz}
 use Rattle.float.proofs.product_error.Split.{scaled, high, rest, halves}
-use Rattle.float.specs.ProductError.{splitter}
-use Rattle.float.proofs.product_error.Dekker.{dekker, step1, step2, step3}
+use Rattle.float.proofs.product_error.Dekker.{dekker, step2, step3}
 use Rattle.float.proofs.product_error.Normal.{Normal, normal, in-range-equal}
-use Rattle.float.specs.ProductError.{most}
+use Rattle.float.specs.Halves.{most, splitter}
 
 abbrev pub fused : Float → Float → Float
 fused a b = by-parts binary64 a b (neg (mul binary64 a b))

@@ -1,38 +1,22 @@
 -- Dekker's product: for a = A * 2 ^ i and b = B * 2 ^ j units with A and B of 53 digits, every step of (((ah·bh − p) + ah·bl) + al·bh) + al·bl but the last is exact,
 -- and the last rounds the exact error a·b − p, which the fused product of a, b and −p rounds too. Assumes nothing.
-use mathlib.Core.Path.{_≡_, refl, sym, ap, ap₂, _∙_, subst}
-use Prim.Native.Nat.{ℕ, zero, suc, _+_, _-_, _*_, _^_, _≤_, _<_}
-use native.Mathlib.Nat.{le-trans, le-of-eq, le-of-lt, mul-le-mul, mul-le-mul-right, mul-le-mul-left, mul-assoc, mul-comm, mul-left-comm, mul-right-comm, add-mul, mul-add, zero-mul, mul-one, mul-pos, eq-of-mul-eq-mul-right, eq-or-lt-of-le}
+use mathlib.Core.Path.{_≡_, sym, ap₂, _∙_, subst}
+use Prim.Native.Nat.{ℕ, _+_, _-_, _*_, _^_, _≤_, _<_}
+use native.Mathlib.Nat.{le-trans, le-of-eq, mul-le-mul, mul-le-mul-right, mul-le-mul-left, mul-assoc, mul-right-comm, add-mul, mul-add}
 use native.Mathlib.Omega.{arith}
-use mathlib.Core.Logic.{_⊎_, inl, inr}
-use mathlib.Core.Bool.{Bool, true, false, not, cond}
+use mathlib.Core.Bool.{Bool, true, false, not}
 use lib.Dec.{T, leb, ltb, leb→le, nleb→lt, ltb→lt, nltb→le}
 use lib.Pow.{pow-pos}
-use lib.Ieee.{Float, nan, inf, fin, Format, binary64, low, unlike, up, down, neg, sum, add, sub, mul}
-use lib.Ieee.Fits.{up-pos, down-pos}
+use lib.Ieee.{Float, Format, binary64, low, add, sub, mul}
 use lib.Ieee.Nearest.{closest}
-use lib.Ieee.Scale.{finite}
-use lib.Ieee.Positive.{den, den-pos}
-use Rattle.float.specs.Laws.Sign.{Alike}
-use Rattle.float.specs.Laws.Le.{pl, mi, srnd, sum-srnd, add-srnd}
-use Rattle.float.specs.Laws.MulAdd.{by-parts, plus}
-use Rattle.float.specs.Laws.Units.{Is, Is-add, Is-sub, Is-mul, Is-neg, Is-shift, Is-unit, Is-ununit, sum-eq, mul-value, srnd-same}
+use Rattle.float.specs.Laws.Units.{Is, Is-add, Is-sub, Is-mul, Is-shift, Is-unit, Is-ununit}
 use Rattle.float.specs.Laws.Near.{closest-near, mul-near}
-use Rattle.float.proofs.product_error.Split.{high, rest, Halves, halves}
+use Rattle.float.proofs.product_error.Split.{high, rest, Halves}
 
 -- ---- |x - y| ≤ e
 pub record Apart (x y e : ℕ) : Type 0 where
   pub over : x ≤ y + e
   pub under : y ≤ x + e
-
-apart-mul : (x y e k : ℕ) → Apart x y e → Apart (x * k) (y * k) (e * k)
-apart-mul x y e k h = record {
-  over = le-trans (mul-le-mul-right k (h .over)) (le-of-eq (add-mul y e k));
-  under = le-trans (mul-le-mul-right k (h .under)) (le-of-eq (add-mul x e k));
-}
-
-apart-le : (x y e d : ℕ) → e ≤ d → Apart x y e → Apart x y d
-apart-le x y e d l h = let o = h .over in let u = h .under in record { over = omega arith; under = omega arith }
 
 -- (A - H) (B - G) ≤ E * E
 corner : (A H B G E : ℕ) → A ≤ H + E → H ≤ A + E → B ≤ G + E → G ≤ B + E → A * B + H * G ≤ A * G + H * B + E * E
@@ -212,15 +196,3 @@ module _ (a b : Float) (A B i j k h g : ℕ) (e : i + j ≡ 1074 + k) (r : k < 1
       let q4 : h * 2 ^ 27 * B ≡ h * B * 2 ^ 27 = mul-right-comm h (2 ^ 27) B in
       let q5 : h * 2 ^ 27 * (g * 2 ^ 27) ≡ h * g * 2 ^ 54 = native.Mathlib.Nat.mul-mul-mul-comm h (2 ^ 27) g (2 ^ 27) in
       Is-mul binary64 (rest a) (rest b) A (h * 2 ^ 27) B (g * 2 ^ 27) i j k e (omega arith) (omega arith) (omega arith) (x .low) (y .low)
-
-  -- the last step, exact too: a·b − p
-  pub last : Is binary64 (dekker a b) (A * B) (p .Q * 2 ^ 52) k
-  last =
-      let n3 = p .close in
-      let q3 : A * (g * 2 ^ 27) ≡ A * g * 2 ^ 27 = sym (mul-assoc A g (2 ^ 27)) in
-      let q4 : h * 2 ^ 27 * B ≡ h * B * 2 ^ 27 = mul-right-comm h (2 ^ 27) B in
-      let q5 : h * 2 ^ 27 * (g * 2 ^ 27) ≡ h * g * 2 ^ 54 = native.Mathlib.Nat.mul-mul-mul-comm h (2 ^ 27) g (2 ^ 27) in
-      let q6 : (h * B + A * g) * 2 ^ 27 ≡ h * B * 2 ^ 27 + A * g * 2 ^ 27 = add-mul (h * B) (A * g) (2 ^ 27) in
-      let f1 = Is-unit binary64 (step3 a b) (h * B + A * g) (p .Q * 2 ^ 25 + h * g * 2 ^ 27) k 27 third in
-      Is-shift binary64 (dekker a b) ((h * B + A * g) * 2 ^ 27 + (A * B + h * 2 ^ 27 * (g * 2 ^ 27))) ((p .Q * 2 ^ 25 + h * g * 2 ^ 27) * 2 ^ 27 + (A * (g * 2 ^ 27) + h * 2 ^ 27 * B)) (A * B) (p .Q * 2 ^ 52) k (omega arith)
-      (Is-add binary64 (step3 a b) (mul binary64 (rest a) (rest b)) ((h * B + A * g) * 2 ^ 27) ((p .Q * 2 ^ 25 + h * g * 2 ^ 27) * 2 ^ 27) (A * B + h * 2 ^ 27 * (g * 2 ^ 27)) (A * (g * 2 ^ 27) + h * 2 ^ 27 * B) k (omega arith) (omega arith) (omega arith) f1 fourth)

@@ -1,22 +1,22 @@
 -- Dekker's error of a product and the fused product of a, b and minus the rounded product are one value, for a and b above zero in the range: `positive-equal`.
 -- Assumes nothing.
-use mathlib.Core.Path.{_≡_, refl, sym, ap, ap₂, _∙_, subst}
-use Prim.Native.Nat.{ℕ, zero, suc, _+_, _-_, _*_, _^_, _≤_, _<_}
+use mathlib.Core.Path.{_≡_, refl, sym, ap, ap₂, _∙_}
+use Prim.Native.Nat.{ℕ, _+_, _*_, _^_, _≤_, _<_}
 use native.Mathlib.Nat.{add-zero, zero-add, add-comm, zero-mul, mul-zero, mul-assoc, mul-comm, mul-left-comm, mul-right-comm, add-mul, mul-pos, eq-of-mul-eq-mul-right}
 use native.Mathlib.Omega.{arith}
-use mathlib.Core.Bool.{Bool, true, false, not, cond}
+use mathlib.Core.Bool.{Bool, true, false, cond}
 use lib.Dec.{T}
 use lib.Pow.{pow-pos}
-use lib.Ieee.{Float, nan, inf, fin, Format, binary64, low, unlike, up, down, neg, sum, add, sub, mul}
-use lib.Ieee.Fits.{up-pos, down-pos}
+use lib.Ieee.{Float, nan, inf, fin, Format, binary64, unlike, up, down, neg, mul}
+use lib.Ieee.Fits.{down-pos}
 use lib.Ieee.Scale.{finite}
 use lib.Ieee.Positive.{den, den-pos}
 use Rattle.float.specs.Laws.Sign.{Alike}
-use Rattle.float.specs.Laws.Le.{pl, mi, srnd, sum-srnd, add-srnd, neg-finite}
-use Rattle.float.specs.Laws.MulAdd.{by-parts, plus}
-use Rattle.float.specs.Laws.Units.{Is, Is-neg, Is-unit, Is-alike, srnd-exact, sum-eq, mul-value, srnd-same, Roomy}
-use Rattle.float.proofs.product_error.Split.{high, rest, Halves, halves}
-use Rattle.float.proofs.product_error.Dekker.{Numbers, numbers, Product, product, dekker, step3, third, fourth}
+use Rattle.float.specs.Laws.Le.{pl, mi, srnd, sum-srnd, add-srnd}
+use Rattle.float.specs.Laws.MulAdd.{by-parts}
+use Rattle.float.specs.Laws.Units.{Is, Is-neg, Is-unit, sum-eq, mul-value, srnd-same}
+use Rattle.float.proofs.product_error.Split.{rest, halves}
+use Rattle.float.proofs.product_error.Dekker.{numbers, product, dekker, step3, third, fourth}
 
 -- ---- the fused product as a rounded difference
 prod-plus : (s t : Bool) (M N w : ℕ) → (cond s 0 M * cond t 0 N + cond s M 0 * cond t N 0) * w ≡ cond (unlike s t) 0 (M * N * w)

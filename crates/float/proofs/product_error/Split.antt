@@ -1,17 +1,16 @@
 -- Veltkamp's split of a binary64 value by 2 ^ 27 + 1 is exact. For a = A * 2 ^ i units with 2 ^ 52 ≤ A < 2 ^ 53 the high half is h * 2 ^ 27 * 2 ^ i units with h ≤ 2 ^ 26,
 -- and the low half is the rest, A - h * 2 ^ 27, of size at most 2 ^ 26. Assumes nothing.
-use mathlib.Core.Path.{_≡_, refl, sym, ap, _∙_, subst}
-use Prim.Native.Nat.{ℕ, zero, suc, _+_, _-_, _*_, _^_, _≤_, _<_}
+use mathlib.Core.Path.{_≡_, refl, sym, subst}
+use Prim.Native.Nat.{ℕ, suc, _+_, _-_, _*_, _^_, _≤_, _<_}
 use native.Mathlib.Nat.{eq-or-lt-of-le, mul-assoc, le-antisymm, le-of-suc-le-suc, lt-of-not-le, lt-irrefl}
 use native.Mathlib.Omega.{arith}
-use mathlib.Core.Logic.{_⊎_, inl, inr}
+use mathlib.Core.Logic.{inl, inr}
 use mathlib.Core.Bool.{Bool, true, false, not}
-use lib.IntN.{pos}
 use lib.Dec.{T, ltb, ltb→lt, nltb→le}
 use lib.Pow.{pow-pos}
-use lib.Ieee.{Float, fin, binary64, sub, mul}
+use lib.Ieee.{Float, binary64, sub, mul}
 use lib.Ieee.Nearest.{closest}
-use Rattle.float.specs.ProductError.{splitter}
+use Rattle.float.specs.Halves.{splitter}
 use Rattle.float.specs.Laws.Units.{Is, Is-sub, Is-shift, Is-unit, Is-ununit}
 use Rattle.float.specs.Laws.Near.{closest-near, mul-near, sub-near}
 
