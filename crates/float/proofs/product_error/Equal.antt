@@ -15,7 +15,8 @@ use Rattle.float.specs.Laws.Sign.{Alike}
 use Rattle.float.specs.Laws.Le.{pl, mi, srnd, sum-srnd, add-srnd}
 use Rattle.float.specs.Laws.MulAdd.{by-parts}
 use Rattle.float.specs.Laws.Units.{Is, Is-neg, Is-unit, sum-eq, mul-value, srnd-same}
-use Rattle.float.proofs.product_error.Split.{rest, halves}
+use Rattle.float.specs.Halves.{low-half}
+use Rattle.float.proofs.product_error.Split.{halves}
 use Rattle.float.proofs.product_error.Dekker.{numbers, product, dekker, step3, third, fourth}
 
 -- ---- the fused product as a rounded difference
@@ -136,7 +137,7 @@ positive-equal a b A B i j k e r la ha ri lb hb rj x y =
     let t = Is-unit binary64 (step3 a b) (h * B + A * g) (p .Q * 2 ^ 25 + h * g * 2 ^ 27) k 27 (third a b A B i j k h g e r (hx .1) (hy .1) N p) in
     let u = fourth a b A B i j k h g e r (hx .1) (hy .1) N p in
     let s3 = step3 a b in
-    let s4 = mul binary64 (rest a) (rest b) in
+    let s4 = mul binary64 (low-half a) (low-half b) in
     let z = neg (mul binary64 a b) in
     let m = Is-neg binary64 (mul binary64 a b) (p .Q * 2 ^ 52) 0 k (p .is) in
     let q3 : A * (g * 2 ^ 27) ≡ A * g * 2 ^ 27 = sym (mul-assoc A g (2 ^ 27)) in
