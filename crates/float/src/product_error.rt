@@ -3,11 +3,12 @@
 ghost use mathlib.Core.Path.{_≡_};
 ghost use mathlib.Core.Bool.{true};
 ghost use Rattle.float.specs.ProductError as ProductError;
+ghost use Rattle.float.specs.Halves as Of;
 use crate::mul_add::mul_add;
 
 // Whether a magnitude is zero or from `low` to 2^400.
 fn sized(low: f64, m: f64) -> bool
-    ensures { λ r. ⌜ r ≡ ProductError.sized low m ⌝ }
+    ensures { λ r. ⌜ r ≡ Of.sized low m ⌝ }
 {
     if m <= 2.5822498780869086e120 {
         if m >= low {
@@ -20,7 +21,7 @@ fn sized(low: f64, m: f64) -> bool
 
 // Whether the magnitude of x is.
 fn within(low: f64, x: f64) -> bool
-    ensures { λ r. ⌜ r ≡ ProductError.in-range low x ⌝ }
+    ensures { λ r. ⌜ r ≡ Of.in-range low x ⌝ }
 {
     if x < 0.0 {
         return sized(low, -x);
@@ -30,7 +31,7 @@ fn within(low: f64, x: f64) -> bool
 
 // Whether Dekker's halves serve a first operand.
 pub fn in_range(x: f64) -> bool
-    ensures { λ r. ⌜ r ≡ ProductError.in-range ProductError.least x ⌝ }
+    ensures { λ r. ⌜ r ≡ Of.in-range Of.least x ⌝ }
 {
     within(6.223015277861142e-61, x)
 }
@@ -45,7 +46,7 @@ pub struct Halves {
 
 // The halves of x, for an operand that meets many others.
 pub fn halved_operand(x: f64) -> Halves
-    ensures { λ r. ⌜ r ≡ ProductError.halves x ⌝ }
+    ensures { λ r. ⌜ r ≡ Of.halves x ⌝ }
 {
     let fine = within(6.441148769597133e-232, x);
     let c = 134217729.0 * x;
@@ -60,7 +61,7 @@ pub fn halved_operand(x: f64) -> Halves
 
 // The error of a product, where Dekker's halves serve both operands.
 pub fn error_by_halves(a: f64, b: Halves) -> f64
-    requires { ⌜ (b ≡ ProductError.halves (b .whole)) × (ProductError.in-range ProductError.least a ≡ true) × (b .fine ≡ true) ⌝ }
+    requires { ⌜ (b ≡ Of.halves (b .whole)) × (Of.in-range Of.least a ≡ true) × (b .fine ≡ true) ⌝ }
     ensures { λ r. ⌜ r ≡ ProductError.product-error a (b .whole) ⌝ }
 {
     let p = a * b.whole;
@@ -72,7 +73,7 @@ pub fn error_by_halves(a: f64, b: Halves) -> f64
 
 // The error of a product with an operand whose halves are at hand.
 pub(crate) fn product_error_by(a: f64, b: Halves) -> f64
-    requires { ⌜ b ≡ ProductError.halves (b .whole) ⌝ }
+    requires { ⌜ b ≡ Of.halves (b .whole) ⌝ }
     ensures { λ r. ⌜ r ≡ ProductError.product-error a (b .whole) ⌝ }
 {
     if in_range(a) {

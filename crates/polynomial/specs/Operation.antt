@@ -1,6 +1,6 @@
 -- The operation Roots (01): its refusals in 01's order, its answer, and the result slice afterwards. Definitions only.
 use Prim.Native.Nat.{ℕ, _%_}
-use mathlib.Core.Bool.{Bool, true, false, _&&_, _||_, cond}
+use mathlib.Core.Bool.{Bool, true, _&&_, _||_, cond}
 use mathlib.Core.List.{List, [], _∷_, _++_}
 use lib.IntN.{ℤ, pos, negℤ}
 use lib.Dec.{ltb, leb, eqb}
@@ -8,7 +8,7 @@ use lib.ListN.{length, drop}
 use lib.Ieee.{Float, le}
 use Rattle.float.specs.Number.{abs}
 use Rattle.float.specs.Trig.{four-float}
-use Rattle.float.specs.ProductError.{most}
+use Rattle.float.specs.Halves.{most}
 use Rattle.polynomial.specs.Roots.{roots}
 use Rattle.polynomial.specs.declared.compensated.Compensated.{Compensated}
 use Rattle.polynomial.specs.declared.operation.Answer.{Answer}

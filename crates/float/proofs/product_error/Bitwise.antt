@@ -1,56 +1,55 @@
 -- For a zero or from 2 ^ -(k + 1) to 2 ^ 400 in size, and b zero or from 2 ^ -(l + 1), where k + l is at most 968, Dekker's error equals the fused product of a, b and minus their rounded product, sign of a zero included.
 -- Signs: both forms are odd in a and in b (`Opp`). Zeros: neither form ever gives -0. Assumes nothing.
 use mathlib.Core.Path.{_≡_, refl, sym, ap, ap₂, _∙_, subst}
-use Prim.Native.Nat.{ℕ, zero, suc, _+_, _-_, _*_, _^_, _≤_, _<_, zero-le}
-use native.Mathlib.Nat.{le-trans, le-of-eq, le-of-lt, lt-of-lt-of-le, lt-irrefl, zero-lt-suc, mul-pos, mul-one, one-mul, zero-mul, mul-zero, mul-assoc, mul-comm, mul-left-comm, mul-right-comm, add-mul, mul-sub, le-of-mul-le-mul-right, mul-le-mul-right, mul-le-mul-left, eq-of-mul-eq-mul-right}
+use Prim.Native.Nat.{ℕ, zero, suc, _+_, _-_, _*_, _^_, _≤_, _<_}
+use native.Mathlib.Nat.{le-of-eq, lt-of-lt-of-le, lt-irrefl, zero-lt-suc, mul-pos, mul-one, one-mul, zero-mul, mul-zero, mul-assoc, mul-left-comm, mul-right-comm, eq-of-mul-eq-mul-right}
 use native.Mathlib.Omega.{arith}
 use mathlib.Core.Logic.{_⊎_, inl, inr}
 use mathlib.Core.Bool.{Bool, true, false, not, _&&_, Bool·beq, cond}
 use lib.IntN.{ℤ, pos, negsuc}
-use lib.Dec.{T, leb, ltb, eqb, ltb→lt, nltb→le, leb→le, eqb→eq}
+use lib.Dec.{T, ltb, eqb→eq}
 use lib.Pow.{pow-pos, pow-add}
-use lib.Ieee.{Float, nan, inf, fin, Format, binary64, unlike, up, down, odd, units, round, neg, sum, add, sub, mul, fits}
-use lib.Ieee.Fits.{up-pos, down-pos, and-l, and-r, add-fits, sub-fits, mul-fits, neg-fits, round-fits, cond-fits, nan-fits, inf-fits}
+use lib.Ieee.{Float, nan, inf, fin, binary64, unlike, up, down, round, neg, sum, add, sub, mul, fits}
+use lib.Ieee.Fits.{down-pos, add-fits, mul-fits, neg-fits, round-fits, cond-fits, nan-fits, inf-fits}
 use lib.Ieee.Scale.{finite}
-use lib.Ieee.Positive.{num, den, den-pos}
+use lib.Ieee.Positive.{num, den}
 use Rattle.float.specs.Number.{negative}
 use Rattle.float.specs.MulAdd.{mul-add}
 use Rattle.float.specs.Laws.Sign.{strip, Alike, zeroF, round-zero, neg-neg}
-use Rattle.float.specs.Laws.Like.{Like, Opp, like-refl, like-sym, like-trans, add-like, sub-like, mul-like, neg-like, add-opp, sub-opp, mul-opp-l, mul-opp-r, neg-opp, from-opp, first-zero, second-zero, zero-l, zero-r}
+use Rattle.float.specs.Laws.Like.{Like, Opp, like-refl, like-sym, like-trans, add-like, sub-like, mul-like, neg-like, add-opp, sub-opp, mul-opp-l, mul-opp-r, neg-opp, from-opp, first-zero, zero-l, zero-r}
 use Rattle.float.specs.Laws.MulAdd.{by-parts, plus, mul-add-is, by-parts-like, by-parts-opp, by-parts-opp-r}
-use Rattle.float.specs.Laws.Le.{plain, round-plain, neg-finite}
-use Rattle.float.specs.Laws.Within.{Within, Beyond, held, fits→held, shift, round-beyond, add-within, sub-within, mul-within, numeral, neg-within, neg-beyond}
+use Rattle.float.specs.Laws.Le.{plain, neg-finite}
+use Rattle.float.specs.Laws.Within.{Within, Beyond, held, fits→held, add-within, sub-within, mul-within, numeral, neg-within, neg-beyond}
 use Rattle.float.specs.Laws.Units.{Is}
 use Rattle.float.proofs.product_error.NotMinusZero.{nz, sum-nz, whole-units, over-l, over-r, add-nz, mul-sgn, neg-sgn, one-nz}
-use Rattle.float.proofs.product_error.Split.{scaled, high, rest, halves}
-use Rattle.float.specs.ProductError.{splitter}
-use Rattle.float.proofs.product_error.Dekker.{dekker, step1, step2, step3}
+use Rattle.float.proofs.product_error.Split.{scaled, halves}
+use Rattle.float.proofs.product_error.Dekker.{dekker, step2, step3}
 use Rattle.float.proofs.product_error.Normal.{Normal, normal, in-range-equal}
-use Rattle.float.specs.ProductError.{most}
+use Rattle.float.specs.Halves.{most, splitter, high-half, low-half}
 
 abbrev pub fused : Float → Float → Float
 fused a b = by-parts binary64 a b (neg (mul binary64 a b))
 
 -- ---- both forms see only numbers, and are odd in each operand
-high-like : {a a' : Float} → Like a a' → Like (high a) (high a')
+high-like : {a a' : Float} → Like a a' → Like (high-half a) (high-half a')
 high-like h = let s = mul-like binary64 (like-refl splitter) h in sub-like binary64 s (sub-like binary64 s h)
 
-rest-like : {a a' : Float} → Like a a' → Like (rest a) (rest a')
-rest-like h = sub-like binary64 h (high-like h)
+low-like : {a a' : Float} → Like a a' → Like (low-half a) (low-half a')
+low-like h = sub-like binary64 h (high-like h)
 
-high-opp : {a a' : Float} → Opp a a' → Opp (high a) (high a')
+high-opp : {a a' : Float} → Opp a a' → Opp (high-half a) (high-half a')
 high-opp h = let s = mul-opp-r binary64 (like-refl splitter) h in sub-opp binary64 s (sub-opp binary64 s h)
 
-rest-opp : {a a' : Float} → Opp a a' → Opp (rest a) (rest a')
-rest-opp h = sub-opp binary64 h (high-opp h)
+low-opp : {a a' : Float} → Opp a a' → Opp (low-half a) (low-half a')
+low-opp h = sub-opp binary64 h (high-opp h)
 
 dekker-opp-l : {a a' b b' : Float} → Opp a a' → Like b b' → Opp (dekker a b) (dekker a' b')
 dekker-opp-l h k =
-    add-opp binary64 (add-opp binary64 (add-opp binary64 (sub-opp binary64 (mul-opp-l binary64 (high-opp h) (high-like k)) (mul-opp-l binary64 h k)) (mul-opp-l binary64 (high-opp h) (rest-like k))) (mul-opp-l binary64 (rest-opp h) (high-like k))) (mul-opp-l binary64 (rest-opp h) (rest-like k))
+    add-opp binary64 (add-opp binary64 (add-opp binary64 (sub-opp binary64 (mul-opp-l binary64 (high-opp h) (high-like k)) (mul-opp-l binary64 h k)) (mul-opp-l binary64 (high-opp h) (low-like k))) (mul-opp-l binary64 (low-opp h) (high-like k))) (mul-opp-l binary64 (low-opp h) (low-like k))
 
 dekker-opp-r : {a a' b b' : Float} → Like a a' → Opp b b' → Opp (dekker a b) (dekker a' b')
 dekker-opp-r h k =
-    add-opp binary64 (add-opp binary64 (add-opp binary64 (sub-opp binary64 (mul-opp-r binary64 (high-like h) (high-opp k)) (mul-opp-r binary64 h k)) (mul-opp-r binary64 (high-like h) (rest-opp k))) (mul-opp-r binary64 (rest-like h) (high-opp k))) (mul-opp-r binary64 (rest-like h) (rest-opp k))
+    add-opp binary64 (add-opp binary64 (add-opp binary64 (sub-opp binary64 (mul-opp-r binary64 (high-like h) (high-opp k)) (mul-opp-r binary64 h k)) (mul-opp-r binary64 (high-like h) (low-opp k))) (mul-opp-r binary64 (low-like h) (high-opp k))) (mul-opp-r binary64 (low-like h) (low-opp k))
 
 fused-opp-l : {a a' b b' : Float} → Opp a a' → Like b b' → Opp (fused a b) (fused a' b')
 fused-opp-l h k = by-parts-opp binary64 h k (neg-opp (mul-opp-l binary64 h k))
@@ -79,35 +78,35 @@ pow2 k = fin false 1 (pos k)
 scaled-within : {a : Float} → Within most a → Within (pow2 428) (scaled a)
 scaled-within h = mul-within binary64 (pow2 428) tt (numeral (pow2 28) splitter tt) h
 
-high-within : {a : Float} → Within most a → Within (pow2 430) (high a)
+high-within : {a : Float} → Within most a → Within (pow2 430) (high-half a)
 high-within h = sub-within binary64 (pow2 430) tt (scaled-within h) (sub-within binary64 (pow2 429) tt (scaled-within h) h)
 
-rest-within : {a : Float} → Within most a → Within (pow2 431) (rest a)
-rest-within h = sub-within binary64 (pow2 431) tt h (high-within h)
+low-within : {a : Float} → Within most a → Within (pow2 431) (low-half a)
+low-within h = sub-within binary64 (pow2 431) tt h (high-within h)
 
 held-of : {B x : Float} → T (fits binary64 x) → Within B x → T (held binary64 x)
 held-of {B} {x} t h = fits→held binary64 x t (h .real)
 
-dekker-nz : (a b : Float) → Within most a → Within most b → negative (high a) ≡ negative a → negative (high b) ≡ negative b → T (nz (dekker a b))
+dekker-nz : (a b : Float) → Within most a → Within most b → negative (high-half a) ≡ negative a → negative (high-half b) ≡ negative b → T (nz (dekker a b))
 unfolding sub
 dekker-nz a b wa wb ea eb =
     let hh = mul-within binary64 (pow2 862) tt (high-within wa) (high-within wb) in
     let pp = mul-within binary64 (pow2 862) tt wa wb in
-    let hl = mul-within binary64 (pow2 862) tt (high-within wa) (rest-within wb) in
-    let lh = mul-within binary64 (pow2 862) tt (rest-within wa) (high-within wb) in
-    let ll = mul-within binary64 (pow2 862) tt (rest-within wa) (rest-within wb) in
-    let X = mul binary64 (high a) (high b) in
+    let hl = mul-within binary64 (pow2 862) tt (high-within wa) (low-within wb) in
+    let lh = mul-within binary64 (pow2 862) tt (low-within wa) (high-within wb) in
+    let ll = mul-within binary64 (pow2 862) tt (low-within wa) (low-within wb) in
+    let X = mul binary64 (high-half a) (high-half b) in
     let p = mul binary64 a b in
     let s1 = add-within binary64 (pow2 863) tt hh (neg-within pp) in
     let s2 = add-within binary64 (pow2 864) tt s1 hl in
     let s3 = add-within binary64 (pow2 865) tt s2 lh in
     let σ = unlike (negative a) (negative b) in
-    let sX : negative X ≡ σ = mul-sgn (high a) (high b) (high-within wa .real) (high-within wb .real) ∙ ap₂ (λ (u v : Bool). unlike u v) ea eb in
+    let sX : negative X ≡ σ = mul-sgn (high-half a) (high-half b) (high-within wa .real) (high-within wb .real) ∙ ap₂ (λ (u v : Bool). unlike u v) ea eb in
     let sp : negative (neg p) ≡ not σ = neg-sgn p (pp .real) ∙ ap not (mul-sgn a b (wa .real) (wb .real)) in
-    let n1 = add-nz X (neg p) (held-of (mul-fits binary64 (high a) (high b)) hh) (held-of (neg-fits binary64 p (mul-fits binary64 a b)) (neg-within pp)) (one-nz X (neg p) σ sX sp) in
-    let n2 = add-nz (add binary64 X (neg p)) (mul binary64 (high a) (rest b)) (held-of (add-fits binary64 X (neg p)) s1) (held-of (mul-fits binary64 (high a) (rest b)) hl) (inl n1) in
-    let n3 = add-nz (add binary64 (add binary64 X (neg p)) (mul binary64 (high a) (rest b))) (mul binary64 (rest a) (high b)) (held-of (add-fits binary64 (add binary64 X (neg p)) (mul binary64 (high a) (rest b))) s2) (held-of (mul-fits binary64 (rest a) (high b)) lh) (inl n2) in
-    add-nz (step3 a b) (mul binary64 (rest a) (rest b)) (held-of (add-fits binary64 (step2 a b) (mul binary64 (rest a) (high b))) s3) (held-of (mul-fits binary64 (rest a) (rest b)) ll) (inl n3)
+    let n1 = add-nz X (neg p) (held-of (mul-fits binary64 (high-half a) (high-half b)) hh) (held-of (neg-fits binary64 p (mul-fits binary64 a b)) (neg-within pp)) (one-nz X (neg p) σ sX sp) in
+    let n2 = add-nz (add binary64 X (neg p)) (mul binary64 (high-half a) (low-half b)) (held-of (add-fits binary64 X (neg p)) s1) (held-of (mul-fits binary64 (high-half a) (low-half b)) hl) (inl n1) in
+    let n3 = add-nz (add binary64 (add binary64 X (neg p)) (mul binary64 (high-half a) (low-half b))) (mul binary64 (low-half a) (high-half b)) (held-of (add-fits binary64 (add binary64 X (neg p)) (mul binary64 (high-half a) (low-half b))) s2) (held-of (mul-fits binary64 (low-half a) (high-half b)) lh) (inl n2) in
+    add-nz (step3 a b) (mul binary64 (low-half a) (low-half b)) (held-of (add-fits binary64 (step2 a b) (mul binary64 (low-half a) (high-half b))) s3) (held-of (mul-fits binary64 (low-half a) (low-half b)) ll) (inl n3)
 
 -- ---- the fused one is not -0, where the exact product is a whole number of units
 plus-nz : (s : Bool) (X c W : ℕ) (p : Float) → 0 < c → X * 2 ^ 1074 ≡ W * c → negative p ≡ s → T (held binary64 p) → T (nz (plus binary64 s X c (neg p)))
@@ -207,34 +206,34 @@ unfolding fits
 zero-exp s e t = flat e (eqb→eq (up e * down e) 1 t)
 
 -- ---- the high half has the operand's sign
-high-zero : (s : Bool) → high (fin s 0 (pos 0)) ≡ fin s 0 (pos 0)
+high-zero : (s : Bool) → high-half (fin s 0 (pos 0)) ≡ fin s 0 (pos 0)
 unfolding mul sub
 high-zero true = refl
 high-zero false = refl
 
-high-sgn : {k : ℕ} (a : Float) → Ranged k a → negative (high a) ≡ negative a
+high-sgn : {k : ℕ} (a : Float) → Ranged k a → negative (high-half a) ≡ negative a
 high-sgn {k} a r = go (r .kind)
   where
-    at-zero : (a : Float) → T (fits binary64 a) → T (isZero a) → negative (high a) ≡ negative a
+    at-zero : (a : Float) → T (fits binary64 a) → T (isZero a) → negative (high-half a) ≡ negative a
     at-zero nan t z = absurd z
     at-zero (inf s) t z = absurd z
-    at-zero (fin s zero e) t z = subst (λ (g : ℤ). negative (high (fin s zero g)) ≡ s) (sym (zero-exp s e t)) (ap negative (high-zero s))
+    at-zero (fin s zero e) t z = subst (λ (g : ℤ). negative (high-half (fin s zero g)) ≡ s) (sym (zero-exp s e t)) (ap negative (high-zero s))
     at-zero (fin s (suc m) e) t z = absurd z
 
-    by-size : Normal k a ⊎ Normal k (neg a) → negative (high a) ≡ negative a
+    by-size : Normal k a ⊎ Normal k (neg a) → negative (high-half a) ≡ negative a
     by-size (inl x) =
         let u = x .down in
         let l = x .lo in
         let h = halves a (x .A) (x .i) (x .lo) (x .hi) (omega arith) (x .is) in
-        Is-plus (high a) (h .0) (x .i + 27) (h .1 .some) (h .1 .top) .0 ∙ sym (Is-plus a (x .A) (x .i) (omega arith) (x .is) .0)
+        Is-plus (high-half a) (h .0) (x .i + 27) (h .1 .some) (h .1 .top) .0 ∙ sym (Is-plus a (x .A) (x .i) (omega arith) (x .is) .0)
     by-size (inr x) =
         let u = x .down in
         let l = x .lo in
         let h = halves (neg a) (x .A) (x .i) (x .lo) (x .hi) (omega arith) (x .is) in
-        minus-sgn (high (neg a)) (high a) (h .0) (x .i + 27) (h .1 .some) (h .1 .top) (high-opp (back a) .turned)
+        minus-sgn (high-half (neg a)) (high-half a) (h .0) (x .i + 27) (h .1 .some) (h .1 .top) (high-opp (back a) .turned)
         ∙ sym (minus-sgn (neg a) a (x .A) (x .i) (omega arith) (x .is) (back a .turned))
 
-    go : T (isZero a) ⊎ Beyond (fin false 1 (negsuc k)) a → negative (high a) ≡ negative a
+    go : T (isZero a) ⊎ Beyond (fin false 1 (negsuc k)) a → negative (high-half a) ≡ negative a
     go (inl z) = at-zero a (r .ok) z
     go (inr b) = by-size (sized k (r .short) a (r .ok) (r .size) b)
 
@@ -320,7 +319,7 @@ mul-zero-r nan p = absurd p
 mul-zero-r (inf t) p = absurd p
 mul-zero-r (fin s m e) p = record { same = round-zero binary64 (unlike s false) (m * up e * (0 * 1)) (down e * 1) (mul-pos (down-pos e) (zero-lt-suc 0)) (zero-r (m * up e) 1) }
 
-halves-zero : (high zeroF ≡ zeroF) × (rest zeroF ≡ zeroF)
+halves-zero : (high-half zeroF ≡ zeroF) × (low-half zeroF ≡ zeroF)
 unfolding mul sub
 halves-zero = (refl, refl)
 
@@ -338,17 +337,17 @@ dekker-zero-l : (a b : Float) → T (isZero a) → Within most b → Like (dekke
 dekker-zero-l a b z w =
     let h = zero-like a z in
     let hh = of-eq (halves-zero .0) (high-like h) in
-    let hr = of-eq (halves-zero .1) (rest-like h) in
+    let hr = of-eq (halves-zero .1) (low-like h) in
     let at : (x y : Float) → Like x zeroF → T (finite y) → Like (mul binary64 x y) zeroF = λ x y k p. like-trans (mul-like binary64 k (like-refl y)) (mul-zero-l y p) in
-    all-zero (at (high a) (high b) hh (high-within w .real)) (at a b h (w .real)) (at (high a) (rest b) hh (rest-within w .real)) (at (rest a) (high b) hr (high-within w .real)) (at (rest a) (rest b) hr (rest-within w .real))
+    all-zero (at (high-half a) (high-half b) hh (high-within w .real)) (at a b h (w .real)) (at (high-half a) (low-half b) hh (low-within w .real)) (at (low-half a) (high-half b) hr (high-within w .real)) (at (low-half a) (low-half b) hr (low-within w .real))
 
 dekker-zero-r : (a b : Float) → T (isZero b) → Within most a → Like (dekker a b) zeroF
 dekker-zero-r a b z w =
     let h = zero-like b z in
     let hh = of-eq (halves-zero .0) (high-like h) in
-    let hr = of-eq (halves-zero .1) (rest-like h) in
+    let hr = of-eq (halves-zero .1) (low-like h) in
     let at : (x y : Float) → Like y zeroF → T (finite x) → Like (mul binary64 x y) zeroF = λ x y k p. like-trans (mul-like binary64 (like-refl x) k) (mul-zero-r x p) in
-    all-zero (at (high a) (high b) hh (high-within w .real)) (at a b h (w .real)) (at (high a) (rest b) hr (high-within w .real)) (at (rest a) (high b) hh (rest-within w .real)) (at (rest a) (rest b) hr (rest-within w .real))
+    all-zero (at (high-half a) (high-half b) hh (high-within w .real)) (at a b h (w .real)) (at (high-half a) (low-half b) hr (high-within w .real)) (at (low-half a) (high-half b) hh (low-within w .real)) (at (low-half a) (low-half b) hr (low-within w .real))
 
 -- 0 plus ±0
 plus-zeros : (s : Bool) (X c : ℕ) (z : Float) → 0 < c → X ≡ 0 → z ≡ neg zeroF → Alike (plus binary64 s X c z) zeroF
@@ -422,7 +421,7 @@ by-parts-fits (fin s m e) (fin t n d) z p q = plus-fits (unlike s t) (m * up e *
 pub dekker-is-fused : {k l : ℕ} (a b : Float) → suc k + suc l ≤ 970 → Ranged k a → Ranged l b → dekker a b ≡ mul-add binary64 a b (neg (mul binary64 a b))
 dekker-is-fused a b near x y =
     let W = whole-product a b near x y in
-    sym (unstripped (dekker a b) (dekker-nz a b (x .size) (y .size) (high-sgn a x) (high-sgn b y)) (add-fits binary64 (step3 a b) (mul binary64 (rest a) (rest b))))
+    sym (unstripped (dekker a b) (dekker-nz a b (x .size) (y .size) (high-sgn a x) (high-sgn b y)) (add-fits binary64 (step3 a b) (mul binary64 (low-half a) (low-half b))))
     ∙ numbers-equal a b near x y .same
     ∙ unstripped (fused a b) (fused-nz a b (W .0) (x .size) (y .size) (W .1)) (by-parts-fits a b (neg (mul binary64 a b)) (x .size .real) (y .size .real))
     ∙ mul-add-is binary64 a b (neg (mul binary64 a b))

@@ -1,38 +1,23 @@
 -- Dekker's product: for a = A * 2 ^ i and b = B * 2 ^ j units with A and B of 53 digits, every step of (((ah·bh − p) + ah·bl) + al·bh) + al·bl but the last is exact,
 -- and the last rounds the exact error a·b − p, which the fused product of a, b and −p rounds too. Assumes nothing.
-use mathlib.Core.Path.{_≡_, refl, sym, ap, ap₂, _∙_, subst}
-use Prim.Native.Nat.{ℕ, zero, suc, _+_, _-_, _*_, _^_, _≤_, _<_}
-use native.Mathlib.Nat.{le-trans, le-of-eq, le-of-lt, mul-le-mul, mul-le-mul-right, mul-le-mul-left, mul-assoc, mul-comm, mul-left-comm, mul-right-comm, add-mul, mul-add, zero-mul, mul-one, mul-pos, eq-of-mul-eq-mul-right, eq-or-lt-of-le}
+use mathlib.Core.Path.{_≡_, sym, ap₂, _∙_, subst}
+use Prim.Native.Nat.{ℕ, _+_, _-_, _*_, _^_, _≤_, _<_}
+use native.Mathlib.Nat.{le-trans, le-of-eq, mul-le-mul, mul-le-mul-right, mul-le-mul-left, mul-assoc, mul-right-comm, add-mul, mul-add}
 use native.Mathlib.Omega.{arith}
-use mathlib.Core.Logic.{_⊎_, inl, inr}
-use mathlib.Core.Bool.{Bool, true, false, not, cond}
+use mathlib.Core.Bool.{Bool, true, false, not}
 use lib.Dec.{T, leb, ltb, leb→le, nleb→lt, ltb→lt, nltb→le}
 use lib.Pow.{pow-pos}
-use lib.Ieee.{Float, nan, inf, fin, Format, binary64, low, unlike, up, down, neg, sum, add, sub, mul}
-use lib.Ieee.Fits.{up-pos, down-pos}
+use lib.Ieee.{Float, Format, binary64, low, add, sub, mul}
 use lib.Ieee.Nearest.{closest}
-use lib.Ieee.Scale.{finite}
-use lib.Ieee.Positive.{den, den-pos}
-use Rattle.float.specs.Laws.Sign.{Alike}
-use Rattle.float.specs.Laws.Le.{pl, mi, srnd, sum-srnd, add-srnd}
-use Rattle.float.specs.Laws.MulAdd.{by-parts, plus}
-use Rattle.float.specs.Laws.Units.{Is, Is-add, Is-sub, Is-mul, Is-neg, Is-shift, Is-unit, Is-ununit, sum-eq, mul-value, srnd-same}
+use Rattle.float.specs.Laws.Units.{Is, Is-add, Is-sub, Is-mul, Is-shift, Is-unit, Is-ununit}
 use Rattle.float.specs.Laws.Near.{closest-near, mul-near}
-use Rattle.float.proofs.product_error.Split.{high, rest, Halves, halves}
+use Rattle.float.specs.Halves.{high-half, low-half}
+use Rattle.float.proofs.product_error.Split.{Halves}
 
 -- ---- |x - y| ≤ e
 pub record Apart (x y e : ℕ) : Type 0 where
   pub over : x ≤ y + e
   pub under : y ≤ x + e
-
-apart-mul : (x y e k : ℕ) → Apart x y e → Apart (x * k) (y * k) (e * k)
-apart-mul x y e k h = record {
-  over = le-trans (mul-le-mul-right k (h .over)) (le-of-eq (add-mul y e k));
-  under = le-trans (mul-le-mul-right k (h .under)) (le-of-eq (add-mul x e k));
-}
-
-apart-le : (x y e d : ℕ) → e ≤ d → Apart x y e → Apart x y d
-apart-le x y e d l h = let o = h .over in let u = h .under in record { over = omega arith; under = omega arith }
 
 -- (A - H) (B - G) ≤ E * E
 corner : (A H B G E : ℕ) → A ≤ H + E → H ≤ A + E → B ≤ G + E → G ≤ B + E → A * B + H * G ≤ A * G + H * B + E * E
@@ -158,16 +143,16 @@ Is-at : (f : Format) (x : Float) (p n i j : ℕ) → i ≡ j → Is f x p n i �
 Is-at f x p n i j e k = subst (λ (z : ℕ). Is f x p n z) e k
 
 abbrev pub step1 : Float → Float → Float
-step1 a b = sub binary64 (mul binary64 (high a) (high b)) (mul binary64 a b)
+step1 a b = sub binary64 (mul binary64 (high-half a) (high-half b)) (mul binary64 a b)
 
 abbrev pub step2 : Float → Float → Float
-step2 a b = add binary64 (step1 a b) (mul binary64 (high a) (rest b))
+step2 a b = add binary64 (step1 a b) (mul binary64 (high-half a) (low-half b))
 
 abbrev pub step3 : Float → Float → Float
-step3 a b = add binary64 (step2 a b) (mul binary64 (rest a) (high b))
+step3 a b = add binary64 (step2 a b) (mul binary64 (low-half a) (high-half b))
 
 abbrev pub dekker : Float → Float → Float
-dekker a b = add binary64 (step3 a b) (mul binary64 (rest a) (rest b))
+dekker a b = add binary64 (step3 a b) (mul binary64 (low-half a) (low-half b))
 
 module _ (a b : Float) (A B i j k h g : ℕ) (e : i + j ≡ 1074 + k) (r : k < 1900) (x : Halves a A i h) (y : Halves b B j g) (N : Numbers A B h g) (p : Product a b A B k) where
   pub first : Is binary64 (step1 a b) (h * g * 4) (p .Q) (k + 27 + 25)
@@ -176,13 +161,13 @@ module _ (a b : Float) (A B i j k h g : ℕ) (e : i + j ≡ 1074 + k) (r : k < 1
       let n1 = N .HB in
       let n2 = N .hB in
       let n3 = p .close in
-      let hh : Is binary64 (mul binary64 (high a) (high b)) (h * g * 4) 0 (k + 27 + 25) =
-      Is-shift binary64 (mul binary64 (high a) (high b)) ((h * g + 0 * 0) * 2 ^ 2) ((h * 0 + 0 * g) * 2 ^ 2) (h * g * 4) 0 (k + 27 + 25) (omega arith)
-      (Is-unit binary64 (mul binary64 (high a) (high b)) (h * g + 0 * 0) (h * 0 + 0 * g) (k + 27 + 25) 2
-      (Is-mul binary64 (high a) (high b) h 0 g 0 (i + 27) (j + 27) (k + 27 + 25 + 2) (omega arith) (omega arith) (omega arith) (omega arith) (x .top) (y .top))) in
+      let hh : Is binary64 (mul binary64 (high-half a) (high-half b)) (h * g * 4) 0 (k + 27 + 25) =
+      Is-shift binary64 (mul binary64 (high-half a) (high-half b)) ((h * g + 0 * 0) * 2 ^ 2) ((h * 0 + 0 * g) * 2 ^ 2) (h * g * 4) 0 (k + 27 + 25) (omega arith)
+      (Is-unit binary64 (mul binary64 (high-half a) (high-half b)) (h * g + 0 * 0) (h * 0 + 0 * g) (k + 27 + 25) 2
+      (Is-mul binary64 (high-half a) (high-half b) h 0 g 0 (i + 27) (j + 27) (k + 27 + 25 + 2) (omega arith) (omega arith) (omega arith) (omega arith) (x .top) (y .top))) in
       let pp : Is binary64 (mul binary64 a b) (p .Q) 0 (k + 27 + 25) = Is-at binary64 (mul binary64 a b) (p .Q) 0 (k + 52) (k + 27 + 25) (omega arith) (Is-ununit binary64 (mul binary64 a b) (p .Q) 0 k 52 (p .is)) in
       Is-shift binary64 (step1 a b) (h * g * 4 + 0) (0 + p .Q) (h * g * 4) (p .Q) (k + 27 + 25) (omega arith)
-      (Is-sub binary64 (mul binary64 (high a) (high b)) (mul binary64 a b) (h * g * 4) 0 (p .Q) 0 (k + 27 + 25) (omega arith) (omega arith) (omega arith) hh pp)
+      (Is-sub binary64 (mul binary64 (high-half a) (high-half b)) (mul binary64 a b) (h * g * 4) 0 (p .Q) 0 (k + 27 + 25) (omega arith) (omega arith) (omega arith) hh pp)
 
   pub second : Is binary64 (step2 a b) (h * B) (p .Q * 2 ^ 25) (k + 27)
   second =
@@ -191,9 +176,9 @@ module _ (a b : Float) (A B i j k h g : ℕ) (e : i + j ≡ 1074 + k) (r : k < 1
       let n3 = p .close in
       let q1 : h * (g * 2 ^ 27) ≡ h * g * 2 ^ 27 = sym (mul-assoc h g (2 ^ 27)) in
       let f1 = Is-unit binary64 (step1 a b) (h * g * 4) (p .Q) (k + 27) 25 first in
-      let f2 = Is-mul binary64 (high a) (rest b) h 0 B (g * 2 ^ 27) (i + 27) j (k + 27) (omega arith) (omega arith) (omega arith) (omega arith) (x .top) (y .low) in
+      let f2 = Is-mul binary64 (high-half a) (low-half b) h 0 B (g * 2 ^ 27) (i + 27) j (k + 27) (omega arith) (omega arith) (omega arith) (omega arith) (x .top) (y .low) in
       Is-shift binary64 (step2 a b) (h * g * 4 * 2 ^ 25 + (h * B + 0 * (g * 2 ^ 27))) (p .Q * 2 ^ 25 + (h * (g * 2 ^ 27) + 0 * B)) (h * B) (p .Q * 2 ^ 25) (k + 27) (omega arith)
-      (Is-add binary64 (step1 a b) (mul binary64 (high a) (rest b)) (h * g * 4 * 2 ^ 25) (p .Q * 2 ^ 25) (h * B + 0 * (g * 2 ^ 27)) (h * (g * 2 ^ 27) + 0 * B) (k + 27) (omega arith) (omega arith) (omega arith) f1 f2)
+      (Is-add binary64 (step1 a b) (mul binary64 (high-half a) (low-half b)) (h * g * 4 * 2 ^ 25) (p .Q * 2 ^ 25) (h * B + 0 * (g * 2 ^ 27)) (h * (g * 2 ^ 27) + 0 * B) (k + 27) (omega arith) (omega arith) (omega arith) f1 f2)
 
   pub third : Is binary64 (step3 a b) (h * B + A * g) (p .Q * 2 ^ 25 + h * g * 2 ^ 27) (k + 27)
   third =
@@ -201,26 +186,14 @@ module _ (a b : Float) (A B i j k h g : ℕ) (e : i + j ≡ 1074 + k) (r : k < 1
       let n2 = N .Ag in
       let n3 = p .close in
       let q2 : h * 2 ^ 27 * g ≡ h * g * 2 ^ 27 = mul-right-comm h (2 ^ 27) g in
-      let f2 = Is-mul binary64 (rest a) (high b) A (h * 2 ^ 27) g 0 i (j + 27) (k + 27) (omega arith) (omega arith) (omega arith) (omega arith) (x .low) (y .top) in
+      let f2 = Is-mul binary64 (low-half a) (high-half b) A (h * 2 ^ 27) g 0 i (j + 27) (k + 27) (omega arith) (omega arith) (omega arith) (omega arith) (x .low) (y .top) in
       Is-shift binary64 (step3 a b) (h * B + (A * g + h * 2 ^ 27 * 0)) (p .Q * 2 ^ 25 + (A * 0 + h * 2 ^ 27 * g)) (h * B + A * g) (p .Q * 2 ^ 25 + h * g * 2 ^ 27) (k + 27) (omega arith)
-      (Is-add binary64 (step2 a b) (mul binary64 (rest a) (high b)) (h * B) (p .Q * 2 ^ 25) (A * g + h * 2 ^ 27 * 0) (A * 0 + h * 2 ^ 27 * g) (k + 27) (omega arith) (omega arith) (omega arith) second f2)
+      (Is-add binary64 (step2 a b) (mul binary64 (low-half a) (high-half b)) (h * B) (p .Q * 2 ^ 25) (A * g + h * 2 ^ 27 * 0) (A * 0 + h * 2 ^ 27 * g) (k + 27) (omega arith) (omega arith) (omega arith) second f2)
 
-  pub fourth : Is binary64 (mul binary64 (rest a) (rest b)) (A * B + h * 2 ^ 27 * (g * 2 ^ 27)) (A * (g * 2 ^ 27) + h * 2 ^ 27 * B) k
+  pub fourth : Is binary64 (mul binary64 (low-half a) (low-half b)) (A * B + h * 2 ^ 27 * (g * 2 ^ 27)) (A * (g * 2 ^ 27) + h * 2 ^ 27 * B) k
   fourth =
       let n1 = N .tail in
       let q3 : A * (g * 2 ^ 27) ≡ A * g * 2 ^ 27 = sym (mul-assoc A g (2 ^ 27)) in
       let q4 : h * 2 ^ 27 * B ≡ h * B * 2 ^ 27 = mul-right-comm h (2 ^ 27) B in
       let q5 : h * 2 ^ 27 * (g * 2 ^ 27) ≡ h * g * 2 ^ 54 = native.Mathlib.Nat.mul-mul-mul-comm h (2 ^ 27) g (2 ^ 27) in
-      Is-mul binary64 (rest a) (rest b) A (h * 2 ^ 27) B (g * 2 ^ 27) i j k e (omega arith) (omega arith) (omega arith) (x .low) (y .low)
-
-  -- the last step, exact too: a·b − p
-  pub last : Is binary64 (dekker a b) (A * B) (p .Q * 2 ^ 52) k
-  last =
-      let n3 = p .close in
-      let q3 : A * (g * 2 ^ 27) ≡ A * g * 2 ^ 27 = sym (mul-assoc A g (2 ^ 27)) in
-      let q4 : h * 2 ^ 27 * B ≡ h * B * 2 ^ 27 = mul-right-comm h (2 ^ 27) B in
-      let q5 : h * 2 ^ 27 * (g * 2 ^ 27) ≡ h * g * 2 ^ 54 = native.Mathlib.Nat.mul-mul-mul-comm h (2 ^ 27) g (2 ^ 27) in
-      let q6 : (h * B + A * g) * 2 ^ 27 ≡ h * B * 2 ^ 27 + A * g * 2 ^ 27 = add-mul (h * B) (A * g) (2 ^ 27) in
-      let f1 = Is-unit binary64 (step3 a b) (h * B + A * g) (p .Q * 2 ^ 25 + h * g * 2 ^ 27) k 27 third in
-      Is-shift binary64 (dekker a b) ((h * B + A * g) * 2 ^ 27 + (A * B + h * 2 ^ 27 * (g * 2 ^ 27))) ((p .Q * 2 ^ 25 + h * g * 2 ^ 27) * 2 ^ 27 + (A * (g * 2 ^ 27) + h * 2 ^ 27 * B)) (A * B) (p .Q * 2 ^ 52) k (omega arith)
-      (Is-add binary64 (step3 a b) (mul binary64 (rest a) (rest b)) ((h * B + A * g) * 2 ^ 27) ((p .Q * 2 ^ 25 + h * g * 2 ^ 27) * 2 ^ 27) (A * B + h * 2 ^ 27 * (g * 2 ^ 27)) (A * (g * 2 ^ 27) + h * 2 ^ 27 * B) k (omega arith) (omega arith) (omega arith) f1 fourth)
+      Is-mul binary64 (low-half a) (low-half b) A (h * 2 ^ 27) B (g * 2 ^ 27) i j k e (omega arith) (omega arith) (omega arith) (x .low) (y .low)

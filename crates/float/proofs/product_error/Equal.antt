@@ -1,22 +1,23 @@
 -- Dekker's error of a product and the fused product of a, b and minus the rounded product are one value, for a and b above zero in the range: `positive-equal`.
 -- Assumes nothing.
-use mathlib.Core.Path.{_≡_, refl, sym, ap, ap₂, _∙_, subst}
-use Prim.Native.Nat.{ℕ, zero, suc, _+_, _-_, _*_, _^_, _≤_, _<_}
+use mathlib.Core.Path.{_≡_, refl, sym, ap, ap₂, _∙_}
+use Prim.Native.Nat.{ℕ, _+_, _*_, _^_, _≤_, _<_}
 use native.Mathlib.Nat.{add-zero, zero-add, add-comm, zero-mul, mul-zero, mul-assoc, mul-comm, mul-left-comm, mul-right-comm, add-mul, mul-pos, eq-of-mul-eq-mul-right}
 use native.Mathlib.Omega.{arith}
-use mathlib.Core.Bool.{Bool, true, false, not, cond}
+use mathlib.Core.Bool.{Bool, true, false, cond}
 use lib.Dec.{T}
 use lib.Pow.{pow-pos}
-use lib.Ieee.{Float, nan, inf, fin, Format, binary64, low, unlike, up, down, neg, sum, add, sub, mul}
-use lib.Ieee.Fits.{up-pos, down-pos}
+use lib.Ieee.{Float, nan, inf, fin, Format, binary64, unlike, up, down, neg, mul}
+use lib.Ieee.Fits.{down-pos}
 use lib.Ieee.Scale.{finite}
 use lib.Ieee.Positive.{den, den-pos}
 use Rattle.float.specs.Laws.Sign.{Alike}
-use Rattle.float.specs.Laws.Le.{pl, mi, srnd, sum-srnd, add-srnd, neg-finite}
-use Rattle.float.specs.Laws.MulAdd.{by-parts, plus}
-use Rattle.float.specs.Laws.Units.{Is, Is-neg, Is-unit, Is-alike, srnd-exact, sum-eq, mul-value, srnd-same, Roomy}
-use Rattle.float.proofs.product_error.Split.{high, rest, Halves, halves}
-use Rattle.float.proofs.product_error.Dekker.{Numbers, numbers, Product, product, dekker, step3, third, fourth}
+use Rattle.float.specs.Laws.Le.{pl, mi, srnd, sum-srnd, add-srnd}
+use Rattle.float.specs.Laws.MulAdd.{by-parts}
+use Rattle.float.specs.Laws.Units.{Is, Is-neg, Is-unit, sum-eq, mul-value, srnd-same}
+use Rattle.float.specs.Halves.{low-half}
+use Rattle.float.proofs.product_error.Split.{halves}
+use Rattle.float.proofs.product_error.Dekker.{numbers, product, dekker, step3, third, fourth}
 
 -- ---- the fused product as a rounded difference
 prod-plus : (s t : Bool) (M N w : ℕ) → (cond s 0 M * cond t 0 N + cond s M 0 * cond t N 0) * w ≡ cond (unlike s t) 0 (M * N * w)
@@ -136,7 +137,7 @@ positive-equal a b A B i j k e r la ha ri lb hb rj x y =
     let t = Is-unit binary64 (step3 a b) (h * B + A * g) (p .Q * 2 ^ 25 + h * g * 2 ^ 27) k 27 (third a b A B i j k h g e r (hx .1) (hy .1) N p) in
     let u = fourth a b A B i j k h g e r (hx .1) (hy .1) N p in
     let s3 = step3 a b in
-    let s4 = mul binary64 (rest a) (rest b) in
+    let s4 = mul binary64 (low-half a) (low-half b) in
     let z = neg (mul binary64 a b) in
     let m = Is-neg binary64 (mul binary64 a b) (p .Q * 2 ^ 52) 0 k (p .is) in
     let q3 : A * (g * 2 ^ 27) ≡ A * g * 2 ^ 27 = sym (mul-assoc A g (2 ^ 27)) in

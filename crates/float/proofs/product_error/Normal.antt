@@ -1,20 +1,20 @@
 -- A binary64 value from 2 ^ -(k + 1) to 2 ^ 400 is A * 2 ^ i units with 2 ^ 52 ≤ A < 2 ^ 53 and 1021 - k ≤ i ≤ 1422. So Dekker's error equals the fused one for all such a and b above zero, where the two k are small enough.
 -- Assumes nothing.
-use mathlib.Core.Path.{_≡_, refl, sym, ap, _∙_, subst}
+use mathlib.Core.Path.{_≡_, sym, ap, _∙_, subst}
 use Prim.Native.Nat.{ℕ, zero, suc, _+_, _-_, _*_, _^_, _≤_, _<_}
-use native.Mathlib.Nat.{le-trans, le-of-eq, le-of-lt, lt-of-lt-of-le, lt-of-le-of-lt, lt-of-not-le, lt-irrefl, not-le-of-lt, le-of-suc-le-suc, mul-pos, mul-one, one-mul, zero-mul, mul-assoc, mul-comm, mul-left-comm, mul-right-comm, le-of-mul-le-mul-right, mul-le-mul-right, mul-lt-mul-of-pos-right, add-zero}
+use native.Mathlib.Nat.{le-trans, le-of-eq, lt-of-lt-of-le, lt-of-le-of-lt, lt-of-not-le, lt-irrefl, not-le-of-lt, mul-one, one-mul, zero-mul, mul-assoc, mul-comm, mul-left-comm, mul-right-comm, le-of-mul-le-mul-right, mul-le-mul-right, mul-lt-mul-of-pos-right, add-zero}
 use native.Mathlib.Omega.{arith}
-use mathlib.Core.Bool.{Bool, true, false, not, _&&_}
-use lib.IntN.{ℤ, pos, negsuc}
+use mathlib.Core.Bool.{true, false, _&&_}
+use lib.IntN.{negsuc}
 use lib.Dec.{T, ltb, leb, ltb→lt, leb→le}
 use lib.Pow.{pow-add, pow-pos, pow-mono}
 use lib.Ieee.{Float, nan, inf, fin, binary64, up, down, size, neg, mul}
 use lib.Ieee.Digits.{size-lt, size-le, size-reaches}
-use lib.Ieee.Fits.{and-l, and-r, up-pos, down-pos}
-use Rattle.float.specs.ProductError.{most}
+use lib.Ieee.Fits.{and-l, and-r, down-pos}
+use Rattle.float.specs.Halves.{most}
 use Rattle.float.specs.Laws.Sign.{Alike}
 use Rattle.float.specs.Laws.Le.{plain}
-use Rattle.float.specs.Laws.Within.{Within, Beyond, held, shift}
+use Rattle.float.specs.Laws.Within.{Within, Beyond, held, drop-pow, shift}
 use Rattle.float.specs.Laws.Units.{Is, Is-unit}
 use Rattle.float.specs.Laws.MulAdd.{by-parts}
 use Rattle.float.proofs.product_error.Dekker.{dekker}
@@ -31,9 +31,6 @@ pub record Normal (k : ℕ) (a : Float) : Type 0 where
 
 pow-back : (x y : ℕ) → 2 ^ x < 2 ^ y → x < y
 pow-back x y h = lt-of-not-le (λ (g : y ≤ x). not-le-of-lt h (pow-mono g))
-
-pow-back-le : (x y : ℕ) → 2 ^ x ≤ 2 ^ y → x ≤ y
-pow-back-le x y h = le-of-suc-le-suc (lt-of-not-le (λ (g : suc y ≤ x). lt-irrefl (2 ^ x) (lt-of-le-of-lt h (lib.Pow.pow-lt g))))
 
 -- m * up / down in units is m * 2 ^ j
 low-units : (m u d v w s : ℕ) → 0 < d → u * w ≡ v * d → d ≤ m * u * s → w ≤ m * v * s
@@ -73,7 +70,7 @@ normal k short (fin false m e) t p w b =
     let over : 1074 - suc k < z + j = pow-back (1074 - suc k) (z + j) (lt-of-le-of-lt big' (lt-of-lt-of-le (mul-lt-mul-of-pos-right (size-lt m) (pow-pos j)) (le-of-eq (sym (pow-add 2 z j))))) in
     let zp : 0 < z = some (1074 - suc k) m j big' in
     let reach : 2 ^ (z - 1) ≤ m = size-reaches m (z - 1) (omega arith) in
-    let under : z - 1 + j ≤ 1474 = pow-back-le (z - 1 + j) 1474 (le-trans (le-of-eq (pow-add 2 (z - 1) j)) (le-trans (mul-le-mul-right (2 ^ j) reach) small)) in
+    let under : z - 1 + j ≤ 1474 = drop-pow (z - 1 + j) 1474 (le-trans (le-of-eq (pow-add 2 (z - 1) j)) (le-trans (mul-le-mul-right (2 ^ j) reach) small)) in
     let i = j + z - 53 in
     let ji : j ≡ i + (53 - z) = omega arith in
     let own : Is binary64 (fin false m e) m 0 j = record { real = tt; value = ap (λ (x : ℕ). m * up e * 2 ^ 1074 + x) (ap (λ (x : ℕ). x * down e) (zero-mul (2 ^ j)) ∙ zero-mul (down e)) ∙ add-zero (m * up e * 2 ^ 1074) ∙ mul-assoc m (up e) (2 ^ 1074) ∙ ap (λ (x : ℕ). m * x) (sh .1) ∙ sym (mul-assoc m (2 ^ j) (down e)) ∙ sym (add-zero (m * 2 ^ j * down e)) ∙ ap (λ (x : ℕ). m * 2 ^ j * down e + x) (sym (zero-mul (2 ^ 1074))) } in

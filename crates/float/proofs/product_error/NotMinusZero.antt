@@ -1,27 +1,21 @@
 -- When a sum or a product of two values of binary64 is not -0, and the sign of each operation. Assumes nothing.
 use mathlib.Core.Path.{_≡_, refl, sym, ap, ap₂, _∙_, subst}
-use Prim.Native.Nat.{ℕ, zero, suc, _+_, _-_, _*_, _^_, _≤_, _<_, zero-le}
-use native.Mathlib.Nat.{le-trans, le-of-eq, le-of-lt, lt-of-lt-of-le, lt-irrefl, zero-lt-suc, mul-pos, mul-one, one-mul, zero-mul, mul-zero, mul-assoc, mul-comm, mul-left-comm, mul-right-comm, add-mul, mul-sub, le-of-mul-le-mul-right, mul-le-mul-right, mul-le-mul-left, eq-of-mul-eq-mul-right}
+use Prim.Native.Nat.{ℕ, zero, suc, _+_, _-_, _*_, _^_, _≤_, _<_}
+use native.Mathlib.Nat.{le-trans, le-of-eq, lt-of-lt-of-le, lt-irrefl, zero-lt-suc, mul-pos, one-mul, zero-mul, mul-assoc, mul-comm, mul-right-comm, add-mul, mul-sub}
 use native.Mathlib.Omega.{arith}
 use mathlib.Core.Logic.{_⊎_, inl, inr}
-use mathlib.Core.Bool.{Bool, true, false, not, _&&_, Bool·beq, cond}
-use lib.IntN.{ℤ, pos, negsuc}
-use lib.Dec.{T, leb, ltb, eqb, ltb→lt, nltb→le, leb→le, eqb→eq}
-use lib.Pow.{pow-pos, pow-add}
-use lib.Ieee.{Float, nan, inf, fin, Format, binary64, unlike, up, down, odd, units, round, neg, sum, add, sub, mul, fits}
-use lib.Ieee.Fits.{up-pos, down-pos, and-l, and-r, add-fits, sub-fits, mul-fits, neg-fits, round-fits, cond-fits, nan-fits, inf-fits}
+use mathlib.Core.Bool.{Bool, true, false, not, _&&_, cond}
+use lib.IntN.{ℤ, negsuc}
+use lib.Dec.{T, leb, ltb, ltb→lt, leb→le}
+use lib.Pow.{pow-pos}
+use lib.Ieee.{Float, nan, inf, fin, binary64, unlike, up, down, round, neg, sum, add, mul}
+use lib.Ieee.Fits.{up-pos, down-pos, and-l, and-r}
 use lib.Ieee.Scale.{finite}
-use lib.Ieee.Positive.{num, den, den-pos}
+use lib.Ieee.Positive.{num, den}
 use Rattle.float.specs.Number.{negative}
-use Rattle.float.specs.Laws.Sign.{strip, Alike, zeroF, round-zero, neg-neg}
-use Rattle.float.specs.Laws.Like.{Like, Opp, like-refl, like-sym, like-trans, add-like, sub-like, mul-like, neg-like, add-opp, sub-opp, mul-opp-l, mul-opp-r, neg-opp, from-opp, first-zero, second-zero, zero-l, zero-r}
-use Rattle.float.specs.Laws.MulAdd.{by-parts, plus, mul-add-is, mul-add-like, mul-add-opp, mul-add-opp-r}
-use Rattle.float.specs.Laws.Le.{plain, round-plain, neg-finite}
-use Rattle.float.specs.Laws.Within.{Within, Beyond, held, fits→held, shift, round-beyond, add-within, sub-within, mul-within, numeral, neg-within, neg-beyond}
-use Rattle.float.specs.Laws.Units.{Is}
-use Rattle.float.proofs.product_error.Split.{scaled, high, rest, halves}
-use Rattle.float.proofs.product_error.Dekker.{dekker, step1, step2, step3}
-use Rattle.float.proofs.product_error.Normal.{Normal, normal, in-range-equal}
+use Rattle.float.specs.Laws.Tests.{round-negative}
+use Rattle.float.specs.Laws.Le.{plain, round-plain}
+use Rattle.float.specs.Laws.Within.{Beyond, held, shift, round-beyond}
 
 -- ---- not -0
 abbrev pub nz : Float → Bool
@@ -144,30 +138,13 @@ add-nz (fin s m e) (fin t n d) p q h =
     go (inr k) = r (not-minus t n d (down e) (down-pos e) k)
 
 -- ---- the sign
-odd-sgn : (d : ℕ) (s : Bool) (q k l : ℕ) → negative (odd d s q k l) ≡ s
-unfolding odd
-odd-sgn d s zero k l = refl
-odd-sgn d s (suc q) k l = refl
-
-units-sgn : (f : Format) (s : Bool) (q k : ℕ) → negative (units f s q k) ≡ s
-unfolding units
-units-sgn f s q k = go (ltb (q * 2 ^ k) (2 ^ (lib.Ieee.low f + suc (lib.Ieee.emax f))))
-  where
-    go : (b : Bool) → negative (cond b (odd (suc (lib.Ieee.prec f)) s q k (lib.Ieee.low f)) (inf s)) ≡ s
-    go true = odd-sgn (suc (lib.Ieee.prec f)) s q k (lib.Ieee.low f)
-    go false = refl
-
-round-sgn : (f : Format) (s : Bool) (v c : ℕ) → negative (round f s v c) ≡ s
-unfolding round
-round-sgn f s v c = units-sgn f s _ _
-
 pub mul-sgn : (x y : Float) → T (finite x) → T (finite y) → negative (mul binary64 x y) ≡ unlike (negative x) (negative y)
 unfolding mul
 mul-sgn nan y p q = absurd p
 mul-sgn (inf s) y p q = absurd p
 mul-sgn (fin s m e) nan p q = absurd q
 mul-sgn (fin s m e) (inf t) p q = absurd q
-mul-sgn (fin s m e) (fin t n d) p q = round-sgn binary64 (unlike s t) (m * up e * (n * up d)) (down e * down d)
+mul-sgn (fin s m e) (fin t n d) p q = round-negative binary64 (unlike s t) (m * up e * (n * up d)) (down e * down d)
 
 pub neg-sgn : (x : Float) → T (finite x) → negative (neg x) ≡ not (negative x)
 unfolding neg

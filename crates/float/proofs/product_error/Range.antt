@@ -3,36 +3,27 @@ use mathlib.Core.Path.{_≡_, refl, sym, ap, subst, _∙_}
 use mathlib.Core.Logic.{_⊎_, inl, inr}
 use mathlib.Core.Bool.{Bool, true, false, cond, false≢true}
 use Prim.Native.Nat.{ℕ, zero, suc, _+_, _*_, _≤_, _<_, zero-le}
-use native.Mathlib.Nat.{le-trans, le-of-eq, zero-mul, mul-one, add-zero, zero-add, lt-irrefl, lt-of-lt-of-le}
+use native.Mathlib.Nat.{le-trans, le-of-eq, zero-mul, lt-irrefl, lt-of-lt-of-le}
 use native.Mathlib.Omega.{arith}
-use lib.IntN.{ℤ, pos, negsuc}
+use lib.IntN.{ℤ, negsuc}
 use lib.Dec.{T}
 use borrow.Author.Tests.{ltb-true, ltb-false}
-use lib.Ieee.{Float, nan, inf, fin, binary64, up, down, neg, lt, le, eq, fits, ofBits}
+use lib.Ieee.{Float, nan, inf, fin, binary64, up, down, neg, lt, le, eq, fits}
 use lib.Ieee.Positive.{num, den}
 use Rattle.float.specs.Number.{zero-float}
-use Rattle.float.specs.ProductError.{most, sized, in-range}
-use Rattle.float.specs.Laws.Le.{Le, le→Le}
+use Rattle.float.specs.Halves.{most, sized, in-range}
+use Rattle.float.specs.Laws.Le.{le→Le, yes-of}
 use Rattle.float.specs.Laws.Within.{Within, Beyond}
+use Rattle.float.specs.Laws.Range.{plain-le, under}
 use Rattle.float.specs.Laws.Zero.{zero-bits, zero-of, no-up}
 use Rattle.float.proofs.product_error.Bitwise.{Ranged, isZero}
-
-is : (x y : Float) → le x y ≡ true → T (le x y)
-is x y h = subst T (sym h) tt
-
--- one product a side
-plain-le : (a b c d : ℕ) → a + 0 * b ≤ c + 0 * d → a ≤ c
-plain-le a b c d h = let p : 0 * b ≡ 0 = zero-mul b in let q : 0 * d ≡ 0 = zero-mul d in omega arith
-
-under : (m : ℕ) (e : ℤ) → le (fin false m e) most ≡ true → Within most (fin false m e)
-under m e h = record { real = tt; size = plain-le (num (fin false m e) * den most) (down e) (num most * down e) (den most) (le→Le (fin false m e) most tt tt (is (fin false m e) most h) .cross) }
 
 -- 2 ^ -(k + 1)
 abbrev low : ℕ → Float
 low k = fin false 1 (negsuc k)
 
 over : (k m : ℕ) (e : ℤ) → le (low k) (fin false m e) ≡ true → Beyond (low k) (fin false m e)
-over k m e h = record { real = tt; size = plain-le (num (low k) * down e) (den (low k)) (num (fin false m e) * den (low k)) (down e) (le→Le (low k) (fin false m e) tt tt (is (low k) (fin false m e) h) .cross) }
+over k m e h = record { real = tt; size = plain-le (num (low k) * down e) (den (low k)) (num (fin false m e) * den (low k)) (down e) (le→Le (low k) (fin false m e) tt tt (yes-of h) .cross) }
 
 none : (s : Bool) (m : ℕ) (e : ℤ) → m ≡ 0 → T (isZero (fin s m e))
 none s m e h = subst (λ (n : ℕ). T (isZero (fin s n e))) (sym h) tt
@@ -46,8 +37,8 @@ sized-is k m e h = go (le (fin false m e) most) (le (low k) (fin false m e)) ref
   where
     go : (a b : Bool) → le (fin false m e) most ≡ a → le (low k) (fin false m e) ≡ b → cond a (cond b true (eq (fin false m e) zero-float)) false ≡ true → Kind k (fin false m e)
     go false b p q h = absurd (false≢true h)
-    go true true p q h = (under m e p, inr (over k m e q))
-    go true false p q h = (under m e p, inl (none false m e (zero-of false m e (ap (eq (fin false m e)) zero-bits ∙ h))))
+    go true true p q h = (under most m e tt tt p, inr (over k m e q))
+    go true false p q h = (under most m e tt tt p, inl (none false m e (zero-of false m e (ap (eq (fin false m e)) zero-bits ∙ h))))
 
 -- minus a magnitude has the same size
 turned : (k m : ℕ) (e : ℤ) → Kind k (fin false m e) → Kind k (fin true m e)

@@ -1,28 +1,21 @@
 -- Veltkamp's split of a binary64 value by 2 ^ 27 + 1 is exact. For a = A * 2 ^ i units with 2 ^ 52 ≤ A < 2 ^ 53 the high half is h * 2 ^ 27 * 2 ^ i units with h ≤ 2 ^ 26,
 -- and the low half is the rest, A - h * 2 ^ 27, of size at most 2 ^ 26. Assumes nothing.
-use mathlib.Core.Path.{_≡_, refl, sym, ap, _∙_, subst}
-use Prim.Native.Nat.{ℕ, zero, suc, _+_, _-_, _*_, _^_, _≤_, _<_}
+use mathlib.Core.Path.{_≡_, refl, sym, subst}
+use Prim.Native.Nat.{ℕ, suc, _+_, _-_, _*_, _^_, _≤_, _<_}
 use native.Mathlib.Nat.{eq-or-lt-of-le, mul-assoc, le-antisymm, le-of-suc-le-suc, lt-of-not-le, lt-irrefl}
 use native.Mathlib.Omega.{arith}
-use mathlib.Core.Logic.{_⊎_, inl, inr}
+use mathlib.Core.Logic.{inl, inr}
 use mathlib.Core.Bool.{Bool, true, false, not}
-use lib.IntN.{pos}
 use lib.Dec.{T, ltb, ltb→lt, nltb→le}
 use lib.Pow.{pow-pos}
-use lib.Ieee.{Float, fin, binary64, sub, mul}
+use lib.Ieee.{Float, binary64, sub, mul}
 use lib.Ieee.Nearest.{closest}
-use Rattle.float.specs.ProductError.{splitter}
+use Rattle.float.specs.Halves.{splitter, high-half, low-half}
 use Rattle.float.specs.Laws.Units.{Is, Is-sub, Is-shift, Is-unit, Is-ununit}
 use Rattle.float.specs.Laws.Near.{closest-near, mul-near, sub-near}
 
 abbrev pub scaled : Float → Float
 scaled a = mul binary64 splitter a
-
-abbrev pub high : Float → Float
-high a = sub binary64 (scaled a) (sub binary64 (scaled a) a)
-
-abbrev pub rest : Float → Float
-rest a = sub binary64 a (high a)
 
 splitter-is : Is binary64 splitter 134217729 0 1074
 splitter-is = record { real = tt; value = refl }
@@ -139,8 +132,8 @@ less-is a A i lo hi r h s = go (ltb Z (2 ^ 80)) (ltb→lt Z (2 ^ 80)) (nltb→le
 
 -- ---- the halves
 pub record Halves (a : Float) (A i h : ℕ) : Type 0 where
-  pub top : Is binary64 (high a) h 0 (i + 27)
-  pub low : Is binary64 (rest a) A (h * 2 ^ 27) i
+  pub top : Is binary64 (high-half a) h 0 (i + 27)
+  pub low : Is binary64 (low-half a) A (h * 2 ^ 27) i
   pub few : h ≤ 2 ^ 26
   pub some : 0 < h
   pub over : A ≤ h * 2 ^ 27 + 2 ^ 26
@@ -155,8 +148,8 @@ halves a A i lo hi r k =
     let h = s .K - d .D in
     let le : d .D ≤ s .K = at-most (d .D) (s .K) (omega arith) in
     let few : h ≤ 2 ^ 26 = at-most h (2 ^ 26) (omega arith) in
-    let top : Is binary64 (high a) h 0 (i + 27) =
-    Is-shift binary64 (high a) (s .K + 0) (0 + d .D) h 0 (i + 27) (omega arith)
+    let top : Is binary64 (high-half a) h 0 (i + 27) =
+    Is-shift binary64 (high-half a) (s .K + 0) (0 + d .D) h 0 (i + 27) (omega arith)
     (Is-sub binary64 (scaled a) (sub binary64 (scaled a) a) (s .K) 0 (d .D) 0 (i + 27) (omega arith) (omega arith) (omega arith)
     (Is-ununit binary64 (scaled a) (s .K) 0 i 27 (s .is)) (Is-ununit binary64 (sub binary64 (scaled a) a) (d .D) 0 i 27 (d .is))) in
     let over : A ≤ h * 2 ^ 27 + 2 ^ 26 = omega arith in
@@ -164,7 +157,7 @@ halves a A i lo hi r k =
       h,
       record {
         top = top;
-        low = Is-shift binary64 (rest a) (A + 0) (0 + h * 2 ^ 27) A (h * 2 ^ 27) i (omega arith) (Is-sub binary64 a (high a) A 0 (h * 2 ^ 27) 0 i (omega arith) (omega arith) (omega arith) k (Is-unit binary64 (high a) h 0 i 27 top));
+        low = Is-shift binary64 (low-half a) (A + 0) (0 + h * 2 ^ 27) A (h * 2 ^ 27) i (omega arith) (Is-sub binary64 a (high-half a) A 0 (h * 2 ^ 27) 0 i (omega arith) (omega arith) (omega arith) k (Is-unit binary64 (high-half a) h 0 i 27 top));
         few = few;
         some = omega arith;
         over = over;

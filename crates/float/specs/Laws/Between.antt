@@ -10,15 +10,14 @@ use mathlib.Core.Bool.{Bool, true, false, not, _&&_, _||_}
 use lib.IntN.{ℤ, pos, negsuc}
 use lib.Dec.{T, leb, ltb, leb→le, ltb→lt, lt→ltb, le→leb, lit<}
 use lib.Pow.{pow-mono, pow-pos}
-use lib.Ieee.{Float, nan, inf, fin, binary64, up, down, round, neg, add, sub, div, lt, le, eq, fits}
+use lib.Ieee.{Float, nan, inf, fin, binary64, up, down, add, sub, div, lt, le, eq, fits}
 use lib.Ieee.Fits.{up-pos, down-pos, div-fits, and-i, and-l, and-r}
 use lib.Ieee.Scale.{finite}
 use lib.Ieee.Positive.{num, den}
 use Rattle.float.specs.Number.{_⊕_, _⊖_, _⊘_, middle, two-float, negative, total-le}
-use Rattle.float.specs.Laws.Sign.{round-neg}
 use Rattle.float.specs.Laws.Zero.{sum-same-sign, sum-less, sum-more}
 use Rattle.float.specs.Laws.Total.{total-le-eq}
-use Rattle.float.specs.Laws.Tests.{total-le-lt}
+use Rattle.float.specs.Laws.Tests.{total-le-lt, round-negative}
 use Rattle.float.specs.Laws.Like.{zero-l}
 use Rattle.float.specs.Laws.Le.{Le, Le→le, or-r, or-split, plain, round-plain, div-mono-by}
 use Rattle.float.specs.Laws.Within.{Within, held, fits→held, drop-pow, round-within, div-exact, within→Le, plain-finite}
@@ -161,17 +160,6 @@ half-less zero (negsuc k) t = elim (decLt k 1073) [
 
 -- ---- a minus sign
 
-neg-plain : (x : Float) → T (plain x) → negative (neg x) ≡ true
-unfolding neg
-neg-plain nan p = absurd p
-neg-plain (inf true) p = absurd p
-neg-plain (inf false) p = refl
-neg-plain (fin true m e) p = absurd p
-neg-plain (fin false m e) p = refl
-
-round-minus : (a c : ℕ) → negative (round binary64 true a c) ≡ true
-round-minus a c = ap negative (round-neg binary64 false a c) ∙ neg-plain (round binary64 false a c) (round-plain binary64 a c)
-
 -- what is added is less
 sum-minus : (m : ℕ) (e : ℤ) (h : Float) → T (plain h) → T (lt h (fin false m e)) → negative (fin true m e ⊕ h) ≡ true
 unfolding add lt
@@ -182,7 +170,7 @@ sum-minus m e (fin true n d) p l = absurd p
 sum-minus m e (fin false n d) p l =
     let a = m * up e * down d in
     let b = n * up d * down e in
-    ap negative (sum-more true a false b (down e * down d) refl (ltb→lt b a l)) ∙ round-minus (a - b) (down e * down d)
+    ap negative (sum-more true a false b (down e * down d) refl (ltb→lt b a l)) ∙ round-negative binary64 true (a - b) (down e * down d)
 
 lt-finite : (x : Float) (m : ℕ) (e : ℤ) → T (plain x) → T (lt x (fin false m e)) → T (finite x)
 unfolding lt

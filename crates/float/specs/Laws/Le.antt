@@ -1,7 +1,7 @@
 -- The order of finite values with signs, and that `add`, `sub`, `neg`, a product and a quotient by what is not negative keep it, rounding included.
 -- A finite value is (pl - mi) / den: `pl` is its size where it is not negative and 0 otherwise, `mi` the other way round. So an order of values is an
 -- inequality of sums of products. `srnd` rounds such a difference; a sum is that, but for the sign of a zero. Assumes nothing.
-use mathlib.Core.Path.{_≡_, sym, ap, ap₂, _∙_, subst}
+use mathlib.Core.Path.{_≡_, sym, ap, ap₂, _∙_, subst, subst⁻¹}
 use mathlib.Core.Logic.{_⊎_, inl, inr}
 use Prim.Native.Nat.{ℕ, zero, suc, _+_, _-_, _*_, _^_, _≤_, _<_}
 use native.Mathlib.Nat.{le-of-lt, zero-mul, one-mul, mul-pos, mul-assoc, mul-comm, mul-left-comm, add-mul, mul-sub, zero-lt-suc, lt-irrefl, eq-or-lt-of-le, le-of-mul-le-mul-right, mul-le-mul-right}
@@ -35,6 +35,9 @@ pub record Le (x y : Float) : Type 0 where
   pub cross : pl x * den y + mi y * den x ≤ pl y * den x + mi x * den y
 
 -- ---- `le` says the same
+pub yes-of : {b : Bool} → b ≡ true → T b
+yes-of e = subst⁻¹ T e tt
+
 pub or-l : (a b : Bool) → T a → T (a || b)
 or-l true b t = tt
 or-l false b t = absurd t

@@ -176,13 +176,3 @@ mul-add-is f (fin s m e) (inf t) z = cond-is f (eqb m 0) (unlike s t) z
 mul-add-is f (fin s m e) (fin t n d) nan = refl
 mul-add-is f (fin s m e) (fin t n d) (inf u) = refl
 mul-add-is f (fin s m e) (fin t n d) (fin u p g) = refl
-
-pub mul-add-like : (f : Format) {x x' y y' z z' : Float} → Like x x' → Like y y' → Like z z' → Like (mul-add f x y z) (mul-add f x' y' z')
-mul-add-like f {x} {x'} {y} {y'} {z} {z'} p q r = record { same = ap strip (sym (mul-add-is f x y z)) ∙ by-parts-like f p q r .same ∙ ap strip (mul-add-is f x' y' z') }
-
--- a negated factor and a negated addend give the negated result
-pub mul-add-opp : (f : Format) {x x' y y' z z' : Float} → Opp x x' → Like y y' → Opp z z' → Opp (mul-add f x y z) (mul-add f x' y' z')
-mul-add-opp f {x} {x'} {y} {y'} {z} {z'} p q r = record { turned = ap strip (sym (mul-add-is f x' y' z')) ∙ by-parts-opp f p q r .turned ∙ ap (λ (v : Float). strip (neg v)) (mul-add-is f x y z) }
-
-pub mul-add-opp-r : (f : Format) {x x' y y' z z' : Float} → Like x x' → Opp y y' → Opp z z' → Opp (mul-add f x y z) (mul-add f x' y' z')
-mul-add-opp-r f {x} {x'} {y} {y'} {z} {z'} p q r = record { turned = ap strip (sym (mul-add-is f x' y' z')) ∙ by-parts-opp-r f p q r .turned ∙ ap (λ (v : Float). strip (neg v)) (mul-add-is f x y z) }

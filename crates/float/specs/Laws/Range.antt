@@ -1,5 +1,5 @@
 -- What a finite value in a range is: from the code's tests to `Within`. Assumes nothing.
-use mathlib.Core.Path.{_≡_, sym, subst}
+use mathlib.Core.Path.{_≡_}
 use mathlib.Core.Bool.{Bool, true, false, not, cond, false≢true}
 use Prim.Native.Nat.{ℕ, _+_, _*_, _≤_}
 use native.Mathlib.Nat.{zero-mul}
@@ -10,23 +10,20 @@ use lib.Ieee.{Float, nan, inf, fin, up, down, below, lt, eq, le}
 use lib.Ieee.Scale.{finite}
 use lib.Ieee.Positive.{num}
 use Rattle.float.specs.Number.{abs}
-use Rattle.float.specs.Laws.Le.{pl, mi, Le, le→Le, plain, or-l}
+use Rattle.float.specs.Laws.Le.{pl, mi, Le, le→Le, plain, or-l, yes-of}
 use Rattle.float.specs.Laws.Within.{Within}
 
 -- one product a side
-plain-le : (a b c d : ℕ) → a + 0 * b ≤ c + 0 * d → a ≤ c
+pub plain-le : (a b c d : ℕ) → a + 0 * b ≤ c + 0 * d → a ≤ c
 plain-le a b c d h = let p : 0 * b ≡ 0 = zero-mul b in let q : 0 * d ≡ 0 = zero-mul d in omega arith
 
-is : (x y : Float) → le x y ≡ true → T (le x y)
-is x y h = subst T (sym h) tt
-
--- a magnitude at most B, and at least B
-under : (B : Float) (m : ℕ) (e : ℤ) → T (finite B) → T (plain B) → le (fin false m e) B ≡ true → Within B (fin false m e)
+-- a magnitude at most B
+pub under : (B : Float) (m : ℕ) (e : ℤ) → T (finite B) → T (plain B) → le (fin false m e) B ≡ true → Within B (fin false m e)
 under nan m e p q h = absurd p
 under (inf s) m e p q h = absurd p
 under (fin true n d) m e p q h = absurd q
 under (fin false n d) m e p q h =
-    record { real = tt; size = plain-le (num (fin false m e) * down d) (down e) (num (fin false n d) * down e) (down d) (le→Le (fin false m e) (fin false n d) tt tt (is (fin false m e) (fin false n d) h) .cross) }
+    record { real = tt; size = plain-le (num (fin false m e) * down d) (down e) (num (fin false n d) * down e) (down d) (le→Le (fin false m e) (fin false n d) tt tt (yes-of h) .cross) }
 
 -- |x| ≤ B
 pub abs-within : (B x : Float) → T (finite B) → T (plain B) → le (abs x) B ≡ true → Within B x

@@ -4,8 +4,8 @@ use mathlib.Core.Bool.{Bool, true, false, not, _||_, cond, Bool·not-not}
 use Prim.Native.Nat.{ℕ, zero, suc, _+_, _*_, _/_, _%_, _^_, _<_}
 use native.Mathlib.Omega.{arith}
 use borrow.Author.Tests.{ne-eqb}
-use lib.Dec.{T, leb, eqb, ltb→lt, eqb-refl}
-use lib.Ieee.{Float, nan, inf, fin, Format, binary64, lt, eq, ne, isNan, up, down, below, level, fits, prec, low, ones, hid, top, odd, ofFields, toBits, ofBits}
+use lib.Dec.{T, leb, ltb, eqb, ltb→lt, eqb-refl}
+use lib.Ieee.{Float, nan, inf, fin, Format, binary64, lt, eq, ne, isNan, up, down, below, level, fits, prec, emax, low, ones, hid, top, odd, units, round, ofFields, toBits, ofBits}
 use lib.Ieee.Bits.{is-true, ofBits-toBits}
 use lib.Ieee.Compare.{differs-from-itself}
 use lib.Ieee.Scale.{finite}
@@ -18,6 +18,18 @@ odd-negative : (d : ℕ) (s : Bool) (q k l : ℕ) → negative (odd d s q k l) �
 unfolding odd
 odd-negative d s zero k l = refl
 odd-negative d s (suc q) k l = refl
+
+units-negative : (f : Format) (s : Bool) (q k : ℕ) → negative (units f s q k) ≡ s
+unfolding units
+units-negative f s q k = go (ltb (q * 2 ^ k) (2 ^ (low f + suc (emax f))))
+  where
+    go : (b : Bool) → negative (cond b (odd (suc (prec f)) s q k (low f)) (inf s)) ≡ s
+    go true = odd-negative (suc (prec f)) s q k (low f)
+    go false = refl
+
+pub round-negative : (f : Format) (s : Bool) (v c : ℕ) → negative (round f s v c) ≡ s
+unfolding round
+round-negative f s v c = units-negative f s _ _
 
 fields-negative : (f : Format) (s : Bool) (x t : ℕ) → T (not (isNan (ofFields f s x t))) → negative (ofFields f s x t) ≡ s
 unfolding ofFields isNan

@@ -25,9 +25,9 @@ pairs-short (h ∷ (l ∷ r)) = let k = pairs-short r in omega arith
 abbrev Few : Answer → Type 0
 Few a = natAbs (number a) ≤ 509
 
-pick-few : (b : Bool) (x y : Answer) → (b ≡ true → Few x) → (b ≡ false → Few y) → Few (cond b x y)
-pick-few true x y f g = f refl
-pick-few false x y f g = g refl
+cond-few : (b : Bool) (x y : Answer) → (b ≡ true → Few x) → (b ≡ false → Few y) → Few (cond b x y)
+cond-few true x y f g = f refl
+cond-few false x y f g = g refl
 
 module _ (s : List Float) (lower upper : Float) (room : ℕ) where
   few-roots : bad-length s ≡ false → length (roots (pairs s) lower upper) ≤ 509
@@ -39,9 +39,9 @@ module _ (s : List Float) (lower upper : Float) (room : ℕ) where
   pub answer-few : Few (answer s lower upper room)
   unfolding answer
   answer-few =
-      pick-few (bad-length s) BadLength _ (λ _. lit≤ tt) (λ h.
-      pick-few (bounds-hold lower upper) _ BadBounds (λ _.
-      pick-few (parts-hold s) _ BadPart (λ _.
-      pick-few (leb (length (roots (pairs s) lower upper)) room) (Count (length (roots (pairs s) lower upper))) ShortResult (λ _. few-roots h) (λ _. lit≤ tt))
+      cond-few (bad-length s) BadLength _ (λ _. lit≤ tt) (λ h.
+      cond-few (bounds-hold lower upper) _ BadBounds (λ _.
+      cond-few (parts-hold s) _ BadPart (λ _.
+      cond-few (leb (length (roots (pairs s) lower upper)) room) (Count (length (roots (pairs s) lower upper))) ShortResult (λ _. few-roots h) (λ _. lit≤ tt))
       (λ _. lit≤ tt))
       (λ _. lit≤ tt))

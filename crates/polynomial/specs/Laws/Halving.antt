@@ -8,7 +8,7 @@ use mathlib.Core.Bool.{Bool, true, false, not, _||_, Bool·beq}
 use lib.Dec.{T, lit≤}
 use lib.Ieee.{Float, binary64, fits, eq}
 use Rattle.float.specs.Number.{negative, middle, zero-float}
-use Rattle.float.specs.Laws.Le.{Le}
+use Rattle.float.specs.Laws.Le.{Le, or-l}
 use Rattle.float.specs.Laws.Interval.{In, Le-refl, Le-trans}
 use Rattle.float.specs.Laws.Whole.{width}
 use Rattle.float.specs.Laws.Middle.{Span, middle-fits, span-width, middle-in, right-half, left-half, middle-strict, middle-none}
@@ -21,10 +21,6 @@ neither true b t = absurd t
 neither false true t = absurd t
 neither false false t = (refl, refl)
 
-either : (a b : Bool) → T a → T (a || b)
-either true b t = tt
-either false b t = absurd t
-
 narrower : {lo hi : Float} → Span 2 lo hi → T (not (ends lo hi)) → (width binary64 (middle lo hi) hi < width binary64 lo hi) × (width binary64 lo (middle lo hi) < width binary64 lo hi)
 narrower {lo} {hi} s t =
     let n = neither (eq (middle lo hi) lo) (eq (middle lo hi) hi) t in
@@ -32,7 +28,7 @@ narrower {lo} {hi} s t =
     (i .right, i .left)
 
 none-inside : {lo hi : Float} → Span 2 lo hi → width binary64 lo hi ≤ 0 → T (ends lo hi)
-none-inside {lo} {hi} s w = either (eq (middle lo hi) lo) (eq (middle lo hi) hi) (middle-none s (omega arith))
+none-inside {lo} {hi} s w = or-l (eq (middle lo hi) lo) (eq (middle lo hi) hi) (middle-none s (omega arith))
 
 -- ---- more turns change nothing
 

@@ -12,15 +12,13 @@ use lib.Seq.{ext-getD, getD-take, getD-drop}
 use lib.Dec.{T}
 use lib.Ieee.{ofBits, binary64}
 use lib.Ieee.Bits.{is-true}
+use Rattle.float.specs.Laws.Le.{yes-of}
 use Rattle.sheet.specs.declared.request.Field.{Field}
 use Rattle.sheet.specs.declared.request.Field.the-variants.{Sign, Arm, Reference, Offset, From, To}
 use Rattle.sheet.specs.Bytes.{le, part, float-at}
 use Rattle.sheet.specs.Request.{request-size, shape-of, reads, place, last, width, byte-read, Agree, AgreeFields, blank}
 use Rattle.sheet.specs.Laws.Places.{byte-is, byte-first, byte-always}
 use Rattle.sheet.specs.Laws.Blank.{length-blank, getD-blank}
-
-yes-of : (b : Bool) → b ≡ true → T b
-yes-of b e = subst⁻¹ T e tt
 
 -- two lists of one length whose bytes agree over a stretch have the same stretch
 stretch : (r s : List ℕ) (at n : ℕ) → length r ≡ length s → ((i : ℕ) → at ≤ i → i < at + n → getD r i 0 ≡ getD s i 0) → part at n r ≡ part at n s
@@ -46,14 +44,14 @@ module _ (r s : List ℕ) (g : Agree r s) where
   same-length = g .whole ∙ sym (g .whole')
 
   pub same-first : (i : ℕ) → i < 4 → getD r i 0 ≡ getD s i 0
-  same-first i h = g .same i (yes-of _ (byte-first (shape-of r) i h))
+  same-first i h = g .same i (yes-of (byte-first (shape-of r) i h))
 
   pub same-shape : shape-of r ≡ shape-of s
   unfolding shape-of
   same-shape = rw (same-first 0 (omega arith), same-first 1 (omega arith), same-first 2 (omega arith))
 
   pub same-always : (i : ℕ) → 10 ≤ i → i < 48 → getD r i 0 ≡ getD s i 0
-  same-always i a b = g .same i (yes-of _ (byte-always (shape-of r) i a b))
+  same-always i a b = g .same i (yes-of (byte-always (shape-of r) i a b))
 
   pub same-part : (f : Field) (j : ℕ) → 1 ≤ j → j ≤ last f → T (reads (shape-of r) f j) → part (place f j) (width f) r ≡ part (place f j) (width f) s
   same-part f j a b t = stretch r s (place f j) (width f) same-length (λ i c d. g .same i (subst⁻¹ T (byte-is (shape-of r) f j i a b c d) t))

@@ -1,7 +1,7 @@
 -- What inner functions find of a request is what the definitions say of it. Assumes nothing.
 use Prim.Native.Nat.{ℕ}
 use native.Mathlib.Omega.{arith}
-use mathlib.Core.Path.{_≡_, refl, sym, ap, subst, subst⁻¹, _∙_}
+use mathlib.Core.Path.{_≡_, refl, sym, ap, subst, _∙_}
 use mathlib.Core.Logic.{_⊎_, inl, inr}
 use mathlib.Core.List.{List}
 use mathlib.Core.Bool.{Bool, true, false, cond, _&&_, false≢true}
@@ -10,7 +10,7 @@ use lib.Dec.{T, eqb, leb}
 use lib.Ieee.{Float, nan, inf, fin, neg, le}
 use lib.Ieee.Fits.{and-l, and-r}
 use Rattle.float.specs.Number.{one-float}
-use Rattle.float.specs.Laws.Le.{le→Le}
+use Rattle.float.specs.Laws.Le.{le→Le, yes-of}
 use Rattle.float.specs.Laws.Within.{Within, Le→within}
 use Rattle.polynomial.specs.Angle.{turn}
 use Rattle.sampling.specs.Stream.{start}
@@ -72,9 +72,6 @@ sign-either b = go (eqb b 1)
     go : (t : Bool) → (cond t one-float (neg one-float) ≡ one-float) ⊎ (cond t one-float (neg one-float) ≡ neg one-float)
     go true = inl refl
     go false = inr refl
-
-yes-of : {b : Bool} → b ≡ true → T b
-yes-of e = subst⁻¹ T e tt
 
 within-is : (x : Float) → within turn x ≡ true → Within turn x
 unfolding within le neg

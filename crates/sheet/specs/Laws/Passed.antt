@@ -4,9 +4,9 @@ use native.Mathlib.Omega.{arith}
 use native.Mathlib.Decide.{decLt}
 use mathlib.Core.Path.{_≡_, refl, sym}
 use mathlib.Core.List.{List}
-use mathlib.Core.Bool.{Bool, true, false, cond, _||_}
-use lib.ListN.{length, getD}
-use lib.Dec.{T, eqb}
+use mathlib.Core.Bool.{Bool, true, false, cond}
+use lib.ListN.{length}
+use lib.Dec.{T}
 use lib.Ieee.Scale.{finite}
 use borrow.Author.Tests.{eqb-true}
 use Rattle.polynomial.specs.Angle.{turn}
@@ -14,10 +14,10 @@ use Rattle.sampling.specs.Pose.{try-normalize}
 use Rattle.sheet.specs.declared.tests.Early.{Early}
 use Rattle.sheet.specs.declared.tests.Early.the-variants.{Ready}
 use Rattle.sheet.specs.declared.request.Field.{Field}
-use Rattle.sheet.specs.declared.request.Field.the-variants.{Sign, Arm, Reference, Offset}
-use Rattle.sheet.specs.Request.{request-size, shape-of, reads, place, last}
+use Rattle.sheet.specs.declared.request.Field.the-variants.{Reference, Offset}
+use Rattle.sheet.specs.Request.{request-size, shape-of, reads, last}
 use Rattle.sheet.specs.Fields.{field, rotation-of}
-use Rattle.sheet.specs.Tests.{all-from, head-right, sign-right, signs-right, rotation-finite, rotation-nonzero, passes, field-right, fields-right, within, eight, arm-within, references-finite, offsets-within}
+use Rattle.sheet.specs.Tests.{all-from, head-right, signs-right, rotation-finite, rotation-nonzero, passes, field-right, fields-right, within, arm-within, references-finite, offsets-within}
 use Rattle.sheet.specs.Refusals.{Verdict, accepted, need, early, told}
 use Rattle.sheet.specs.Laws.Bytes.{and-left, and-right}
 
@@ -91,18 +91,9 @@ opened true p e t = e
 opened false p e t = absurd t
 
 module _ (r : List ℕ) (g : Passed r) where
-  pub passed-sign : (j : ℕ) → 1 ≤ j → j ≤ 6 → T (reads (shape-of r) Sign j)
-      → (eqb (getD r (place Sign j) 0) 1 || eqb (getD r (place Sign j) 0) 255) ≡ true
-  unfolding signs-right sign-right
-  passed-sign j a b t = opened (reads (shape-of r) Sign j) _ (all-holds (sign-right (shape-of r) r) 6 1 j (g .signs) a (omega arith)) t
-
   field-passes : (f : Field) (j : ℕ) → fields-right f r ≡ true → 1 ≤ j → j ≤ last f → T (reads (shape-of r) f j) → passes f (field r f j) ≡ true
   unfolding field-right
   field-passes f j e a b t = opened (reads (shape-of r) f j) _ (all-holds (field-right (shape-of r) f r) (last f) 1 j e a (omega arith)) t
-
-  pub passed-arm : (j : ℕ) → 1 ≤ j → j ≤ 3 → T (reads (shape-of r) Arm j) → within eight (field r Arm j) ≡ true
-  unfolding arm-within passes
-  passed-arm j a b t = field-passes Arm j (g .arm) a b t
 
   pub passed-reference : (j : ℕ) → 1 ≤ j → j ≤ 6 → T (reads (shape-of r) Reference j) → finite (field r Reference j) ≡ true
   unfolding references-finite passes

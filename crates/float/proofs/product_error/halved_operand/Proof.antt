@@ -1,10 +1,9 @@
 -- `float::product_error::halved_operand` meets its contract: the code's constants are 2 ^ 27 + 1 and 2 ^ -768. Assumes nothing.
-use mathlib.Core.Path.{_≡_, ap}
+use mathlib.Core.Path.{ap}
 use mathlib.Core.Bool.{Bool}
 use lib.Ieee.{ofBits}
 use borrow.Author.Needs.{needs}
-use Rattle.float.specs.ProductError.{high-half, low-half, halves}
-use Rattle.float.specs.declared.product_error.Halves.{Halves}
+use Rattle.float.specs.Halves.{high-half, low-half, halves}
 use Rattle.float.proofs.product_error.halved_operand.Statement.{statement}
 use Rattle.float.proofs.product_error.halved_operand.Tie as tie
 

@@ -1,5 +1,5 @@
 -- `float::product_error::product_error_by` meets its contract. Assumes nothing.
-use mathlib.Core.Path.{_≡_, sym, _∙_}
+use mathlib.Core.Path.{sym, _∙_}
 use borrow.Author.Needs.{needs}
 use Rattle.float.proofs.product_error.product_error_by.Statement.{statement}
 use Rattle.float.proofs.product_error.product_error_by.Tie as tie

@@ -1,5 +1,5 @@
 -- `polynomial::halving::narrowed` meets its contract. Assumes nothing.
-use mathlib.Core.Path.{_≡_, subst}
+use mathlib.Core.Path.{subst}
 use borrow.Author.Needs.{needs}
 use Rattle.polynomial.specs.Inside.{Known}
 use Rattle.polynomial.proofs.halving.Turns.{one, done, upper, lower}

@@ -2,7 +2,7 @@
 use mathlib.Core.Path.{_≡_, refl, ap₂}
 use lib.Ieee.{binary64, ofBits, le}
 use borrow.Author.Needs.{needs}
-use Rattle.float.specs.ProductError.{most}
+use Rattle.float.specs.Halves.{most}
 use Rattle.polynomial.proofs.operation.part_holds.Statement.{statement}
 use Rattle.polynomial.proofs.operation.part_holds.Tie as tie
 

@@ -1,5 +1,5 @@
 -- `Compensated::times_by` meets its contract. Assumes nothing.
-use mathlib.Core.Path.{_≡_, sym, ap, _∙_}
+use mathlib.Core.Path.{sym, ap, _∙_}
 use borrow.Author.Needs.{needs}
 use Rattle.polynomial.specs.Compensated.{times}
 use Rattle.polynomial.proofs.compensated.Compensated.times_by.Statement.{statement}

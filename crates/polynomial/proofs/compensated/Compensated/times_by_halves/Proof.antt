@@ -1,5 +1,5 @@
 -- `Compensated::times_by_halves` meets its contract. Assumes nothing.
-use mathlib.Core.Path.{_≡_, ap₂}
+use mathlib.Core.Path.{ap₂}
 use lib.Ieee.{Float}
 use borrow.Author.Needs.{needs}
 use Rattle.float.specs.Number.{_⊕_, _⊗_}
