@@ -102,21 +102,14 @@ fn root(m: u64) -> u64
 {
     let q = guess(m);
     let s = square(q);
-    if s.hi > m + 2 {
-        return seek(m, q);
-    }
-    if m > s.hi + 3 {
+    if s.hi > m + 2 || m > s.hi + 3 {
         return seek(m, q);
     }
     // m * 2^52 - q * q + 3 * 2^52
     let d = ((m + 3 - s.hi) << 52) - s.lo;
-    if d > q + 0x30_0000_0000_0000 {
-        return q + 1;
-    }
-    if d + q <= 0x30_0000_0000_0000 {
-        return q - 1;
-    }
-    q
+    let up = if d > q + 0x30_0000_0000_0000 { 1 } else { 0 };
+    let down = if d + q <= 0x30_0000_0000_0000 { 1 } else { 0 };
+    q + up - down
 }
 
 // The shift that gives q all its 53 digits.

@@ -4,8 +4,10 @@ use Prim.Native.Nat.{ℕ, zero, suc, _+_, _-_, _*_, _%_, _^_, _≤_, _<_}
 use native.Mathlib.Nat.{lt-of-not-le, mul-le-mul}
 use native.Mathlib.Numerals.{unary-clauses}
 use native.Mathlib.Omega.{arith}
-use mathlib.Core.Path.{_≡_, sym, ap, _∙_}
+use mathlib.Core.Path.{_≡_, sym, ap, _∙_, subst}
+use mathlib.Core.Logic.{_⊎_, inl, inr, ⊎-elim}
 use borrow.Author.Needs.{needs}
+use borrow.Author.Tests.{ltb-false}
 use Rattle.float.specs.Parts.{Roots}
 use Rattle.float.proofs.sqrt.root.Statement.{statement}
 use Rattle.float.proofs.sqrt.root.Tie as tie
@@ -46,6 +48,15 @@ module _ (m d q : ℕ) (g : 2 ^ 52 ≤ q) (e : d + q * q ≡ (m + 3) * 2 ^ 52) w
       let x : q * q ≡ (q - 1) * (q - 1) + (q - 1) + q = one-before q (omega arith) in
       record { above = omega (arith, less-one (q - 1)); below = omega arith }
 
+  beside : 2 ^ 52 ≤ m → 0 < d → d ≤ 6 * 2 ^ 52 → (u v : ℕ)
+      → ((q + 3 * 2 ^ 52 < d) × (u ≡ 1)) ⊎ ((d ≤ q + 3 * 2 ^ 52) × (u ≡ 0))
+      → ((d + q ≤ 3 * 2 ^ 52) × (v ≡ 1)) ⊎ ((3 * 2 ^ 52 < d + q) × (v ≡ 0))
+      → Roots (m * 2 ^ 52) (q + u - v)
+  beside l a b u v (inl (x, i)) (inl (y, j)) = absurd (omega arith)
+  beside l a b u v (inl (x, i)) (inr (y, j)) = subst (Roots (m * 2 ^ 52)) (omega arith) (up b x)
+  beside l a b u v (inr (x, i)) (inl (y, j)) = subst (Roots (m * 2 ^ 52)) (omega arith) (down l a y)
+  beside l a b u v (inr (x, i)) (inr (y, j)) = subst (Roots (m * 2 ^ 52)) (omega arith) (same x y)
+
 -- what is known once d is there
 module _ (c : tie.After-struct-known4) where
   abbrev s : tie.After-square
@@ -67,10 +78,16 @@ module _ (c : tie.After-struct-known4) where
   d = (m + 3 - h) * 2 ^ 52 % 2 ^ 64 - l
 
   d-is : d + q * q ≡ (m + 3) * 2 ^ 52
-  d-is = ap (λ (x : ℕ). d + x) (sym (s .square .ensures .0)) ∙ distance h l m (c .before .before .before .before .if1 .left) (c .before .before .if2 .left) (s .square .ensures .1)
+  d-is = ap (λ (x : ℕ). d + x) (sym (s .square .ensures .0)) ∙ distance h l m (c .before .before .before .before .if1 .left) (ltb-false _ _ (c .before .before .if2 .left)) (s .square .ensures .1)
 
   d-within : (0 < d) × (d ≤ 6 * 2 ^ 52)
-  d-within = within h l m (c .before .before .before .before .if1 .left) (c .before .before .if2 .left) (s .square .ensures .1)
+  d-within = within h l m (c .before .before .before .before .if1 .left) (ltb-false _ _ (c .before .before .if2 .left)) (s .square .ensures .1)
+
+up-le : (c : tie.Joined4) → c .before .if3 .up ≤ 1
+up-le c = ⊎-elim (λ w. omega arith) (λ w. omega arith) (c .before .if3 .came)
+
+down-le : (c : tie.Joined4) → c .if4 .down ≤ 1
+down-le c = ⊎-elim (λ w. omega arith) (λ w. omega arith) (c .if4 .came)
 
 guess-requires : tie.Need-guess-requires
 guess-requires c κs = search needs
@@ -81,20 +98,14 @@ square-requires c κs = search needs
 add-if1 : tie.Need-add-if1
 add-if1 c = search needs
 
+add-if2 : tie.Need-add-if2
+add-if2 c = search needs
+
 seek-requires : tie.Need-seek-requires
 seek-requires c κs = search needs
 
 returns : tie.Need-returns
 returns c = search needs
-
-add-if2 : tie.Need-add-if2
-add-if2 c = search needs
-
-seek-requires-2 : tie.Need-seek-requires-2
-seek-requires-2 c κs = search needs
-
-returns-2 : tie.Need-returns-2
-returns-2 c = search needs
 
 add-d : tie.Need-add-d
 add-d c = search needs
@@ -103,28 +114,27 @@ sub-d : tie.Need-sub-d
 sub-d c = search needs
 
 sub-d-2 : tie.Need-sub-d-2
-sub-d-2 c = search needs
+sub-d-2 c = omega (arith, d-within c .0)
 
 add-if3 : tie.Need-add-if3
 add-if3 c = search needs
 
-add-result : tie.Need-add-result
-add-result c = search needs
-
-returns-3 : tie.Need-returns-3
-returns-3 c = let k = c .before in up (m k) (d k) (q k) (s k .before .guess .ensures .0) (d-is k) (d-within k .1) (c .if3 .taken)
-
 add-if4 : tie.Need-add-if4
-add-if4 c = search needs
+add-if4 c = omega (arith, d-within (c .before) .1, s (c .before) .before .guess .ensures .1)
+
+add-result : tie.Need-add-result
+add-result c = omega (arith, up-le (c .before), s (c .before .before .before) .before .guess .ensures .1)
 
 sub-result : tie.Need-sub-result
-sub-result c = search needs
+sub-result c = omega (arith, down-le (c .before .before), s (c .before .before .before .before) .before .guess .ensures .0)
 
-returns-4 : tie.Need-returns-4
-returns-4 c = let k = c .before .before in down (m k) (d k) (q k) (s k .before .guess .ensures .0) (d-is k) (s k .before .before .pre .0) (d-within k .0) (c .if4 .taken)
-
-returns-5 : tie.Need-returns-5
-returns-5 c = let k = c .before .before in same (m k) (d k) (q k) (s k .before .guess .ensures .0) (d-is k) (c .before .if3 .left) (c .if4 .left)
+returns-2 : tie.Need-returns-2
+returns-2 c =
+    let j = c .before .before in
+    let k = j .before .before in
+    beside (m k) (d k) (q k) (s k .before .guess .ensures .0) (d-is k) (s k .before .before .pre .0) (d-within k .0) (d-within k .1) (j .before .if3 .up) (j .if4 .down)
+    (⊎-elim (λ w. inl (w .0 .taken, w .1)) (λ w. inr (w .0 .left, w .1)) (j .before .if3 .came))
+    (⊎-elim (λ w. inl (w .0 .taken, w .1)) (λ w. inr (w .0 .left, w .1)) (j .if4 .came))
 
 pub root-spec : {M : Type 1} → statement M
 root-spec =
@@ -133,18 +143,14 @@ root-spec =
     guess-requires
     square-requires
     add-if1
+    add-if2
     seek-requires
     returns
-    add-if2
-    seek-requires-2
-    returns-2
     add-d
     sub-d
     sub-d-2
     add-if3
-    add-result
-    returns-3
     add-if4
+    add-result
     sub-result
-    returns-4
-    returns-5)
+    returns-2)
