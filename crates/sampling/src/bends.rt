@@ -5,7 +5,9 @@ ghost use Prim.Native.Nat.{_+_, _≤_};
 ghost use lib.ListN.{length};
 ghost use Rattle.polynomial.specs.Curve.{squared-norm-holds};
 ghost use Rattle.sampling.specs.Pushed.{Pushed};
+ghost use Rattle.sampling.specs.Polar as By;
 ghost use Rattle.sampling.specs.Bends as Of;
+use crate::continuum::Polar;
 use crate::continuum::Trig;
 use crate::intervals::Range;
 use crate::marks::Marks;
@@ -13,7 +15,7 @@ use crate::marks::Sixth;
 use crate::rays::poles;
 use crate::rays::push;
 use crate::rays::ray_marks;
-use crate::rays::roots;
+use crate::rays::roots_by;
 use crate::rays::sixth_roots;
 use crate::wrist::Ray;
 use crate::wrist::Wrist;
@@ -69,12 +71,13 @@ fn narrow(sine: f64) -> bool
 }
 
 // Where joint 5 is bent by an angle; narrow ranges near the poles are kept.
-fn bend_roots(cos5: Trig, q4: Ray, angle: f64, out: &mut [f64], n: usize) -> Counted
+fn bend_roots(cos5: Trig, polar: Polar, q4: Ray, angle: f64, out: &mut [f64], n: usize) -> Counted
     requires { ⌜ n + 60 ≤ length (now out) ⌝ }
+    requires { ⌜ polar ≡ By.polar cos5 ⌝ }
     ensures { λ r. ⌜ (r .holds ≡ Of.bend-roots-hold q4 angle) × Pushed 60 (Of.bend-roots cos5 q4 angle) n (now (out .entry)) (r .count) (now (out .exit)) ⌝ }
 {
     let a = sin_cos(angle);
-    let m = roots(cos5, a.cosine, out, n);
+    let m = roots_by(cos5, polar, a.cosine, out, n);
     let sine = abs(a.sine);
     if narrow(sine) {
         return norm_roots(harmonic(q4.x), harmonic(q4.y), sine, out, m);
@@ -86,12 +89,13 @@ fn bend_roots(cos5: Trig, q4: Ray, angle: f64, out: &mut [f64], n: usize) -> Cou
 }
 
 // An angle counts if it is finite.
-fn bend_at(cos5: Trig, q4: Ray, angle: f64, out: &mut [f64], n: usize) -> Counted
+fn bend_at(cos5: Trig, polar: Polar, q4: Ray, angle: f64, out: &mut [f64], n: usize) -> Counted
     requires { ⌜ n + 60 ≤ length (now out) ⌝ }
+    requires { ⌜ polar ≡ By.polar cos5 ⌝ }
     ensures { λ r. ⌜ (r .holds ≡ Of.bend-at-holds q4 angle) × Pushed 60 (Of.bend-at cos5 q4 angle) n (now (out .entry)) (r .count) (now (out .exit)) ⌝ }
 {
     if is_finite(angle) {
-        return bend_roots(cos5, q4, angle, out, n);
+        return bend_roots(cos5, polar, q4, angle, out, n);
     }
     Counted {
         count: n,
@@ -99,8 +103,9 @@ fn bend_at(cos5: Trig, q4: Ray, angle: f64, out: &mut [f64], n: usize) -> Counte
     }
 }
 
-fn bend_range(cos5: Trig, q4: Ray, range: Range, out: &mut [f64], n: usize) -> Counted
+fn bend_range(cos5: Trig, polar: Polar, q4: Ray, range: Range, out: &mut [f64], n: usize) -> Counted
     requires { ⌜ n + 120 ≤ length (now out) ⌝ }
+    requires { ⌜ polar ≡ By.polar cos5 ⌝ }
     ensures { λ r. ⌜ (r .holds ≡ Of.bend-range-holds q4 range) × Pushed 120 (Of.bend-range cos5 q4 range) n (now (out .entry)) (r .count) (now (out .exit)) ⌝ }
 {
     match range {
@@ -109,8 +114,8 @@ fn bend_range(cos5: Trig, q4: Ray, range: Range, out: &mut [f64], n: usize) -> C
             holds: true,
         },
         Range::Between(a, b) => {
-            let first = bend_at(cos5, q4, a, out, n);
-            let second = bend_at(cos5, q4, b, out, first.count);
+            let first = bend_at(cos5, polar, q4, a, out, n);
+            let second = bend_at(cos5, polar, q4, b, out, first.count);
             Counted {
                 count: second.count,
                 holds: first.holds & second.holds,
@@ -120,15 +125,16 @@ fn bend_range(cos5: Trig, q4: Ray, range: Range, out: &mut [f64], n: usize) -> C
 }
 
 // The reference and, with limits, their centre and ends.
-fn bend_marks(cos5: Trig, q4: Ray, marks: Marks, out: &mut [f64], n: usize) -> Counted
+fn bend_marks(cos5: Trig, polar: Polar, q4: Ray, marks: Marks, out: &mut [f64], n: usize) -> Counted
     requires { ⌜ n + 240 ≤ length (now out) ⌝ }
+    requires { ⌜ polar ≡ By.polar cos5 ⌝ }
     ensures { λ r. ⌜ (r .holds ≡ Of.bend-marks-hold q4 marks) × Pushed 240 (Of.bend-marks cos5 q4 marks) n (now (out .entry)) (r .count) (now (out .exit)) ⌝ }
 {
-    let first = bend_at(cos5, q4, marks.reference, out, n);
+    let first = bend_at(cos5, polar, q4, marks.reference, out, n);
     if marks.limited {
-        let second = bend_at(cos5, q4, marks.center, out, first.count);
+        let second = bend_at(cos5, polar, q4, marks.center, out, first.count);
         let range = marks.range;
-        let ends = bend_range(cos5, q4, range, out, second.count);
+        let ends = bend_range(cos5, polar, q4, range, out, second.count);
         return Counted {
             count: ends.count,
             holds: first.holds & (second.holds & ends.holds),
@@ -150,10 +156,12 @@ pub(crate) fn all_roots(
     requires { ⌜ 282 ≤ length (now out) ⌝ }
     ensures { λ r. ⌜ (r .holds ≡ Of.all-roots-hold w fifth) × Pushed 282 (Of.all-roots w near fourth fifth sixth center) 0 (now (out .entry)) (r .count) (now (out .exit)) ⌝ }
 {
+    let cos5 = w.cos5;
+    let polar = cos5.polar();
     let n1 = push(near, out, 0);
-    let n2 = poles(w.cos5, out, n1);
+    let n2 = poles(cos5, polar, out, n1);
     let n3 = ray_marks(w.q4, fourth, out, n2);
-    let bends = bend_marks(w.cos5, w.q4, fifth, out, n3);
+    let bends = bend_marks(cos5, polar, w.q4, fifth, out, n3);
     let n4 = sixth_roots(w, fourth, sixth, out, bends.count);
     let n5 = push(center, out, n4);
     Counted {

@@ -2,6 +2,7 @@
 // harmonics of the free model angle, and where they meet a target.
 ghost use mathlib.Core.Path.{_≡_};
 ghost use Rattle.sampling.specs.Continuum as Of;
+ghost use Rattle.sampling.specs.Polar as By;
 use crate::pose::Vector;
 use crate::pose::dot;
 use float::arc::acos;
@@ -18,6 +19,12 @@ pub struct Trig {
     pub cosine: f64,
     pub sine: f64,
     pub constant: f64,
+}
+
+// Radius and phase of a polynomial.
+pub struct Polar {
+    pub radius: f64,
+    pub phase: f64,
 }
 
 // A vector whose components are first-harmonic polynomials of the free angle.
@@ -71,28 +78,67 @@ impl Trig {
             * (abs(self.cosine) + abs(self.sine) + abs(self.constant) + abs(target))
     }
 
+    // Worked out once where a polynomial has many targets.
+    pub(crate) fn polar(self) -> Polar
+        ensures { λ r. ⌜ r ≡ By.polar self ⌝ }
+    {
+        let radius = hypot(self.cosine, self.sine);
+        let phase = atan2(self.sine, self.cosine);
+        Polar { radius, phase }
+    }
+
+    // Whether the polynomial, of this radius, equals the target anywhere.
+    fn meets(self, radius: f64, target: f64) -> bool
+        ensures { λ r. ⌜ r ≡ By.meets self radius target ⌝ }
+    {
+        let constant = self.constant - target;
+        if is_finite(radius) {
+            if is_finite(constant) {
+                if radius == 0.0 {
+                    return false;
+                }
+                let room = radius + self.error(target);
+                if room < abs(constant) {
+                    return false;
+                }
+                return true;
+            }
+            return false;
+        }
+        false
+    }
+
+    // The wrapped angles on both sides of the phase.
+    fn around(self, polar: Polar, target: f64) -> Crossings
+        ensures { λ r. ⌜ r ≡ By.around self polar target ⌝ }
+    {
+        let constant = self.constant - target;
+        let offset = acos(clamp(-constant / polar.radius));
+        let first = wrapped_angle(polar.phase - offset);
+        let second = wrapped_angle(polar.phase + offset);
+        Crossings::Both(first, second)
+    }
+
     // The wrapped angles where the polynomial equals the target.
     pub fn crossings(self, target: f64) -> Crossings
         ensures { λ r. ⌜ r ≡ Of.crossings self target ⌝ }
     {
         let radius = hypot(self.cosine, self.sine);
-        let constant = self.constant - target;
-        if is_finite(radius) {
-            if is_finite(constant) {
-                if radius == 0.0 {
-                    return Crossings::Neither;
-                }
-                let room = radius + self.error(target);
-                if room < abs(constant) {
-                    return Crossings::Neither;
-                }
-                let phase = atan2(self.sine, self.cosine);
-                let offset = acos(clamp(-constant / radius));
-                let first = wrapped_angle(phase - offset);
-                let second = wrapped_angle(phase + offset);
-                return Crossings::Both(first, second);
-            }
-            return Crossings::Neither;
+        if self.meets(radius, target) {
+            let phase = atan2(self.sine, self.cosine);
+            let polar = Polar { radius, phase };
+            return self.around(polar, target);
+        }
+        Crossings::Neither
+    }
+
+    // The same, by a radius and phase worked out before.
+    pub(crate) fn crossings_by(self, polar: Polar, target: f64) -> Crossings
+        requires { ⌜ polar ≡ By.polar self ⌝ }
+        ensures { λ r. ⌜ r ≡ Of.crossings self target ⌝ }
+    {
+        if self.meets(polar.radius, target) {
+            return self.around(polar, target);
         }
         Crossings::Neither
     }

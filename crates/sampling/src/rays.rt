@@ -6,8 +6,10 @@ ghost use Prim.Native.Nat.{_+_, _≤_, _<_};
 ghost use lib.ListN.{length};
 ghost use Rattle.sampling.specs.Pushed.{Pushed};
 ghost use Rattle.sampling.specs.Continuum as Continuum;
+ghost use Rattle.sampling.specs.Polar as By;
 ghost use Rattle.sampling.specs.Rays as Of;
 use crate::continuum::Crossings;
+use crate::continuum::Polar;
 use crate::continuum::Trig;
 use crate::continuum::line;
 use crate::intervals::Range;
@@ -46,6 +48,15 @@ pub(crate) fn roots(t: Trig, target: f64, out: &mut [f64], n: usize) -> usize
     push_crossings(t.crossings(target), out, n)
 }
 
+// The same, by the polynomial's radius and phase.
+pub(crate) fn roots_by(t: Trig, polar: Polar, target: f64, out: &mut [f64], n: usize) -> usize
+    requires { ⌜ n + 2 ≤ length (now out) ⌝ }
+    requires { ⌜ polar ≡ By.polar t ⌝ }
+    ensures { λ r. ⌜ Pushed 2 (Continuum.roots t target) n (now (out .entry)) r (now (out .exit)) ⌝ }
+{
+    push_crossings(t.crossings_by(polar, target), out, n)
+}
+
 // Angles where the vector lies on the boundary line of an angle.
 pub(crate) fn ray_roots(ray: Ray, angle: f64, out: &mut [f64], n: usize) -> usize
     requires { ⌜ n + 2 ≤ length (now out) ⌝ }
@@ -54,12 +65,13 @@ pub(crate) fn ray_roots(ray: Ray, angle: f64, out: &mut [f64], n: usize) -> usiz
     roots(line(ray.x, ray.y, angle), 0.0, out, n)
 }
 
-pub(crate) fn poles(cos5: Trig, out: &mut [f64], n: usize) -> usize
+pub(crate) fn poles(cos5: Trig, polar: Polar, out: &mut [f64], n: usize) -> usize
     requires { ⌜ n + 4 ≤ length (now out) ⌝ }
+    requires { ⌜ polar ≡ By.polar cos5 ⌝ }
     ensures { λ r. ⌜ Pushed 4 (Of.poles cos5) n (now (out .entry)) r (now (out .exit)) ⌝ }
 {
-    let m = roots(cos5, 1.0, out, n);
-    roots(cos5, -1.0, out, m)
+    let m = roots_by(cos5, polar, 1.0, out, n);
+    roots_by(cos5, polar, -1.0, out, m)
 }
 
 // An angle counts if it is finite.

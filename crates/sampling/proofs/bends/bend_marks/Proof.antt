@@ -6,13 +6,13 @@ use Rattle.sampling.proofs.bends.bend_marks.Statement.{statement}
 use Rattle.sampling.proofs.bends.bend_marks.Tie as tie
 
 bend-at-requires : tie.Need-bend-at-requires
-bend-at-requires c = search needs
+bend-at-requires c κs = (search needs, search needs)
 
 bend-at-requires-2 : tie.Need-bend-at-requires-2
-bend-at-requires-2 c = search needs
+bend-at-requires-2 c κs = (search needs, search needs)
 
 bend-range-requires : tie.Need-bend-range-requires
-bend-range-requires c = search needs
+bend-range-requires c κs = (search needs, search needs)
 
 same-length : tie.Need-same-length
 same-length c = search needs

@@ -12,10 +12,10 @@ enum-known-range : tie.Need-enum-known-range
 enum-known-range c = search needs
 
 bend-at-requires : tie.Need-bend-at-requires
-bend-at-requires c = search needs
+bend-at-requires c κs = (search needs, search needs)
 
 bend-at-requires-2 : tie.Need-bend-at-requires-2
-bend-at-requires-2 c = search needs
+bend-at-requires-2 c κs = (search needs, search needs)
 
 returns : tie.Need-returns
 unfolding bend-range bend-range-holds

@@ -1,23 +1,23 @@
 -- `sampling::rays::poles` meets its contract: at each return, what the calls and the tests on the way to it say. Assumes nothing.
-use lib.Ieee.{ofBits}
 use borrow.Author.Needs.{needs}
 use Rattle.sampling.specs.Laws.Pushed.{then}
 use Rattle.sampling.specs.Rays.{poles}
+use lib.Ieee.{ofBits}
 use Rattle.sampling.proofs.rays.poles.Statement.{statement}
 use Rattle.sampling.proofs.rays.poles.Tie as tie
 
-roots-requires : tie.Need-roots-requires
-roots-requires c = search needs
+roots-by-requires : tie.Need-roots-by-requires
+roots-by-requires c κs = (search needs, search needs)
 
-roots-requires-2 : tie.Need-roots-requires-2
-roots-requires-2 c = search needs
+roots-by-requires-2 : tie.Need-roots-by-requires-2
+roots-by-requires-2 c κs = (search needs, search needs)
 
 same-length : tie.Need-same-length
 same-length c = search needs
 
 returns : tie.Need-returns
 unfolding poles ofBits
-returns c = then (c .before .before .before .before .before .before .roots .ensures) (c .before .before .roots2 .ensures)
+returns c = then (c .before .before .before .before .before .before .roots-by .ensures) (c .before .before .roots-by2 .ensures)
 
 pub poles-spec : {M : Type 1} → statement M
-poles-spec = tie.close (tie.spec roots-requires roots-requires-2 same-length returns)
+poles-spec = tie.close (tie.spec roots-by-requires roots-by-requires-2 same-length returns)

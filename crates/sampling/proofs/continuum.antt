@@ -1,0 +1,2 @@
+-- What the proofs of `continuum` share.
+mod Steps
