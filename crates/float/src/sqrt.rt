@@ -58,13 +58,13 @@ fn guess(m: u64) -> u64
 }
 
 // hi * 2^52 + lo.
-struct Halves {
+struct Product {
     hi: u64,
     lo: u64,
 }
 
 // q * q. With q cut into a * 2^26 + b, that is a * a * 2^52 + 2 * a * b * 2^26 + b * b.
-fn square(q: u64) -> Halves
+fn square(q: u64) -> Product
     requires { ⌜ q ≤ 2 ^ 53 ⌝ }
     ensures { λ r. ⌜ (r .hi * 2 ^ 52 + r .lo ≡ q * q) × (r .lo < 2 ^ 52) × (r .hi ≤ 2 ^ 55) ⌝ }
 {
@@ -72,7 +72,7 @@ fn square(q: u64) -> Halves
     let b = q & 0x3ff_ffff;
     let s = b * b;
     let t = 2 * a * b + (s >> 26);
-    Halves {
+    Product {
         hi: a * a + (t >> 26),
         lo: ((t & 0x3ff_ffff) << 26) + (s & 0x3ff_ffff),
     }
