@@ -1,5 +1,5 @@
 -- From the boundary angles of one free joint to its samples: the end of `sample_angles` of continuum.rs (01, module 5). Cuts: each interval's list after its dedup. Definitions only.
-use mathlib.Core.Bool.{false, cond}
+use mathlib.Core.Bool.{cond}
 use mathlib.Core.List.{List, [], _∷_, _++_}
 use Prim.Native.Nat.{ℕ, zero, suc, _*_}
 use lib.Ieee.{Float, neg, le}

@@ -1,5 +1,5 @@
 -- Laws of cuts that grow in a lent slice: nothing, one value, one list after another. Assumes nothing.
-use mathlib.Core.Path.{_≡_, refl, sym, ap, subst, subst₂, _∙_}
+use mathlib.Core.Path.{_≡_, refl, sym, subst, subst₂}
 use mathlib.Core.Bool.{Bool, true, false, cond}
 use mathlib.Core.List.{List, [], _∷_, _++_, append-assoc, append-nil}
 use Prim.Native.Nat.{ℕ, _+_, _≤_, _<_}
@@ -11,7 +11,7 @@ use lib.Ieee.{Float, binary64, fits}
 use Rattle.polynomial.specs.declared.cuts.Put.{Put}
 use Rattle.polynomial.specs.declared.cuts.Put.the-variants.{Count, Full}
 use Rattle.polynomial.specs.Insert.{grown, putAnswer, putRoom, pushAnswer, pushRoom}
-use Rattle.polynomial.specs.Laws.Cuts.{Fit, fit-append}
+use Rattle.polynomial.specs.Laws.Cuts.{fit-append}
 use Rattle.polynomial.specs.Laws.Held.{Kept, kept-none, kept-within, kept-push}
 use Rattle.sampling.specs.Grown.{Grown, counted, number}
 
