@@ -1,15 +1,18 @@
 -- The fused product does not see the sign of a zero (`Like`), and minus goes through it (`Opp`). Assumes nothing.
+-- `by-parts-srnd`: of finite values it is one rounded difference.
 -- The laws are proved of `by-parts`, another text of it, by the product and then the addend: `mul-add-is` says that the two are one.
-use mathlib.Core.Path.{_≡_, refl, sym, ap, _∙_}
-use Prim.Native.Nat.{ℕ, zero, suc, _*_, _<_}
-use native.Mathlib.Nat.{zero-mul, mul-one, mul-pos, mul-assoc, mul-comm, mul-left-comm, zero-lt-suc}
+use Prim.Native.Nat.{ℕ, zero, suc, _+_, _*_, _<_}
+use native.Mathlib.Nat.{add-zero, zero-add, add-comm, zero-mul, mul-zero, mul-one, mul-pos, mul-assoc, mul-comm, mul-left-comm, zero-lt-suc}
+use mathlib.Core.Path.{_≡_, refl, sym, ap, ap₂, _∙_}
 use mathlib.Core.Bool.{Bool, true, false, not, Bool·beq, cond}
-use lib.Dec.{eqb}
+use lib.Dec.{T, eqb}
 use lib.Ieee.{Float, nan, inf, fin, Format, unlike, up, down, neg, sum, add}
 use lib.Ieee.Fits.{down-pos}
-use lib.Ieee.Scale.{round-same}
+use lib.Ieee.Scale.{round-same, finite}
+use lib.Ieee.Positive.{den}
 use Rattle.float.specs.MulAdd.{mul-add}
 use Rattle.float.specs.Laws.Sign.{strip, Alike, sum-neg, unlike-l, unlike-r}
+use Rattle.float.specs.Laws.Le.{pl, mi, srnd, sum-srnd}
 use Rattle.float.specs.Laws.Like.{Like, Opp, first-zero, second-zero, from-opp, to-opp, like-trans, like-sym, zero-l, zero-r}
 
 -- ±a / c, exact, plus z
@@ -152,6 +155,74 @@ by-parts-opp f {x} {y} {z} p q r = to-opp (like-trans (by-parts-like f (from-opp
 
 pub by-parts-opp-r : (f : Format) {x x' y y' z z' : Float} → Like x x' → Opp y y' → Opp z z' → Opp (by-parts f x y z) (by-parts f x' y' z')
 by-parts-opp-r f {x} {y} {z} p q r = to-opp (like-trans (by-parts-like f (like-sym p) (from-opp q) (from-opp r)) (record { same = by-parts-neg-r f x y z }))
+
+-- ---- the fused product as a rounded difference
+prod-plus : (s t : Bool) (M N w : ℕ) → (cond s 0 M * cond t 0 N + cond s M 0 * cond t N 0) * w ≡ cond (unlike s t) 0 (M * N * w)
+prod-plus true true M N w = ap (λ (z : ℕ). z * w) (zero-add (M * N))
+prod-plus true false M N w = ap (λ (z : ℕ). z * w) (ap₂ (λ (x y : ℕ). x + y) (zero-mul N) (mul-zero M)) ∙ zero-mul w
+prod-plus false true M N w = ap (λ (z : ℕ). z * w) (ap₂ (λ (x y : ℕ). x + y) (mul-zero M) (zero-mul N)) ∙ zero-mul w
+prod-plus false false M N w = ap (λ (z : ℕ). z * w) (add-zero (M * N))
+
+prod-minus : (s t : Bool) (M N w : ℕ) → (cond s 0 M * cond t N 0 + cond s M 0 * cond t 0 N) * w ≡ cond (unlike s t) (M * N * w) 0
+prod-minus true true M N w = ap (λ (z : ℕ). z * w) (ap₂ (λ (x y : ℕ). x + y) (zero-mul N) (mul-zero M)) ∙ zero-mul w
+prod-minus true false M N w = ap (λ (z : ℕ). z * w) (zero-add (M * N))
+prod-minus false true M N w = ap (λ (z : ℕ). z * w) (add-zero (M * N))
+prod-minus false false M N w = ap (λ (z : ℕ). z * w) (ap₂ (λ (x y : ℕ). x + y) (mul-zero M) (zero-mul N)) ∙ zero-mul w
+
+one-plus : (u : Bool) (K c : ℕ) → cond u 0 K * c ≡ cond u 0 (K * c)
+one-plus true K c = zero-mul c
+one-plus false K c = refl
+
+one-minus : (u : Bool) (K c : ℕ) → cond u K 0 * c ≡ cond u (K * c) 0
+one-minus true K c = refl
+one-minus false K c = zero-mul c
+
+pl-is : (s : Bool) (m : ℕ) (e : lib.IntN.ℤ) → pl (fin s m e) ≡ cond s 0 (m * up e)
+pl-is true m e = refl
+pl-is false m e = refl
+
+mi-is : (s : Bool) (m : ℕ) (e : lib.IntN.ℤ) → mi (fin s m e) ≡ cond s (m * up e) 0
+mi-is true m e = refl
+mi-is false m e = refl
+
+pub by-parts-srnd : (f : Format) (x y z : Float) → T (finite x) → T (finite y) → T (finite z)
+    → Alike (by-parts f x y z) (srnd f ((pl x * pl y + mi x * mi y) * den z + pl z * (den x * den y)) ((pl x * mi y + mi x * pl y) * den z + mi z * (den x * den y)) (den x * den y * den z))
+unfolding by-parts
+by-parts-srnd f nan y z p q r = absurd p
+by-parts-srnd f (inf s) y z p q r = absurd p
+by-parts-srnd f (fin s m e) nan z p q r = absurd q
+by-parts-srnd f (fin s m e) (inf t) z p q r = absurd q
+by-parts-srnd f (fin s m e) (fin t n d) nan p q r = absurd r
+by-parts-srnd f (fin s m e) (fin t n d) (inf u) p q r = absurd r
+by-parts-srnd f (fin s m e) (fin t n d) (fin u k g) p q r =
+    sum-srnd f (unlike s t) (m * up e * (n * up d) * down g) u (k * up g * (down e * down d)) (down e * down d * down g) P N (mul-pos (mul-pos (down-pos e) (down-pos d)) (down-pos g)) (ap₂ (λ (x y : ℕ). x + y) isP (sym isN) ∙ add-comm _ _)
+  where
+    X : Float
+    X = fin s m e
+
+    Y : Float
+    Y = fin t n d
+
+    Z : Float
+    Z = fin u k g
+
+    P : ℕ
+    P = (pl (fin s m e) * pl (fin t n d) + mi (fin s m e) * mi (fin t n d)) * down g + pl (fin u k g) * (down e * down d)
+
+    N : ℕ
+    N = (pl (fin s m e) * mi (fin t n d) + mi (fin s m e) * pl (fin t n d)) * down g + mi (fin u k g) * (down e * down d)
+
+    isP : (pl (fin s m e) * pl (fin t n d) + mi (fin s m e) * mi (fin t n d)) * down g + pl (fin u k g) * (down e * down d) ≡ cond (unlike s t) 0 (m * up e * (n * up d) * down g) + cond u 0 (k * up g * (down e * down d))
+    isP =
+        ap₂ (λ (x y : ℕ). x + y)
+        (ap₂ (λ (x y : ℕ). (x + y) * down g) (ap₂ (λ (x y : ℕ). x * y) (pl-is s m e) (pl-is t n d)) (ap₂ (λ (x y : ℕ). x * y) (mi-is s m e) (mi-is t n d)) ∙ prod-plus s t (m * up e) (n * up d) (down g))
+        (ap (λ (x : ℕ). x * (down e * down d)) (pl-is u k g) ∙ one-plus u (k * up g) (down e * down d))
+
+    isN : (pl (fin s m e) * mi (fin t n d) + mi (fin s m e) * pl (fin t n d)) * down g + mi (fin u k g) * (down e * down d) ≡ cond (unlike s t) (m * up e * (n * up d) * down g) 0 + cond u (k * up g * (down e * down d)) 0
+    isN =
+        ap₂ (λ (x y : ℕ). x + y)
+        (ap₂ (λ (x y : ℕ). (x + y) * down g) (ap₂ (λ (x y : ℕ). x * y) (pl-is s m e) (mi-is t n d)) (ap₂ (λ (x y : ℕ). x * y) (mi-is s m e) (pl-is t n d)) ∙ prod-minus s t (m * up e) (n * up d) (down g))
+        (ap (λ (x : ℕ). x * (down e * down d)) (mi-is u k g) ∙ one-minus u (k * up g) (down e * down d))
 
 -- ---- the definition's own text
 plusInf-is : (f : Format) (s : Bool) (z : Float) → plusInf s z ≡ add f (inf s) z

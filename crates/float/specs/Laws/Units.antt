@@ -215,7 +215,7 @@ mul-srnd' f (fin false m e) (fin true n d) p q = signed-neg f (m * up e * (n * u
 mul-srnd' f (fin false m e) (fin false n d) p q = signed-pos f (m * up e * (n * up d)) (m * up e * (n * up d) + 0 * 0) (m * up e * 0 + 0 * (n * up d)) (down e * down d) (omega arith)
 
 -- (α - α') (β - β') = (P - N) (Q - M) from α - α' = P - N and β - β' = Q - M
-cross-mul : (a a' b b' P N Q M : ℕ) → a + N ≡ P + a' → b + M ≡ Q + b' → a * b + a' * b' + (P * M + N * Q) ≡ P * Q + N * M + (a * b' + a' * b)
+pub cross-mul : (a a' b b' P N Q M : ℕ) → a + N ≡ P + a' → b + M ≡ Q + b' → a * b + a' * b' + (P * M + N * Q) ≡ P * Q + N * M + (a * b' + a' * b)
 cross-mul a a' b b' P N Q M h k =
     let e1 : a * b + N * b ≡ P * b + a' * b = sym (add-mul a N b) ∙ ap (λ (z : ℕ). z * b) h ∙ add-mul P a' b in
     let e2 : a * b' + N * b' ≡ P * b' + a' * b' = sym (add-mul a N b') ∙ ap (λ (z : ℕ). z * b') h ∙ add-mul P a' b' in
