@@ -1,27 +1,32 @@
 -- Rounding errors, in units of the format's smallest value, 2 ^ -1074. `Close x p n e`: x is finite and at most e units away from p - n.
 -- A value of up to 2 ^ 53 * h units is rounded by at most h of them: so errors through sums and differences (`close-add`, `close-sub`) are sums, and `omega` adds them up.
--- Assumes nothing.
+-- A rounded product is within h units (`mul-close`), its error within 2 * h (`error-close`); far enough from zero the sign is known (`close-positive`, `close-negative`). Assumes nothing.
 use Prim.Native.Nat.{ℕ, zero, suc, _+_, _-_, _*_, _/_, _^_, _≤_, _<_}
-use native.Mathlib.Nat.{le-of-eq, le-of-lt, le-of-suc-le-suc, lt-of-le-of-lt, lt-of-not-le, mul-pos, mul-one, zero-add, mul-assoc, mul-comm, mul-right-comm, add-mul, suc-mul, pow-suc, le-of-mul-le-mul-right, mul-le-mul-right, mul-le-mul-left, mul-lt-mul-of-pos-right, div-lt-iff-lt-mul, zero-lt-suc, lt-irrefl}
+use native.Mathlib.Nat.{le-trans, le-of-eq, le-of-lt, le-of-suc-le-suc, lt-of-le-of-lt, lt-of-not-le, mul-pos, mul-one, zero-mul, zero-add, mul-assoc, mul-comm, mul-right-comm, mul-mul-mul-comm, add-mul, suc-mul, pow-suc, le-of-mul-le-mul-right, mul-le-mul-right, mul-le-mul-left, mul-lt-mul-of-pos-right, div-lt-iff-lt-mul, zero-lt-suc, lt-irrefl}
 use native.Mathlib.Omega.{arith}
-use mathlib.Core.Path.{_≡_, refl, sym, ap, _∙_, subst}
+use mathlib.Core.Path.{_≡_, refl, sym, ap, ap₂, _∙_, subst}
+use mathlib.Core.Logic.{_⊎_, inl, inr}
 use mathlib.Core.Bool.{Bool, true, false, not, cond}
 use lib.Dec.{T, leb, leb→le, nleb→lt, ltb→lt}
 use lib.Pow.{pow-add, pow-pos}
-use lib.Ieee.{Float, Format, binary64, prec, low, up, size, round, neg, add, sub}
+use lib.Ieee.{Float, nan, inf, fin, Format, binary64, prec, low, up, down, size, round, neg, add, sub, mul, eq}
 use lib.Ieee.Digits.{size-le}
-use lib.Ieee.Fits.{two, two-le-pos}
+use lib.Ieee.Fits.{down-pos, two, two-le-pos}
 use lib.Ieee.Order.{drop, kept}
 use lib.Ieee.Scale.{grid, overflow, round-val}
 use lib.Ieee.Positive.{den, den-pos}
-use Rattle.float.specs.Number.{_⊕_, _⊖_}
+use lib.IntN.{ℤ}
+use Rattle.float.specs.Number.{_⊕_, _⊖_, _⊗_, zero-float, abs, negative}
 use Rattle.float.specs.Laws.Sign.{Alike, round-neg}
 use Rattle.float.specs.Laws.Le.{pl, mi, srnd, add-srnd}
-use Rattle.float.specs.Laws.Units.{Is, Is-alike, Is-neg, plus-Is, flat, sum-eq}
+use Rattle.float.specs.Laws.Units.{Is, Is-alike, Is-neg, plus-Is, flat, cross-mul, mul-srnd', sum-eq}
 use Rattle.float.specs.Laws.Near.{closest-near}
+use Rattle.float.specs.ProductError.{product-error}
+use Rattle.float.specs.Laws.Zero.{zero-of, zero-bits}
+use Rattle.float.specs.Laws.Like.{zero-l}
+use Rattle.float.specs.Laws.MulAdd.{by-parts, by-parts-srnd, mul-add-is}
 
 -- ---- the error of `round`
--- k digits are dropped off a number of at most 2 ^ p * h: then 2 ^ k is at most 2 * h
 few : (z p k : ℕ) → 0 < p → 0 < k → k ≡ z - p → z ≤ p - 1 + k → ⊥
 few z p k P K e h = omega arith
 
@@ -35,6 +40,7 @@ half-power p k P = sym (pow-suc 2 (p - 1 + k)) ∙ ap (λ (z : ℕ). 2 ^ z) (go 
     go : (p k : ℕ) → 0 < p → suc (p - 1 + k) ≡ p + k
     go p k P = omega arith
 
+-- k digits are dropped off a number of at most 2 ^ p * h: then 2 ^ k is at most 2 * h
 dropped : (p n c h : ℕ) → 0 < p → 0 < c → 0 < h → n ≤ 2 ^ p * h * c → 2 ^ drop p n c ≤ 2 * h
 dropped p n c h P C H l = le-of-suc-le-suc (lt-of-not-le (λ (g : suc (2 * h) ≤ 2 ^ drop p n c). few (size (n / c)) p (drop p n c) P (past-one (drop p n c) h H g) refl (size-le (n / c) (p - 1 + drop p n c) (div-lt-iff-lt-mul C .1 (less g)))))
   where
@@ -47,6 +53,7 @@ dropped p n c h P C H l = le-of-suc-le-suc (lt-of-not-le (λ (g : suc (2 * h) �
         let e : 2 ^ p * h < 2 ^ (p - 1 + k) = omega arith in
         lt-of-le-of-lt l (mul-lt-mul-of-pos-right e C)
 
+-- a / c is rounded by at most h units
 grid-off : (f : Format) (a c h : ℕ) → 0 < c → 0 < h → a * 2 ^ low f ≤ 2 ^ prec f * h * c → (grid f a c * c ≤ a * 2 ^ low f + h * c) × (a * 2 ^ low f ≤ grid f a c * c + h * c)
 grid-off f a c h C H l =
     let n = a * 2 ^ low f in
@@ -178,6 +185,11 @@ Room h = (0 < h) × (h ≤ 2 ^ 2000)
 room-low : (h : ℕ) → h ≤ 2 ^ 2000 → Low binary64 h
 room-low h l = lt-of-le-of-lt (mul-le-mul-left (suc (2 ^ 53)) l) (ltb→lt (suc (2 ^ 53) * 2 ^ 2000) (2 ^ 2098) tt)
 
+-- for h in multiples of W
+pub room-of : (h : ℕ) → 0 < h → h ≤ 2 ^ 100 * W → Room h
+unfolding W
+room-of h H l = (H, le-trans l (leb→le (2 ^ 100 * 2 ^ 1074) (2 ^ 2000) tt))
+
 -- exactly its own units
 pub close-self : {x : Float} (p n : ℕ) → Is binary64 x p n 0 → Close x p n 0
 close-self p n k = record { r = p; s = n; is = k; over = omega arith; under = omega arith }
@@ -241,3 +253,183 @@ close-add {x} {y} p n q m e d h R a b k l =
 pub close-sub : {x y : Float} (p n q m e d h : ℕ) → Room h → p + m + e + d ≤ n + q + 2 ^ 53 * h → n + q + e + d ≤ p + m + 2 ^ 53 * h → Close x p n e → Close y q m d → Close (x ⊖ y) (p + m) (n + q) (e + d + h)
 unfolding sub
 close-sub p n q m e d h R a b k l = close-add p n m q e d h R a b k (close-neg q m d l)
+
+-- ---- products
+-- z is finite, and W * z at most e * W away from a - b: a product of two counts of units is a count of units of 2 ^ -2148
+pub record Product (z : Float) (a b e : ℕ) : Type 0 where
+  pub r : ℕ
+  pub s : ℕ
+  pub is : Is binary64 z r s 0
+  pub over : r * W + b ≤ a + s * W + e * W
+  pub under : a + s * W ≤ r * W + b + e * W
+
+product-flat : (u p n d a a' q m e b b' : ℕ) → a * u + n * d ≡ p * d + a' * u → b * u + m * e ≡ q * e + b' * u
+    → (a * b + a' * b') * (u * u) + (p * m + n * q) * (d * e) ≡ (p * q + n * m) * (d * e) + (a * b' + a' * b) * (u * u)
+product-flat u p n d a a' q m e b b' h k =
+    ap₂ (λ (x y : ℕ). x + y) (both a b a' b' u u) (both p m n q d e)
+    ∙ cross-mul (a * u) (a' * u) (b * u) (b' * u) (p * d) (n * d) (q * e) (m * e) h k
+    ∙ sym (ap₂ (λ (x y : ℕ). x + y) (both p q n m d e) (both a b' a' b u u))
+  where
+    both : (s t s' t' v w : ℕ) → (s * t + s' * t') * (v * w) ≡ s * v * (t * w) + s' * v * (t' * w)
+    both s t s' t' v w = add-mul (s * t) (s' * t') (v * w) ∙ ap₂ (λ (x y : ℕ). x + y) (mul-mul-mul-comm s t v w) (mul-mul-mul-comm s' t' v w)
+
+module _ (f : Format) (x y : Float) (p n q m h : ℕ) (H : 0 < h) (R : Low f h) (i : Is f x p n 0) (j : Is f y q m 0) where
+  value-of : (pl x * pl y + mi x * mi y) * (2 ^ low f * 2 ^ low f) + (p * m + n * q) * (den x * den y) ≡ (p * q + n * m) * (den x * den y) + (pl x * mi y + mi x * pl y) * (2 ^ low f * 2 ^ low f)
+  value-of = product-flat (2 ^ low f) p n (den x) (pl x) (mi x) q m (den y) (pl y) (mi y) (flat f x p n i) (flat f y q m j)
+
+  mul-off : p * q + n * m ≤ p * m + n * q + 2 ^ prec f * h * 2 ^ low f → p * m + n * q ≤ p * q + n * m + 2 ^ prec f * h * 2 ^ low f → Off f (mul f x y) (p * q + n * m) (p * m + n * q) (2 ^ low f) h
+  mul-off s t =
+      off-alike f (srnd f (pl x * pl y + mi x * mi y) (pl x * mi y + mi x * pl y) (den x * den y)) (mul f x y) (p * q + n * m) (p * m + n * q) (2 ^ low f) h (sym (mul-srnd' f x y (i .real) (j .real)))
+      (rounded f (pl x * pl y + mi x * mi y) (pl x * mi y + mi x * pl y) (den x * den y) (p * q + n * m) (p * m + n * q) (2 ^ low f) (2 ^ low f * 2 ^ low f) h (mul-pos (den-pos x) (den-pos y)) (pow-pos (low f)) H R refl s t value-of)
+
+  -- with an addend of k - l units
+  fused-off : (z : Float) (k l : ℕ) → Is f z k l 0 → p * q + n * m + k * 2 ^ low f ≤ p * m + n * q + l * 2 ^ low f + 2 ^ prec f * h * 2 ^ low f → p * m + n * q + l * 2 ^ low f ≤ p * q + n * m + k * 2 ^ low f + 2 ^ prec f * h * 2 ^ low f
+      → Off f (by-parts f x y z) (p * q + n * m + k * 2 ^ low f) (p * m + n * q + l * 2 ^ low f) (2 ^ low f) h
+  fused-off z k l g s t =
+      let a = pl x * pl y + mi x * mi y in
+      let b = pl x * mi y + mi x * pl y in
+      let c = den x * den y in
+      let u = 2 ^ low f in
+      let v : pl z * (u * u) + l * u * den z ≡ k * u * den z + mi z * (u * u) = times u (pl z) l (den z) k (mi z) (flat f z k l g) in
+      off-alike f (srnd f (a * den z + pl z * c) (b * den z + mi z * c) (c * den z)) (by-parts f x y z) (p * q + n * m + k * u) (p * m + n * q + l * u) u h (sym (by-parts-srnd f x y z (i .real) (j .real) (g .real)))
+      (rounded f (a * den z + pl z * c) (b * den z + mi z * c) (c * den z) (p * q + n * m + k * u) (p * m + n * q + l * u) u (u * u) h (mul-pos (mul-pos (den-pos x) (den-pos y)) (den-pos z)) (pow-pos (low f)) H R refl s t
+      (sum-flat (u * u) (p * q + n * m) (p * m + n * q) c a b (k * u) (l * u) (den z) (pl z) (mi z) value-of v))
+    where
+      times : (u a n d p b : ℕ) → a * u + n * d ≡ p * d + b * u → a * (u * u) + n * u * d ≡ p * u * d + b * (u * u)
+      times u a n d p b e =
+          ap₂ (λ (x y : ℕ). x + y) (sym (mul-assoc a u u)) (mul-right-comm n u d)
+          ∙ sym (add-mul (a * u) (n * d) u)
+          ∙ ap (λ (z : ℕ). z * u) e
+          ∙ add-mul (p * d) (b * u) u
+          ∙ ap₂ (λ (x y : ℕ). x + y) (mul-right-comm p d u) (mul-assoc b u u)
+
+pub mul-close : {x y : Float} (p n q m h : ℕ) → Room h → p * q + n * m ≤ p * m + n * q + 2 ^ 53 * h * W → p * m + n * q ≤ p * q + n * m + 2 ^ 53 * h * W → Is binary64 x p n 0 → Is binary64 y q m 0 → Product (x ⊗ y) (p * q + n * m) (p * m + n * q) h
+unfolding W
+mul-close {x} {y} p n q m h R a b i j =
+    let o = mul-off binary64 x y p n q m h (R .0) (room-low h (R .1)) i j a b in
+    record { r = o .r; s = o .s; is = o .is; over = o .over; under = o .under }
+
+-- ---- the error of that product
+enough : (k h u : ℕ) → 0 < k → h * u ≤ k * h * u
+enough k h u K =
+    let a : 1 * (h * u) ≤ k * (h * u) = mul-le-mul-right (h * u) K in
+    let b : k * h * u ≡ k * (h * u) = mul-assoc k h u in
+    omega arith
+
+twice : (P N A B u h r s : ℕ) → 0 < u → P + A ≤ B + N + h * u → B + N ≤ P + A + h * u → r * u + (N + B) ≤ P + A + s * u + h * u → P + A + s * u ≤ r * u + (N + B) + h * u → (r ≤ s + 2 * h) × (s ≤ r + 2 * h)
+twice P N A B u h r s U a b c d =
+    let e : (s + 2 * h) * u ≡ s * u + 2 * (h * u) = add-mul s (2 * h) u ∙ ap (λ (z : ℕ). s * u + z) (mul-assoc 2 h u) in
+    let g : (r + 2 * h) * u ≡ r * u + 2 * (h * u) = add-mul r (2 * h) u ∙ ap (λ (z : ℕ). r * u + z) (mul-assoc 2 h u) in
+    let l : r * u ≤ (s + 2 * h) * u = omega arith in
+    let t : s * u ≤ (r + 2 * h) * u = omega arith in
+    (le-of-mul-le-mul-right l U, le-of-mul-le-mul-right t U)
+
+error-off : (f : Format) (x y : Float) (p n q m h : ℕ) → 0 < h → Low f h → Is f x p n 0 → Is f y q m 0 → (o : Off f (mul f x y) (p * q + n * m) (p * m + n * q) (2 ^ low f) h)
+    → Off f (by-parts f x y (neg (mul f x y))) (p * q + n * m + o .s * 2 ^ low f) (p * m + n * q + o .r * 2 ^ low f) (2 ^ low f) h
+error-off f x y p n q m h H R i j o =
+    let a = o .over in
+    let b = o .under in
+    let e = enough (2 ^ prec f) h (2 ^ low f) (pow-pos (prec f)) in
+    fused-off f x y p n q m h H R i j (neg (mul f x y)) (o .s) (o .r) (Is-neg f (mul f x y) (o .r) (o .s) 0 (o .is)) (omega arith) (omega arith)
+
+error-near : (f : Format) (x y : Float) (P N h : ℕ) (o : Off f x P N (2 ^ low f) h) → Off f y (P + o .s * 2 ^ low f) (N + o .r * 2 ^ low f) (2 ^ low f) h → Off f y 0 0 1 (2 * h)
+error-near f x y P N h o k =
+    let a = o .over in
+    let b = o .under in
+    let g = twice P N (o .s * 2 ^ low f) (o .r * 2 ^ low f) (2 ^ low f) h (k .r) (k .s) (pow-pos (low f)) b (omega arith) (k .over) (k .under) in
+    record { r = k .r; s = k .s; is = k .is; over = omega arith; under = omega arith }
+
+pub error-close : {x y : Float} (p n q m h : ℕ) → Room h → p * q + n * m ≤ p * m + n * q + 2 ^ 53 * h * W → p * m + n * q ≤ p * q + n * m + 2 ^ 53 * h * W → Is binary64 x p n 0 → Is binary64 y q m 0 → Close (product-error x y) 0 0 (2 * h)
+unfolding W
+error-close {x} {y} p n q m h R a b i j =
+    let z = x ⊗ y in
+    let o = mul-off binary64 x y p n q m h (R .0) (room-low h (R .1)) i j a b in
+    subst (λ (v : Float). Close v 0 0 (2 * h)) (mul-add-is binary64 x y (neg z))
+    (settle (error-near binary64 z (by-parts binary64 x y (neg z)) (p * q + n * m) (p * m + n * q) h o (error-off binary64 x y p n q m h (R .0) (room-low h (R .1)) i j o)))
+  where
+    settle : {v : Float} → Off binary64 v 0 0 1 (2 * h) → Close v 0 0 (2 * h)
+    settle k =
+        let g = k .over in
+        let l = k .under in
+        record { r = k .r; s = k .s; is = k .is; over = omega arith; under = omega arith }
+
+-- ---- signs from closeness
+not-zero : (s : Bool) (m : ℕ) (e : ℤ) → (m ≡ 0 → ⊥) → eq (fin s m e) zero-float ≡ false
+not-zero s m e h = go (eq (fin s m e) zero-float) refl
+  where
+    go : (b : Bool) → eq (fin s m e) zero-float ≡ b → b ≡ false
+    go true k = absurd (h (zero-of s m e (ap (λ (v : Float). eq (fin s m e) v) zero-bits ∙ k)))
+    go false k = refl
+
+flat-minus : (f : Format) (x : Float) (p n : ℕ) → Is f x p n 0 → mi x * 2 ^ low f + p * den x ≡ n * den x + pl x * 2 ^ low f
+flat-minus f x p n k = let h = flat f x p n k in omega arith
+
+-- A - B = (r - s) * d with r above s
+lead : (A B d r s : ℕ) → 0 < d → s < r → A + s * d ≡ r * d + B → B < A
+lead A B d r s D l e =
+    let a : s * d < r * d = mul-lt-mul-of-pos-right l D in
+    omega arith
+
+nothing : (m a u : ℕ) → m ≡ 0 → m * a * u ≡ 0
+nothing m a u h = ap (λ (z : ℕ). z * a * u) h ∙ zero-l a u
+
+no-less : (a u : ℕ) → a < 0 * u → ⊥
+no-less a u h = lt-irrefl 0 (omega arith)
+
+no-more : (a u : ℕ) → a ≡ 0 → 0 * u < a → ⊥
+no-more a u e h = lt-irrefl 0 (omega arith)
+
+above : (f : Format) (x : Float) (r s : ℕ) → s < r → Is f x r s 0 → (negative x ≡ false) × (eq x zero-float ≡ false)
+above f nan r s l k = absurd (k .real)
+above f (inf t) r s l k = absurd (k .real)
+above f (fin true m e) r s l k = absurd (no-less (m * up e * 2 ^ low f) (2 ^ low f) (lead (0 * 2 ^ low f) (m * up e * 2 ^ low f) (down e) r s (down-pos e) l (flat f (fin true m e) r s k)))
+above f (fin false m e) r s l k =
+    (refl, not-zero false m e (λ (h : m ≡ 0). no-more (m * up e * 2 ^ low f) (2 ^ low f) (nothing m (up e) (2 ^ low f) h) (lead (m * up e * 2 ^ low f) (0 * 2 ^ low f) (down e) r s (down-pos e) l (flat f (fin false m e) r s k))))
+
+beneath : (f : Format) (x : Float) (r s : ℕ) → r < s → Is f x r s 0 → (negative x ≡ true) × (eq x zero-float ≡ false)
+beneath f nan r s l k = absurd (k .real)
+beneath f (inf t) r s l k = absurd (k .real)
+beneath f (fin false m e) r s l k = absurd (no-less (m * up e * 2 ^ low f) (2 ^ low f) (lead (0 * 2 ^ low f) (m * up e * 2 ^ low f) (down e) s r (down-pos e) l (flat-minus f (fin false m e) r s k)))
+beneath f (fin true m e) r s l k =
+    (refl, not-zero true m e (λ (h : m ≡ 0). no-more (m * up e * 2 ^ low f) (2 ^ low f) (nothing m (up e) (2 ^ low f) h) (lead (m * up e * 2 ^ low f) (0 * 2 ^ low f) (down e) s r (down-pos e) l (flat-minus f (fin true m e) r s k))))
+
+pub close-positive : {x : Float} (p n e : ℕ) → n + e < p → Close x p n e → (negative x ≡ false) × (eq x zero-float ≡ false)
+close-positive {x} p n e l k =
+    let o = k .over in
+    let u = k .under in
+    above binary64 x (k .r) (k .s) (omega arith) (k .is)
+
+pub close-negative : {x : Float} (p n e : ℕ) → p + e < n → Close x p n e → (negative x ≡ true) × (eq x zero-float ≡ false)
+close-negative {x} p n e l k =
+    let o = k .over in
+    let u = k .under in
+    beneath binary64 x (k .r) (k .s) (omega arith) (k .is)
+
+-- ---- the units of a magnitude
+-- A = (p - n) * d
+gap : (A B d p n : ℕ) → 0 < d → A + n * d ≡ p * d + B → B ≡ 0 → (n ≤ p) × (A + 0 * 1 * d ≡ (p - n) * 1 * d + 0)
+gap A B d p n D e z =
+    let l : n ≤ p = le-of-mul-le-mul-right (less (n * d) (p * d) A B e z) D in
+    let m = minus-mul p n d l in
+    let a : 0 * 1 * d ≡ 0 = zero-l 1 d in
+    let b : (p - n) * 1 * d ≡ (p - n) * d = ap (λ (z : ℕ). z * d) (mul-one (p - n)) in
+    (l, omega arith)
+  where
+    less : (x y A B : ℕ) → A + x ≡ y + B → B ≡ 0 → x ≤ y
+    less x y A B e z = omega arith
+
+abs-of : (f : Format) (x : Float) (p n : ℕ) → Is f x p n 0 → (k : ℕ) × Is f (abs x) k 0 0 × (p ≤ n + k) × (n ≤ p + k) × ((k + p ≡ n) ⊎ (k + n ≡ p))
+unfolding abs
+abs-of f nan p n i = absurd (i .real)
+abs-of f (inf t) p n i = absurd (i .real)
+abs-of f (fin false m e) p n i =
+    let g = gap (m * up e * 2 ^ low f) (0 * 2 ^ low f) (down e) p n (down-pos e) (flat f (fin false m e) p n i) (zero-mul (2 ^ low f)) in
+    let l = g .0 in
+    (p - n, record { real = tt; value = g .1 ∙ ap (λ (z : ℕ). (p - n) * 1 * down e + z) (sym (zero-mul (2 ^ low f))) }, omega arith, omega arith, inr (omega arith))
+abs-of f (fin true m e) p n i =
+    let g = gap (m * up e * 2 ^ low f) (0 * 2 ^ low f) (down e) n p (down-pos e) (flat-minus f (fin true m e) p n i) (zero-mul (2 ^ low f)) in
+    let l = g .0 in
+    (n - p, record { real = tt; value = g .1 ∙ ap (λ (z : ℕ). (n - p) * 1 * down e + z) (sym (zero-mul (2 ^ low f))) }, omega arith, omega arith, inl (omega arith))
+
+pub abs-units : {x : Float} (p n : ℕ) → Is binary64 x p n 0 → (k : ℕ) × Is binary64 (abs x) k 0 0 × (p ≤ n + k) × (n ≤ p + k) × ((k + p ≡ n) ⊎ (k + n ≡ p))
+abs-units {x} p n i = abs-of binary64 x p n i
