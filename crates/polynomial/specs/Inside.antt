@@ -54,3 +54,8 @@ Narrower f p lo hi x y = (width binary64 x y < width binary64 lo hi) × Span 2 x
 abbrev pub Leaves : (Float → Float) → Bool → Float → Float → Left → Type 0
 Leaves f p lo hi (Result x) = x ≡ bisected f p lo hi
 Leaves f p lo hi (Between x y) = Narrower f p lo hi x y
+
+-- the same, or the interval itself
+abbrev pub Rest : (Float → Float) → Bool → Float → Float → Left → Type 0
+Rest f p lo hi (Result x) = x ≡ bisected f p lo hi
+Rest f p lo hi (Between x y) = Span 2 x y × (bisected f p x y ≡ bisected f p lo hi)

@@ -1,5 +1,6 @@
-// Halving an interval until no float lies strictly inside. Mostly two turns at a time: the values at
-// the middle and at both middles that can come next are worked out side by side.
+// Halving an interval until no float lies strictly inside. First by plain arithmetic, as long as that
+// tells the sign at the middle. Then mostly two turns at a time: the values at the middle and at both
+// middles that can come next are worked out side by side.
 ghost use mathlib.Core.Path.{_≡_};
 ghost use Prim.Native.Nat.{_≤_};
 ghost use lib.ListN.{take};
@@ -7,7 +8,10 @@ ghost use Rattle.polynomial.specs.Polynomial as Of;
 ghost use Rattle.polynomial.specs.Roots as Roots;
 ghost use Rattle.float.specs.Laws.Middle.{Span};
 ghost use Rattle.polynomial.specs.Inside as Inside;
+ghost use Rattle.polynomial.specs.Plain.{AllTidy};
 use crate::compensated::Compensated;
+use crate::plain::all_tidy;
+use crate::plain::plain_sign;
 use crate::polynomial::Three;
 use crate::polynomial::evaluate;
 use crate::polynomial::evaluate_three;
@@ -78,9 +82,32 @@ fn narrowed(p: [Compensated; 9], n: usize, lo: f64, hi: f64, positive: bool) -> 
     }
 }
 
-// Halves the interval until no float lies strictly inside; the value at `from` is positive where
-// `positive` says so.
-pub(crate) fn bisect(p: [Compensated; 9], n: usize, from: f64, to: f64, positive: bool) -> f64
+// Halves the interval while plain arithmetic tells the sign at the middle.
+fn roughly(p: [Compensated; 9], n: usize, from: f64, to: f64, positive: bool) -> Left
+    requires { ⌜ (n ≤ 9) × Span 2 from to × AllTidy (take n p) ⌝ }
+    ensures { λ r. ⌜ Inside.Rest (Of.evaluate (take n p)) positive from to r ⌝ }
+{
+    let mut lo = from;
+    let mut hi = to;
+    loop {
+        let m = middle(lo, hi);
+        let sign = plain_sign(p, n, m);
+        if sign == 0.0 {
+            return Left::Between(lo, hi);
+        }
+        let left = halved(lo, hi, m, sign, positive);
+        match left {
+            Left::Result(x) => return Left::Result(x),
+            Left::Between(x, y) => {
+                lo = x;
+                hi = y;
+            }
+        }
+    }
+}
+
+// Halves the interval, by compensated values, until no float lies strictly inside.
+fn finely(p: [Compensated; 9], n: usize, from: f64, to: f64, positive: bool) -> f64
     requires { ⌜ (n ≤ 9) × Span 2 from to ⌝ }
     ensures { λ r. ⌜ r ≡ Roots.bisected (Of.evaluate (take n p)) positive from to ⌝ }
 {
@@ -96,4 +123,20 @@ pub(crate) fn bisect(p: [Compensated; 9], n: usize, from: f64, to: f64, positive
             }
         }
     }
+}
+
+// Halves the interval until no float lies strictly inside; the value at `from` is positive where
+// `positive` says so.
+pub(crate) fn bisect(p: [Compensated; 9], n: usize, from: f64, to: f64, positive: bool) -> f64
+    requires { ⌜ (n ≤ 9) × Span 2 from to ⌝ }
+    ensures { λ r. ⌜ r ≡ Roots.bisected (Of.evaluate (take n p)) positive from to ⌝ }
+{
+    if all_tidy(p, n) {
+        let left = roughly(p, n, from, to, positive);
+        match left {
+            Left::Result(x) => return x,
+            Left::Between(x, y) => return finely(p, n, x, y, positive),
+        }
+    }
+    finely(p, n, from, to, positive)
 }

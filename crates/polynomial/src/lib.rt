@@ -9,5 +9,6 @@ pub mod halving;
 pub mod interface;
 pub mod norm;
 pub mod operation;
+pub mod plain;
 pub mod polynomial;
 pub mod roots;

@@ -7,6 +7,7 @@ use Rattle.float.specs.Number.{negative, middle, zero-float}
 use Rattle.float.specs.Laws.Middle.{Span}
 use Rattle.polynomial.specs.Roots.{bisected}
 use Rattle.polynomial.specs.Inside.{turned, goes-on, halved, Narrower, Leaves}
+use Rattle.polynomial.specs.Plain.{Tells}
 use Rattle.polynomial.specs.Laws.Halving.{at-lo, at-hi, at-zero, to-right, to-left}
 use Rattle.polynomial.specs.declared.halving.Turn.{Turn}
 use Rattle.polynomial.specs.declared.halving.Turn.the-variants.{Done, Upper, Lower}
@@ -31,6 +32,11 @@ module _ (f : Float → Float) (p : Bool) where
       go false false false true A B Z G = u (to-right f p lo hi m s e A B (f m) refl Z (not (negative (f m))) refl G)
       go false false false false A B Z G = l (to-left f p lo hi m s e A B (f m) refl Z (not (negative (f m))) refl G)
 
+  -- ---- a turn sees the value's sign alone, and whether it is zero
+  same-turn : (lo hi m v w : Float) → eq v zero-float ≡ false → negative w ≡ negative v → eq w zero-float ≡ false → halved lo hi m v p ≡ halved lo hi m w p
+  unfolding halved turned
+  same-turn lo hi m v w a b c = simp (a, b, c)
+
   -- ---- one turn: m is the middle, v the value there
   module _ (lo hi : Float) (s : Span 2 lo hi) (m : Float) (M : m ≡ middle lo hi) (v : Float) (at-m : v ≡ f m) where
     pub one : (l : Left) → l ≡ halved lo hi m v p → Leaves f p lo hi l
@@ -54,3 +60,7 @@ module _ (f : Float → Float) (p : Bool) where
 
     pub lower : u ≡ Lower → (a : Float) → a ≡ middle lo m → (w : Float) → w ≡ f a → (l : Left) → l ≡ halved lo m a w p → Leaves f p lo hi l
     lower k a A w W l e = by-turn lo hi s m M v at-m u U Lower k (Between m hi) l (λ h. h) (λ h. inner lo hi lo m h l (one lo m (h .1) a A w W l e))
+
+  -- ---- one turn by a number with the value's sign
+  pub one-by-sign : (lo hi : Float) → Span 2 lo hi → (m : Float) → m ≡ middle lo hi → (v : Float) → Tells v (f m) → eq v zero-float ≡ false → (l : Left) → l ≡ halved lo hi m v p → Leaves f p lo hi l
+  one-by-sign lo hi s m M v t z l e = one lo hi s m M (f m) refl l (e ∙ same-turn lo hi m v (f m) z (t z .0) (t z .1))

@@ -1,58 +1,42 @@
--- `polynomial::halving::bisect` meets its contract. The invariant: the interval can be halved, and its result is that of the first. The measure is the units between its ends.
-use mathlib.Core.Path.{_≡_, refl, _∙_, subst}
-use lib.Ieee.{binary64}
-use lib.ListN.{take}
+-- `polynomial::halving::bisect` meets its contract. Assumes nothing.
+use mathlib.Core.Path.{_∙_, subst}
 use borrow.Author.Needs.{needs}
-use Rattle.float.specs.Laws.Whole.{width}
-use Rattle.float.specs.Laws.Middle.{Span}
-use Rattle.polynomial.specs.Polynomial.{evaluate}
-use Rattle.polynomial.specs.Roots.{bisected}
-use Rattle.polynomial.specs.Inside.{Leaves}
+use Rattle.polynomial.specs.Inside.{Rest}
 use Rattle.polynomial.proofs.halving.bisect.Statement.{statement}
 use Rattle.polynomial.proofs.halving.bisect.Tie as tie
 
-abbrev Inv-loop : tie.InvT-loop
-Inv-loop p n from to positive lo₀ hi₀ lo hi = Span 2 lo hi × (bisected (evaluate (take n p)) positive lo hi ≡ bisected (evaluate (take n p)) positive from to)
+all-tidy-requires : tie.Need-all-tidy-requires
+all-tidy-requires c κs = search needs
 
-abbrev μ-loop : tie.MeasureT-loop
-μ-loop p n from to positive lo₀ hi₀ lo hi = width binary64 lo hi
+roughly-requires : tie.Need-roughly-requires
+roughly-requires c κs =
+    let s = c .before .before in
+    (s .pre .0, s .pre .1, c .before .all-tidy .ensures (c .if1 .taken))
 
-loop-holds : tie.Need-loop-holds Inv-loop μ-loop
-loop-holds c = (c .pre .1, refl)
-
-narrowed-requires : tie.Need-narrowed-requires Inv-loop μ-loop
-narrowed-requires c κs = search needs
-
-enum-known-left : tie.Need-enum-known-left Inv-loop μ-loop
+enum-known-left : tie.Need-enum-known-left
 enum-known-left c = search needs
 
-returns : tie.Need-returns Inv-loop μ-loop
-returns c =
-    let h = c .before .before .before in
-    subst (Leaves _ _ _ _) (c .before .left .given .1) (h .narrowed .ensures) ∙ h .before .loop .inv .1
+returns : tie.Need-returns
+returns c = subst (Rest _ _ _ _) (c .before .left .given .1) (c .before .before .before .roughly .ensures)
 
-enum-known-left-2 : tie.Need-enum-known-left-2 Inv-loop μ-loop
+enum-known-left-2 : tie.Need-enum-known-left-2
 enum-known-left-2 c = search needs
 
-loop-less : tie.Need-loop-less Inv-loop μ-loop
-loop-less c = subst (Leaves _ _ _ _) (c .before .left2 .given .1) (c .before .before .before .narrowed .ensures) .0
+finely-requires : tie.Need-finely-requires
+finely-requires c κs =
+    let r = c .before .before .before in
+    (r .before .before .before .pre .0, subst (Rest _ _ _ _) (c .before .left2 .given .1) (r .roughly .ensures) .0)
 
-loop-again : tie.Need-loop-again Inv-loop μ-loop
-loop-again c =
-    let h = c .before .before .before in
-    let r = subst (Leaves _ _ _ _) (c .before .left2 .given .1) (h .narrowed .ensures) in
-    (r .1, r .2 ∙ h .before .loop .inv .1)
+returns-2 : tie.Need-returns-2
+returns-2 c =
+    let k = c .before .before in
+    c .finely .ensures ∙ subst (Rest _ _ _ _) (k .left2 .given .1) (k .before .before .roughly .ensures) .1
+
+finely-requires-2 : tie.Need-finely-requires-2
+finely-requires-2 c κs = search needs
+
+returns-3 : tie.Need-returns-3
+returns-3 c = c .finely2 .ensures
 
 pub bisect-spec : {M : Type 1} → statement M
-bisect-spec =
-    tie.close
-    (tie.spec
-    Inv-loop
-    μ-loop
-    loop-holds
-    narrowed-requires
-    enum-known-left
-    returns
-    enum-known-left-2
-    loop-less
-    loop-again)
+bisect-spec = tie.close (tie.spec all-tidy-requires roughly-requires enum-known-left returns enum-known-left-2 finely-requires returns-2 finely-requires-2 returns-3)

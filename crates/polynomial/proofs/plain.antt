@@ -1,0 +1,3 @@
+-- What the proofs of plain arithmetic share.
+mod Sums
+mod Told

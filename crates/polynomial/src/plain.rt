@@ -1,0 +1,77 @@
+// Plain Horner arithmetic on the high parts alone. Where its value is far from zero beside the
+// coefficients' magnitudes, it has the sign of the compensated value.
+ghost use mathlib.Core.Path.{_≡_};
+ghost use mathlib.Core.Bool.{true};
+ghost use Prim.Native.Nat.{_≤_};
+ghost use lib.ListN.{take};
+ghost use Rattle.polynomial.specs.Polynomial as Of;
+ghost use Rattle.polynomial.specs.Plain.{both, Tidy, AllTidy, Tells, told};
+use crate::compensated::Compensated;
+use float::number::abs;
+
+// Whether a coefficient's residual is small beside its rounded value, and this is not large.
+fn is_tidy(high: f64, low: f64) -> bool
+    ensures { λ r. ⌜ (r ≡ true → Tidy (both high low)) ⌝ }
+{
+    let size = abs(high);
+    if size <= 3.273390607896142e150 {
+        return abs(low) * 4503599627370496.0 <= size;
+    }
+    false
+}
+
+// Whether each of the first n coefficients is so.
+pub(crate) fn all_tidy(p: [Compensated; 9], n: usize) -> bool
+    requires { ⌜ n ≤ 9 ⌝ }
+    ensures { λ r. ⌜ (r ≡ true → AllTidy (take n p)) ⌝ }
+{
+    let mut i = n;
+    while 0 < i {
+        i -= 1;
+        let c = p[i];
+        if !is_tidy(c.high, c.low) {
+            return false;
+        }
+    }
+    true
+}
+
+// The sign, 1.0 or -1.0, of the plain value v at a point of this size, and 0.0 where v may have another
+// sign than the compensated value.
+fn sign_of(size: f64, v: f64, scale: f64) -> f64
+    ensures { λ r. ⌜ r ≡ told size v scale ⌝ }
+{
+    if size <= 1.0 {
+        if scale >= 3.054936363499605e-151 {
+            // 2^-43 of the scale
+            let margin = 1.1368683772161603e-13 * scale;
+            if v > margin {
+                return 1.0;
+            }
+            if v < -margin {
+                return -1.0;
+            }
+        }
+    }
+    0.0
+}
+
+// The sign at x of the first n coefficients' value, 1.0 or -1.0, or 0.0 where plain arithmetic does
+// not tell it.
+pub(crate) fn plain_sign(p: [Compensated; 9], n: usize, x: f64) -> f64
+    requires { ⌜ (n ≤ 9) × AllTidy (take n p) ⌝ }
+    ensures { λ r. ⌜ Tells r (Of.evaluate (take n p) x) ⌝ }
+{
+    let size = abs(x);
+    let mut sum = 0.0;
+    let mut scale = 0.0;
+    let mut i = n;
+    while 0 < i {
+        i -= 1;
+        let c = p[i];
+        let high = c.high;
+        sum = sum * x + high;
+        scale = scale * size + abs(high);
+    }
+    sign_of(size, sum, scale)
+}
