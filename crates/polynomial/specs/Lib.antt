@@ -1,6 +1,6 @@
 -- Polynomials and the root finder: document 01's module 3. What a reader must believe are the definitions, each beside its sentence of 01 or its function of the Rust:
 -- `Compensated`, `Cuts` (sorted lists without duplicates), `Polynomial` (sums, products, evaluation), `Roots` (the root finder), `Operation` (Roots with its refusals), `Angle`, `Curve`.
--- `Laws` holds what upper crates cite. `Insert`, `Inside` and `Norm` are what inner functions promise one another.
+-- `Laws` holds what upper crates cite. `Insert`, `Inside` and `Norm` are what inner functions promise one another; `Plain` is the arithmetic on high parts alone.
 pub mod Compensated
 pub mod Cuts
 pub mod Polynomial
@@ -12,3 +12,4 @@ pub mod Laws
 pub mod Insert
 pub mod Inside
 pub mod Norm
+pub mod Plain
