@@ -10,13 +10,8 @@ use lib.Ieee.{Float, binary64, fits, neg, lt, le, eq}
 use Rattle.float.specs.Number.{_⊗_, abs, negative, zero-float, one-float}
 use Rattle.polynomial.specs.Plain.{plain, scale, least, margin, AllTidy, Signed, told, Tells}
 use Rattle.polynomial.specs.Polynomial.{evaluate}
+use Rattle.polynomial.specs.Laws.Plain.{plain-positive, plain-negative}
 use Rattle.polynomial.specs.declared.compensated.Compensated.{Compensated}
-
-plain-positive : (p : List Compensated) (x : Float) → length p ≤ 9 → AllTidy p → T (fits binary64 x) → le (abs x) one-float ≡ true → le least (scale p x) ≡ true → lt (margin ⊗ scale p x) (plain p x) ≡ true → Signed false (evaluate p x)
-plain-positive = ?
-
-plain-negative : (p : List Compensated) (x : Float) → length p ≤ 9 → AllTidy p → T (fits binary64 x) → le (abs x) one-float ≡ true → le least (scale p x) ≡ true → lt (plain p x) (neg (margin ⊗ scale p x)) ≡ true → Signed true (evaluate p x)
-plain-negative = ?
 
 module _ (p : List Compensated) (x : Float) (l : length p ≤ 9) (t : AllTidy p) (f : T (fits binary64 x)) where
   plain-tells : Tells (told (abs x) (plain p x) (scale p x)) (evaluate p x)
