@@ -7,8 +7,8 @@ use mathlib.Core.List.{List}
 use lib.Dec.{T}
 use lib.ListN.{length, take, length-take}
 use lib.Ieee.{Float, binary64, fits, neg, lt, le, eq}
-use Rattle.float.specs.Number.{_⊗_, abs, negative, zero-float, one-float}
-use Rattle.polynomial.specs.Plain.{plain, scale, least, margin, AllTidy, Signed, told, Tells}
+use Rattle.float.specs.Number.{_⊗_, abs, zero-float, one-float}
+use Rattle.polynomial.specs.Plain.{plain, scale, least, margin, AllTidy, told, Tells}
 use Rattle.polynomial.specs.Polynomial.{evaluate}
 use Rattle.polynomial.specs.Laws.Plain.{plain-positive, plain-negative}
 use Rattle.polynomial.specs.declared.compensated.Compensated.{Compensated}

@@ -1,9 +1,9 @@
 -- `polynomial::plain::all_tidy` meets its contract. The loop's invariant: the coefficients from i on are tidy.
-use Prim.Native.Nat.{_-_, _≤_}
+use Prim.Native.Nat.{_≤_}
 use native.Mathlib.Omega.{arith}
-use mathlib.Core.Path.{_≡_, subst}
+use mathlib.Core.Path.{_≡_}
 use mathlib.Core.Bool.{false≢true}
-use lib.ListN.{length, take}
+use lib.ListN.{length}
 use lib.Seq.{slice}
 use borrow.Author.Tests.{not-false}
 use borrow.Author.Needs.{needs}

@@ -1,11 +1,11 @@
 -- `polynomial::plain::is_tidy` meets its contract. Assumes nothing.
-use mathlib.Core.Path.{_≡_, sym, ap, ap₂, _∙_, subst}
-use mathlib.Core.Bool.{Bool, true, false, false≢true}
+use mathlib.Core.Path.{sym, ap, ap₂, _∙_, subst}
+use mathlib.Core.Bool.{false≢true}
 use lib.Dec.{T}
-use lib.Ieee.{ofBits, le, mul, binary64}
+use lib.Ieee.{ofBits, le}
 use borrow.Author.Needs.{needs}
 use Rattle.float.specs.Number.{_⊗_, abs}
-use Rattle.polynomial.specs.Plain.{Tidy, lift, largest}
+use Rattle.polynomial.specs.Plain.{lift, largest}
 use Rattle.polynomial.proofs.plain.is_tidy.Statement.{statement}
 use Rattle.polynomial.proofs.plain.is_tidy.Tie as tie
 

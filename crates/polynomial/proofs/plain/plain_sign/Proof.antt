@@ -1,16 +1,14 @@
 -- `polynomial::plain::plain_sign` meets its contract. The loop's invariant: value and scale are those of the coefficients from i on.
 use Prim.Native.Nat.{_≤_}
 use native.Mathlib.Omega.{arith}
-use mathlib.Core.Path.{_≡_, sym, ap, ap₂, _∙_, subst}
+use mathlib.Core.Path.{_≡_, sym, _∙_, subst}
 use lib.Dec.{T}
-use lib.ListN.{length, take}
+use lib.ListN.{length}
 use lib.Seq.{slice}
-use lib.Ieee.{Float}
 use borrow.Author.Needs.{needs}
 use Rattle.float.specs.Number.{abs}
 use Rattle.float.specs.Laws.Zero.{zero-bits}
-use Rattle.polynomial.specs.Polynomial.{evaluate}
-use Rattle.polynomial.specs.Plain.{plain, scale, told, Tells}
+use Rattle.polynomial.specs.Plain.{plain, scale}
 use Rattle.polynomial.proofs.plain.Sums.{plain-none, plain-more, plain-all, scale-none, scale-more, scale-all}
 use Rattle.polynomial.proofs.plain.Told.{tells}
 use Rattle.polynomial.proofs.plain.plain_sign.Statement.{statement}
