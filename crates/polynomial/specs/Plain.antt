@@ -26,9 +26,9 @@ largest = fin false 1 (pos 500)
 abbrev pub lift : Float
 lift = fin false 1 (pos 52)
 
--- the least scale, 2 ^ -500, and how far the plain value has to be from zero, as a part of the scale: 2 ^ -43
+-- the least scale, 2 ^ -1010, and how far the plain value has to be from zero, as a part of the scale: 2 ^ -43
 abbrev pub least : Float
-least = fin false 1 (negsuc 499)
+least = fin false 1 (negsuc 1009)
 
 abbrev pub margin : Float
 margin = fin false 1 (negsuc 42)

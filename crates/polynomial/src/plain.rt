@@ -42,7 +42,7 @@ fn sign_of(size: f64, v: f64, scale: f64) -> f64
     ensures { λ r. ⌜ r ≡ told size v scale ⌝ }
 {
     if size <= 1.0 {
-        if scale >= 3.054936363499605e-151 {
+        if scale >= 9.113902524445497e-305 {
             // 2^-43 of the scale
             let margin = 1.1368683772161603e-13 * scale;
             if v > margin {

@@ -1,7 +1,7 @@
 -- Where the plain value of a polynomial of at most nine tidy coefficients is far from zero beside the sum of magnitudes, the compensated value has its sign, and is not zero:
 -- `plain-positive`, `plain-negative`. By induction on the coefficients the two values are a small part of the sum of magnitudes apart (`known`). Assumes nothing.
 use Prim.Native.Nat.{ℕ, suc, _+_, _-_, _*_, _/_, _^_, _≤_, _<_}
-use native.Mathlib.Nat.{le-trans, le-of-eq, add-zero, mul-comm, mul-le-mul, mul-le-mul-right, le-of-mul-le-mul-right, mul-div-le, lt-mul-div-succ}
+use native.Mathlib.Nat.{le-trans, le-of-eq, add-zero, mul-comm, mul-le-mul, mul-le-mul-right, mul-le-mul-left, le-of-mul-le-mul-right, mul-div-le, lt-mul-div-succ}
 use native.Mathlib.Omega.{arith}
 use mathlib.Core.Path.{_≡_, refl, ap, _∙_, subst}
 use mathlib.Core.Bool.{true, false}
@@ -139,7 +139,7 @@ margin-is : Is binary64 margin part 0 0
 unfolding part fits
 margin-is = whole-is binary64 margin tt tt
 
-least-is : Is binary64 least (2 ^ 574) 0 0
+least-is : Is binary64 least (2 ^ 64) 0 0
 unfolding fits
 least-is = whole-is binary64 least tt tt
 
@@ -181,16 +181,18 @@ edge s g l i = go (g / 2 ^ 50 + 1) (let m : 2 ^ 50 * (g / 2 ^ 50) ≤ g = mul-di
         last t h (mul-close part 0 g 0 t (room t (omega arith) (omega arith)) (omega arith) (omega arith) margin-is i)
 
 -- the roundings are a small part of the scale
-few : (h g j : ℕ) → j ≤ 9 → 2 ^ 110 ≤ g → 2 ^ 102 * h ≤ (2 ^ 50 + 2 * j) * g + j * 2 ^ 104 → 15 * (2 ^ 52 * h) ≤ 16 * g
-few h g j l k b = last g (2 ^ 52 * h) (j * g) (j * 2 ^ 104) (by h (2 ^ 50 * g) (j * g) (j * 2 ^ 104) (omega arith)) (mul-le-mul-right g l) (le-trans (mul-le-mul-right (2 ^ 104) l) (le-trans (lit≤ tt) k))
+few : (h g j : ℕ) → j ≤ 9 → 2 ^ 64 ≤ g → 2 ^ 102 * h ≤ (2 ^ 50 + 2 * j) * g + j * 2 ^ 104 → 15 * (2 ^ 52 * h) ≤ 16 * g
+few h g j l k b =
+    last g (2 ^ 52 * h) (j * g) (j * 2 ^ 104) (by h (2 ^ 50 * g) (j * g) (j * 2 ^ 104) (omega arith)) (mul-le-mul-right g l)
+    (le-trans (mul-le-mul-right (2 ^ 104) l) (le-trans (lit≤ tt) (mul-le-mul-left (2 ^ 44) k)))
   where
     by : (h a u v : ℕ) → 2 ^ 102 * h ≤ a + 2 * u + v → 2 ^ 50 * (2 ^ 52 * h) ≤ a + 2 * u + v
     by h a u v e = omega arith
 
-    last : (g y u v : ℕ) → 2 ^ 50 * y ≤ 2 ^ 50 * g + 2 * u + v → u ≤ 9 * g → v ≤ g → 15 * y ≤ 16 * g
+    last : (g y u v : ℕ) → 2 ^ 50 * y ≤ 2 ^ 50 * g + 2 * u + v → u ≤ 9 * g → v ≤ 2 ^ 44 * g → 15 * y ≤ 16 * g
     last g y u v a c d = omega arith
 
-beyond : (h g r d q m : ℕ) → 15 * (2 ^ 52 * h) ≤ 16 * g → 2 ^ 110 ≤ g → 127 * g + 2 ^ 50 * d ≤ 2 ^ 50 * r + 2 ^ 50 → r + m ≤ q + d → m + (274 * h + 1) < q
+beyond : (h g r d q m : ℕ) → 15 * (2 ^ 52 * h) ≤ 16 * g → 2 ^ 64 ≤ g → 127 * g + 2 ^ 50 * d ≤ 2 ^ 50 * r + 2 ^ 50 → r + m ≤ q + d → m + (274 * h + 1) < q
 beyond h g r d q m a b c e = omega arith
 
 -- all of it
@@ -202,14 +204,14 @@ record Ends (p : List Compensated) (x : Float) : Type 0 where
   is : Is binary64 (plain p x) q m 0
   close : Close (evaluate p x) q m (274 * h + 1)
   edges : Edge (scale p x) g
-  large : 2 ^ 110 ≤ g
+  large : 2 ^ 64 ≤ g
   part : 15 * (2 ^ 52 * h) ≤ 16 * g
 
 ends-of : (p : List Compensated) (x : Float) (j : ℕ) → j ≤ 9 → le least (scale p x) ≡ true → Known p x j → Ends p x
 unfolding evaluate
 ends-of p x j l h k =
-    let a : 2 ^ 574 + 0 ≤ k .g + 0 = Le-Is binary64 least (scale p x) (2 ^ 574) 0 (k .g) 0 least-is (k .is) (le→Le least (scale p x) tt (k .is .real) (yes-of h)) in
-    let b : 2 ^ 110 ≤ k .g = le-trans (lit≤ tt) (le-trans a (le-of-eq (add-zero (k .g)))) in
+    let a : 2 ^ 64 + 0 ≤ k .g + 0 = Le-Is binary64 least (scale p x) (2 ^ 64) 0 (k .g) 0 least-is (k .is) (le→Le least (scale p x) tt (k .is .real) (yes-of h)) in
+    let b : 2 ^ 64 ≤ k .g = le-trans a (le-of-eq (add-zero (k .g))) in
     let c : j * most ≤ 9 * most = mul-le-mul-right most l in
     let d = k .h-most in
     let e = k .g-most in
