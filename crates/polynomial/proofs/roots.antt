@@ -4,3 +4,4 @@ pub mod Kept
 mod Events
 pub mod Cycle
 mod Scanned
+mod Looked

@@ -8,7 +8,9 @@ use Rattle.float.specs.Number.{negative, middle, zero-float}
 use Rattle.float.specs.Laws.Whole.{width}
 use Rattle.float.specs.Laws.Middle.{Span}
 use Rattle.polynomial.specs.Cuts.{put}
+use Rattle.polynomial.specs.Polynomial.{near-zero}
 use Rattle.polynomial.specs.Roots.{crosses, bisected}
+use Rattle.polynomial.specs.declared.compensated.Compensated.{Compensated}
 use Rattle.polynomial.specs.declared.roots.Interval.{Interval}
 use Rattle.polynomial.specs.declared.polynomial.Three.{Three}
 use Rattle.polynomial.specs.declared.polynomial.Three.the-variants.{Values, Unknown}
@@ -22,6 +24,14 @@ abbrev pub Ready : List Float → Type 0
 Ready [] = Unit {0}
 Ready (a ∷ []) = Unit {0}
 Ready (a ∷ (b ∷ r)) = Span 2 a b × Ready (b ∷ r)
+
+-- v has the sign of w, and is zero where that is: it can stand for it where two values are compared
+abbrev pub Stands : Float → Float → Type 0
+Stands v w = (eq v zero-float ≡ eq w zero-float) × (negative v ≡ negative w)
+
+-- the cuts l with x, where the value there is near zero
+abbrev pub touched : List Compensated → Float → List Float → List Float
+touched p x l = cond (near-zero p x) (put x l) l
 
 -- the cuts l with the end of the bisection between two points, where f crosses zero between them
 abbrev pub crossed : (Float → Float) → Interval → List Float → List Float

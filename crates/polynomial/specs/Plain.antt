@@ -1,5 +1,5 @@
--- What plain Horner arithmetic, on the high parts alone, says of the sign of a compensated value: where the plain value is far from zero beside the coefficients'
--- magnitudes, both have one sign. Nothing that a public contract says.
+-- What plain Horner arithmetic, on the high parts alone, says of a compensated value: where the plain value is far from zero beside the coefficients' magnitudes,
+-- both have one sign, and the compensated value is not near zero. Nothing that a public contract says.
 use mathlib.Core.Path.{_≡_}
 use mathlib.Core.Bool.{Bool, true, false, cond}
 use mathlib.Core.List.{List, [], _∷_}
@@ -7,6 +7,7 @@ use lib.Dec.{T}
 use lib.IntN.{pos, negsuc}
 use lib.Ieee.{Float, fin, binary64, fits, neg, lt, le, eq}
 use Rattle.float.specs.Number.{_⊕_, _⊗_, abs, negative, zero-float, one-float}
+use Rattle.polynomial.specs.Polynomial.{evaluate, near-zero}
 use Rattle.polynomial.specs.declared.compensated.Compensated.{Compensated}
 
 -- the value at x of the high parts, by Horner arithmetic
@@ -57,6 +58,6 @@ unfoldable pub told : Float → Float → Float → Float
 told size v scale =
     cond (le size one-float) (cond (le least scale) (cond (lt (margin ⊗ scale) v) one-float (cond (lt v (neg (margin ⊗ scale))) (neg one-float) zero-float)) zero-float) zero-float
 
--- where r is not zero, v has its sign, and is not zero either
-abbrev pub Tells : Float → Float → Type 0
-Tells r v = eq r zero-float ≡ false → Signed (negative r) v
+-- where r is not zero, the value at x has its sign, and is neither zero nor near zero
+abbrev pub Tells : Float → List Compensated → Float → Type 0
+Tells r p x = eq r zero-float ≡ false → Signed (negative r) (evaluate p x) × (near-zero p x ≡ false)

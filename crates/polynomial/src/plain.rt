@@ -1,10 +1,9 @@
 // Plain Horner arithmetic on the high parts alone. Where its value is far from zero beside the
-// coefficients' magnitudes, it has the sign of the compensated value.
+// coefficients' magnitudes, it has the sign of the compensated value, which is not near zero then.
 ghost use mathlib.Core.Path.{_≡_};
 ghost use mathlib.Core.Bool.{true};
 ghost use Prim.Native.Nat.{_≤_};
 ghost use lib.ListN.{take};
-ghost use Rattle.polynomial.specs.Polynomial as Of;
 ghost use Rattle.polynomial.specs.Plain.{both, Tidy, AllTidy, Tells, told};
 use crate::compensated::Compensated;
 use float::number::abs;
@@ -60,7 +59,7 @@ fn sign_of(size: f64, v: f64, scale: f64) -> f64
 // not tell it.
 pub(crate) fn plain_sign(p: [Compensated; 9], n: usize, x: f64) -> f64
     requires { ⌜ (n ≤ 9) × AllTidy (take n p) ⌝ }
-    ensures { λ r. ⌜ Tells r (Of.evaluate (take n p) x) ⌝ }
+    ensures { λ r. ⌜ Tells r (take n p) x ⌝ }
 {
     let size = abs(x);
     let mut sum = 0.0;

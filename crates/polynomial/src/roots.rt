@@ -1,7 +1,7 @@
 // The root finder, from src/singularity/j1j2free.rs: the roots of degree d come from partition
 // points, and those from the derivative's roots; the degree falls.
 ghost use mathlib.Core.Path.{_≡_};
-ghost use mathlib.Core.Bool.{cond};
+ghost use mathlib.Core.Bool.{cond, true};
 ghost use mathlib.Core.List.{_++_};
 ghost use Prim.Native.Nat.{_+_, _-_, _^_, _≤_, _<_};
 ghost use lib.ListN.{length, take, drop};
@@ -9,11 +9,14 @@ ghost use Rattle.polynomial.specs.Cuts.{cuts, put};
 ghost use Rattle.polynomial.specs.Polynomial as Of;
 ghost use Rattle.polynomial.specs.Roots as Roots;
 ghost use Rattle.float.specs.Laws.Middle.{Span};
-ghost use Rattle.polynomial.specs.Inside.{Ready, crossed};
+ghost use Rattle.polynomial.specs.Inside.{Ready, Stands, touched, crossed};
+ghost use Rattle.polynomial.specs.Plain.{AllTidy};
 use crate::compensated::Compensated;
 use crate::cuts::Put;
 use crate::cuts::insert;
 use crate::halving::bisect;
+use crate::plain::all_tidy;
+use crate::plain::plain_sign;
 use crate::polynomial::all_finite;
 use crate::polynomial::derivative;
 use crate::polynomial::evaluate;
@@ -96,22 +99,50 @@ fn cross(p: [Compensated; 9], n: usize, at: Interval, out: &mut [f64], k: usize)
     k
 }
 
+// What a look at a point gives: a number that stands for the value there, and how many cuts there are.
+pub struct Seen {
+    pub v: f64,
+    pub k: usize,
+}
+
+// Looks at x, and puts it into the cuts in the first k places of out if the value there is near zero.
+// Where plain arithmetic tells the value's sign, it is not, and the sign stands for it.
+fn look(p: [Compensated; 9], n: usize, tidy: bool, x: f64, out: &mut [f64], k: usize) -> Seen
+    requires { ⌜ (n ≤ 9) × (k < length (now out)) × (tidy ≡ true → AllTidy (take n p)) ⌝ }
+    ensures { λ r. ⌜ Stands (r .v) (Of.evaluate (take n p) x) ⌝ }
+    ensures { λ r. ⌜ r .k ≡ length (touched (take n p) x (take k (now (out .entry)))) ⌝ }
+    ensures { λ r. ⌜ now (out .exit) ≡ touched (take n p) x (take k (now (out .entry))) ++ drop (r .k) (now (out .entry)) ⌝ }
+{
+    if tidy {
+        let sign = plain_sign(p, n, x);
+        if sign != 0.0 {
+            return Seen { v: sign, k };
+        }
+    }
+    let v = evaluate(p, n, x);
+    let m = touch(p, n, x, v, out, k);
+    Seen { v, k: m }
+}
+
 // The points near zero and the ends of the bisections between neighbours, of the first `count`
-// points, as cuts in the first places of out. Each point is evaluated once.
+// points, as cuts in the first places of out. Each point is looked at once.
 fn scan(p: [Compensated; 9], n: usize, points: &[f64], count: usize, out: &mut [f64]) -> usize
     requires { ⌜ (n ≤ 9) × (0 < count) × (count ≤ length (now points)) × (count + count ≤ length (now out)) × Ready (take count (now points)) ⌝ }
     ensures { λ r. ⌜ r ≡ length (cuts (Roots.touches (take n p) (take count (now (points .entry))) ++ Roots.crossings (take n p) (take count (now (points .entry))))) ⌝ }
     ensures { λ r. ⌜ now (out .exit) ≡ cuts (Roots.touches (take n p) (take count (now (points .entry))) ++ Roots.crossings (take n p) (take count (now (points .entry)))) ++ drop r (now (out .entry)) ⌝ }
 {
+    let tidy = all_tidy(p, n);
     let mut lo = points[0];
-    let mut u = evaluate(p, n, lo);
-    let mut k = touch(p, n, lo, u, out, 0);
+    let first = look(p, n, tidy, lo, out, 0);
+    let mut u = first.v;
+    let mut k = first.k;
     let mut i = 1;
     while i < count {
         let hi = points[i];
-        let v = evaluate(p, n, hi);
-        k = touch(p, n, hi, v, out, k);
-        k = cross(p, n, Interval { lo, hi, u, v }, out, k);
+        let seen = look(p, n, tidy, hi, out, k);
+        let v = seen.v;
+        let many = seen.k;
+        k = cross(p, n, Interval { lo, hi, u, v }, out, many);
         lo = hi;
         u = v;
         i += 1;

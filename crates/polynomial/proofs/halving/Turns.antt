@@ -7,7 +7,7 @@ use Rattle.float.specs.Number.{negative, middle, zero-float}
 use Rattle.float.specs.Laws.Middle.{Span}
 use Rattle.polynomial.specs.Roots.{bisected}
 use Rattle.polynomial.specs.Inside.{turned, goes-on, halved, Narrower, Leaves}
-use Rattle.polynomial.specs.Plain.{Tells}
+use Rattle.polynomial.specs.Plain.{Signed}
 use Rattle.polynomial.specs.Laws.Halving.{at-lo, at-hi, at-zero, to-right, to-left}
 use Rattle.polynomial.specs.declared.halving.Turn.{Turn}
 use Rattle.polynomial.specs.declared.halving.Turn.the-variants.{Done, Upper, Lower}
@@ -62,5 +62,5 @@ module _ (f : Float → Float) (p : Bool) where
     lower k a A w W l e = by-turn lo hi s m M v at-m u U Lower k (Between m hi) l (λ h. h) (λ h. inner lo hi lo m h l (one lo m (h .1) a A w W l e))
 
   -- ---- one turn by a number with the value's sign
-  pub one-by-sign : (lo hi : Float) → Span 2 lo hi → (m : Float) → m ≡ middle lo hi → (v : Float) → Tells v (f m) → eq v zero-float ≡ false → (l : Left) → l ≡ halved lo hi m v p → Leaves f p lo hi l
-  one-by-sign lo hi s m M v t z l e = one lo hi s m M (f m) refl l (e ∙ same-turn lo hi m v (f m) z (t z .0) (t z .1))
+  pub one-by-sign : (lo hi : Float) → Span 2 lo hi → (m : Float) → m ≡ middle lo hi → (v : Float) → eq v zero-float ≡ false → Signed (negative v) (f m) → (l : Left) → l ≡ halved lo hi m v p → Leaves f p lo hi l
+  one-by-sign lo hi s m M v z t l e = one lo hi s m M (f m) refl l (e ∙ same-turn lo hi m v (f m) z (t .0) (t .1))

@@ -12,16 +12,13 @@ use Rattle.float.specs.Laws.Middle.{Span}
 use Rattle.polynomial.specs.Cuts.{cuts, put}
 use Rattle.polynomial.specs.Polynomial.{evaluate, near-zero}
 use Rattle.polynomial.specs.Roots.{touches, crosses, crossing, crossings, bisected}
-use Rattle.polynomial.specs.Inside.{Ready, crossed}
+use Rattle.polynomial.specs.Inside.{Ready, touched, crossed}
 use Rattle.polynomial.specs.Laws.Cuts.{Fit, cuts-cons, cuts-perm, perm-comm, fit-append, put-most, put-longer}
 use Rattle.polynomial.specs.Laws.Halving.{bisected-in}
 use Rattle.polynomial.specs.declared.compensated.Compensated.{Compensated}
 use Rattle.polynomial.specs.declared.roots.Interval.{Interval}
 
 -- ---- the scan: l is the list of cuts so far, a the last point, and the others are to come
-
-abbrev pub touched : List Compensated → Float → List Float → List Float
-touched p x l = cond (near-zero p x) (put x l) l
 
 abbrev pub between : List Compensated → Float → Float → Interval
 between p a b = record { lo = a; hi = b; u = evaluate p a; v = evaluate p b }

@@ -13,19 +13,15 @@ use Rattle.float.specs.Laws.Middle.{Span}
 use Rattle.polynomial.specs.Cuts.{cuts, put}
 use Rattle.polynomial.specs.Polynomial.{evaluate, value-near, near-zero}
 use Rattle.polynomial.specs.Roots.{touches, crossings}
-use Rattle.polynomial.specs.Inside.{Ready, crossed}
+use Rattle.polynomial.specs.Inside.{Ready, Stands, touched, crossed}
 use Rattle.polynomial.specs.declared.compensated.Compensated.{Compensated}
 use Rattle.polynomial.specs.declared.roots.Interval.{Interval}
 use Rattle.polynomial.proofs.roots.Kept.{Front, front-of, front-take, front-rest, front-length}
-use Rattle.polynomial.proofs.roots.Events.{touched, between, run, scanned, touched-most, touched-least, crossed-most, crossed-least}
+use Rattle.polynomial.proofs.roots.Events.{between, run, scanned, touched-most, touched-least, crossed-most, crossed-least}
 
--- the touch by the value v at x
-abbrev pub tried : List Compensated → Float → Float → List Float → List Float
-tried p x v l = cond (value-near p x v) (put x l) l
-
-near : (p : List Compensated) (x v : Float) (l : List Float) → v ≡ evaluate p x → tried p x v l ≡ touched p x l
-unfolding near-zero
-near p x v l e = ap (λ (z : Float). tried p x z l) e
+-- a crossing sees the signs of the values alone, and whether one is zero
+across : (f : Float → Float) (lo hi u v u' v' : Float) (l : List Float) → Stands u u' → Stands v v' → crossed f (record { lo = lo; hi = hi; u = u; v = v }) l ≡ crossed f (record { lo = lo; hi = hi; u = u'; v = v' }) l
+across f lo hi u v u' v' l a b = simp (a .0, a .1, b .0, b .1)
 
 run-on : (p : List Compensated) (l : List Float) (a b : Float) (r : List Float) → run p (crossed (evaluate p) (between p a b) (touched p b l)) b r ≡ run p l a (b ∷ r)
 unfolding run
@@ -41,30 +37,29 @@ pub record Scanned (p : List Compensated) (points : List Float) (count : ℕ) (f
   pub grown : first ≤ k
   pub rest : (m : ℕ) → k ≤ m → drop m out ≡ drop m from
   pub ready : Ready (lo ∷ slice i count points)
-  pub value : u ≡ evaluate p lo
+  pub value : Stands u (evaluate p lo)
   pub result : run p (take k out) lo (slice i count points) ≡ cuts (touches p (take count points) ++ crossings p (take count points))
 
 module _ (p : List Compensated) (points : List Float) (count : ℕ) (h : count ≤ length points) where
-  pub scan-first : (room : List Float) (d u : Float) (k : ℕ) (out : List Float) → count + count ≤ length room → 0 < count → Ready (take count points) → u ≡ evaluate p (getD points 0 d)
-      → Front (tried p (getD points 0 d) u (take 0 room)) room k out → Scanned p points count out k out (getD points 0 d) u k 1
+  pub scan-first : (room : List Float) (d u : Float) (k : ℕ) (out : List Float) → count + count ≤ length room → 0 < count → Ready (take count points) → Stands u (evaluate p (getD points 0 d))
+      → Front (touched p (getD points 0 d) (take 0 room)) room k out → Scanned p points count out k out (getD points 0 d) u k 1
   scan-first room d u k out w z ready e f =
       let x = getD points 0 d in
       let s : take count points ≡ x ∷ slice 1 count points = slice-cons 0 count points d z h in
-      let n = near p x u [] e in
       let y : Ready (x ∷ slice 1 count points) = subst Ready s ready in
       let m = touched-most p x [] in
-      let j : k ≤ 1 = omega (arith, f .0, ap length n) in
+      let j : k ≤ 1 = omega (arith, f .0) in
       record {
         within = omega arith;
         few = omega arith;
         same = refl;
-        room = let l = front-length (tried p x u []) room out k f (omega arith) in omega arith;
+        room = let l = front-length (touched p x []) room out k f (omega arith) in omega arith;
         grown = le-refl k;
         rest = λ m h. refl;
         ready = y;
         value = e;
         result =
-            ap (λ (l : List Float). run p l x (slice 1 count points)) (front-take (tried p x u []) room out k f ∙ n)
+            ap (λ (l : List Float). run p l x (slice 1 count points)) (front-take (touched p x []) room out k f)
             ∙ scanned p x (slice 1 count points) y
             ∙ ap (λ (l : List Float). cuts (touches p l ++ crossings p l)) (sym s);
       }
@@ -79,18 +74,16 @@ module _ (p : List Compensated) (points : List Float) (count : ℕ) (h : count �
     pub span : Span 2 lo (getD points i d)
     span = coming .0
 
-    module _ (v : Float) (k₁ : ℕ) (out₁ : List Float) (e : v ≡ evaluate p (getD points i d))
-        (f : Front (tried p (getD points i d) v (take k out)) out k₁ out₁) where
+    module _ (v : Float) (k₁ : ℕ) (out₁ : List Float) (e : Stands v (evaluate p (getD points i d)))
+        (f : Front (touched p (getD points i d) (take k out)) out k₁ out₁) where
       touched-few : k₁ ≤ suc k
       touched-few =
           let m = touched-most p (getD points i d) (take k out) in
-          let n = ap length (near p (getD points i d) v (take k out) e) in
           omega (arith, f .0, length-take k out)
 
       touched-more : k ≤ k₁
       touched-more =
           let m = touched-least p (getD points i d) (take k out) in
-          let n = ap length (near p (getD points i d) v (take k out) e) in
           let a = s .few in
           let b = s .room in
           let y = s .same in
@@ -102,7 +95,7 @@ module _ (p : List Compensated) (points : List Float) (count : ℕ) (h : count �
           let b = s .few in
           let r = s .room in
           let y = s .same in
-          front-length (tried p (getD points i d) v (take k out)) out out₁ k₁ f (omega arith)
+          front-length (touched p (getD points i d) (take k out)) out out₁ k₁ f (omega arith)
 
       pub cross-room : k₁ < length out₁
       cross-room = let a = touched-few in let b = touched-same in let r = s .few in let q = s .room in let y = s .same in omega arith
@@ -133,7 +126,7 @@ module _ (p : List Compensated) (points : List Float) (count : ℕ) (h : count �
             grown = omega arith;
             rest = λ r h.
                 front-rest (crossed (evaluate p) at (take k₁ out₁)) out₁ out₂ k₂ g r h
-                ∙ front-rest (tried p x v (take k out)) out out₁ k₁ f r (omega arith)
+                ∙ front-rest (touched p x (take k out)) out out₁ k₁ f r (omega arith)
                 ∙ s .rest r (omega arith);
             ready = rw add-one (coming .1);
             value = e;
@@ -141,18 +134,18 @@ module _ (p : List Compensated) (points : List Float) (count : ℕ) (h : count �
                 ap (λ (n : ℕ). run p (take k₂ out₂) x (slice n count points)) (add-one i)
                 ∙ ap (λ (y : List Float). run p y x (slice (suc i) count points))
                 (front-take (crossed (evaluate p) at (take k₁ out₁)) out₁ out₂ k₂ g
-                ∙ ap₂ (λ (y z : Float). crossed (evaluate p) (record { lo = lo; hi = x; u = y; v = z }) (take k₁ out₁)) (s .value) e
-                ∙ ap (crossed (evaluate p) (between p lo x)) (front-take (tried p x v (take k out)) out out₁ k₁ f ∙ near p x v (take k out) e))
+                ∙ across (evaluate p) lo x u v (evaluate p lo) (evaluate p x) (take k₁ out₁) (s .value) e
+                ∙ ap (crossed (evaluate p) (between p lo x)) (front-take (touched p x (take k out)) out out₁ k₁ f))
                 ∙ run-on p (take k out) lo x (slice (suc i) count points)
                 ∙ ap (λ (y : List Float). run p (take k out) lo y) (sym at-i)
                 ∙ s .result;
           }
 
-  -- `room` was lent, and the first point, whose value is v, tried there
-  pub scan-last : (room from : List Float) (d v : Float) (first : ℕ) (out : List Float) (lo u : Float) (k i : ℕ) → Front (tried p (getD points 0 d) v (take 0 room)) room first from → Scanned p points count from first out lo u k i → count ≤ i
+  -- `room` was lent, and the first point looked at there
+  pub scan-last : (room from : List Float) (d : Float) (first : ℕ) (out : List Float) (lo u : Float) (k i : ℕ) → Front (touched p (getD points 0 d) (take 0 room)) room first from → Scanned p points count from first out lo u k i → count ≤ i
       → Front (cuts (touches p (take count points) ++ crossings p (take count points))) room k out
   unfolding run
-  scan-last room from d v first out lo u k i f s c =
+  scan-last room from d first out lo u k i f s c =
       let a = s .within in
       let b = s .few in
       let r = s .room in
@@ -160,4 +153,4 @@ module _ (p : List Compensated) (points : List Float) (count : ℕ) (h : count �
       let e : i ≡ count = omega arith in
       let n : slice i count points ≡ [] = ap (λ (j : ℕ). slice j count points) e ∙ slice-empty count points in
       let t : take k out ≡ cuts (touches p (take count points) ++ crossings p (take count points)) = sym (ap (run p (take k out) lo) n) ∙ s .result in
-      front-of _ room out k (omega (arith, length-take k out, ap length t)) t (s .rest k (le-refl k) ∙ front-rest (tried p (getD points 0 d) v []) room from first f k (s .grown))
+      front-of _ room out k (omega (arith, length-take k out, ap length t)) t (s .rest k (le-refl k) ∙ front-rest (touched p (getD points 0 d) []) room from first f k (s .grown))

@@ -40,7 +40,7 @@ unfolding ofBits
 leaves c =
     let s = c .before .before in
     let m = s .before in
-    one-by-sign _ _ _ _ (m .before .loop .inv .0) _ (m .middle .ensures) _ (s .plain-sign .ensures) (c .before .if1 .left) _ (c .halved .ensures)
+    one-by-sign _ _ _ _ (m .before .loop .inv .0) _ (m .middle .ensures) _ (c .before .if1 .left) (s .plain-sign .ensures (c .before .if1 .left) .0) _ (c .halved .ensures)
 
 enum-known-left : tie.Need-enum-known-left Inv-loop μ-loop
 enum-known-left c = search needs

@@ -1,85 +1,70 @@
--- `polynomial::roots::scan` meets its contract. The invariant is `Scanned`; the measure is what is left of the points.
-use Prim.Native.Nat.{_-_}
-use lib.ListN.{take}
 use borrow.Author.Needs.{needs}
-use Rattle.polynomial.proofs.roots.Scanned.{Scanned, scan-first, span, cross-room, scan-more, scan-last}
+use native.Mathlib.Omega.{arith}
 use Rattle.polynomial.proofs.roots.scan.Statement.{statement}
 use Rattle.polynomial.proofs.roots.scan.Tie as tie
+use Rattle.polynomial.proofs.roots.scan.Reads as reads
+use Rattle.polynomial.proofs.roots.scan.Lts as lts
+use Rattle.polynomial.proofs.plain.all_tidy.Reads as all-tidy-reads
+use Rattle.polynomial.proofs.roots.cross.Reads as cross-reads
+use Rattle.polynomial.proofs.roots.look.Reads as look-reads
 
 abbrev Inv-loop : tie.InvT-loop
-Inv-loop p n points count out₀ lo₀ u₀ k₀ i₀ out lo u k i = Scanned (take n p) points count out₀ k₀ out lo u k i
+Inv-loop p n points count out₀ tidy lo₀ u₀ k₀ i₀ out lo u k i = ?
 
 abbrev μ-loop : tie.MeasureT-loop
-μ-loop p n points count out₀ lo₀ u₀ k₀ i₀ out lo u k i = count - i
+μ-loop p n points count out₀ tidy lo₀ u₀ k₀ i₀ out lo u k i = ?
 
--- the function's entry, from the loop
-abbrev start : tie.At-loop Inv-loop μ-loop → tie.Start Inv-loop μ-loop
-start l = l .before .before .before .before .before .before .before .before .before
+-- src/roots.rt:134:9
+all-tidy-requires : tie.Need-all-tidy-requires Inv-loop μ-loop
+all-tidy-requires c κs = search needs
 
+-- src/roots.rt:135:18
 shared-slice-read-lo : tie.Need-shared-slice-read-lo Inv-loop μ-loop
 shared-slice-read-lo c = search needs
 
-evaluate-requires : tie.Need-evaluate-requires Inv-loop μ-loop
-evaluate-requires c κs = search needs
+-- src/roots.rt:136:9
+look-requires : tie.Need-look-requires Inv-loop μ-loop
+look-requires c κs = search needs
 
-touch-requires : tie.Need-touch-requires Inv-loop μ-loop
-touch-requires c κs = search needs
-
+-- src/roots.rt:140:5
 loop-holds : tie.Need-loop-holds Inv-loop μ-loop
-loop-holds c =
-    let t = c .before .before in
-    let e = t .before .before in
-    let a = e .before .before .before .before .args in
-    let r = e .before .before .before .before .pre in
-    scan-first (take (a .n) (a .p)) (a .points .now) (a .count) (r .2) (a .out .now) _ (e .evaluate .result) _ _ (r .3) (r .1) (r .4) (e .evaluate .ensures) (t .touch .ensures)
+loop-holds c = search needs
 
+-- src/roots.rt:141:18
 mul-hi : tie.Need-mul-hi Inv-loop μ-loop
 mul-hi c = search needs
 
+-- src/roots.rt:141:18
 shared-slice-read-hi : tie.Need-shared-slice-read-hi Inv-loop μ-loop
 shared-slice-read-hi c = search needs
 
-evaluate-requires-2 : tie.Need-evaluate-requires-2 Inv-loop μ-loop
-evaluate-requires-2 c κs = search needs
+-- src/roots.rt:142:13
+look-requires-2 : tie.Need-look-requires-2 Inv-loop μ-loop
+look-requires-2 c κs = search needs
 
-touch-requires-2 : tie.Need-touch-requires-2 Inv-loop μ-loop
-touch-requires-2 c κs = search needs
-
+-- src/roots.rt:145:9
 cross-requires : tie.Need-cross-requires Inv-loop μ-loop
-cross-requires c κs =
-    let t = c .before .before .before in
-    let v = t .before .before in
-    let l = v .before .before .before in
-    let a = start l .args in (
-      start l .pre .0,
-      cross-room (take (a .n) (a .p)) (a .points .now) (a .count) (start l .pre .2) _ _ _ _ _ _ _ (l .loop .inv) (v .before .before .loop-test .taken) _ (v .evaluate2 .result) _ _ (v .evaluate2 .ensures) (t .touch2 .ensures),
-      span (take (a .n) (a .p)) (a .points .now) (a .count) (start l .pre .2) _ _ _ _ _ _ _ (l .loop .inv) (v .before .before .loop-test .taken) _,
-    )
+cross-requires c κs = search needs
 
+-- src/roots.rt:148:9
 add-i : tie.Need-add-i Inv-loop μ-loop
 add-i c = search needs
 
+-- src/roots.rt:140:5
 loop-less : tie.Need-loop-less Inv-loop μ-loop
 loop-less c = search needs
 
+-- src/roots.rt:140:5
 loop-again : tie.Need-loop-again Inv-loop μ-loop
-loop-again c =
-    let x = c .before .before in
-    let t = x .before .before .before .before in
-    let v = t .before .before in
-    let l = v .before .before .before in
-    let a = start l .args in
-    scan-more (take (a .n) (a .p)) (a .points .now) (a .count) (start l .pre .2) _ _ _ _ _ _ _ (l .loop .inv) (v .before .before .loop-test .taken) _ (v .evaluate2 .result) _ _ (v .evaluate2 .ensures) (t .touch2 .ensures) _ _ (x .cross .ensures)
+loop-again c = search needs
 
+-- src/roots.rt:129:1
 same-length : tie.Need-same-length Inv-loop μ-loop
 same-length c = search needs
 
+-- src/roots.rt:129:1
 returns : tie.Need-returns Inv-loop μ-loop
-returns c =
-    let l = c .before in
-    let t = l .before .before .before in
-    let a = start l .args in
-    scan-last (take (a .n) (a .p)) (a .points .now) (a .count) (start l .pre .2) (a .out .now) _ _ (t .before .before .evaluate .result) _ _ _ _ _ _ (t .touch .ensures) (l .loop .inv) (c .loop-test .left)
+returns c = search needs
 
 pub scan-spec : {M : Type 1} → statement M
 scan-spec =
@@ -87,14 +72,13 @@ scan-spec =
     (tie.spec
     Inv-loop
     μ-loop
+    all-tidy-requires
     shared-slice-read-lo
-    evaluate-requires
-    touch-requires
+    look-requires
     loop-holds
     mul-hi
     shared-slice-read-hi
-    evaluate-requires-2
-    touch-requires-2
+    look-requires-2
     cross-requires
     add-i
     loop-less
