@@ -3,8 +3,8 @@
 -- Roots: `Halving` (a bisection ends inside its interval; more turns change nothing), `Degree` (any count as large as the number of coefficients gives the same roots),
 -- `Enclosed` (roots and partition points lie between the bounds and increase strictly; how many there are), `Bounds` (bounds that hold can be halved).
 -- Angles: `Wrapped` (a wrapped angle lies within P and is never -0.0).
--- Signs: `Plain` (a plain value that is far from zero has the sign of the compensated one), from `PlainSteps` (sums and the parts of a result), `PlainProducts`, `PlainStep` (one step of Horner arithmetic),
--- `PlainSize` (a coefficient in units), `PlainScale` (the sum of magnitudes).
+-- Signs: `Plain` (a plain value that is far from zero has the sign of the compensated one, which is not near zero), from `PlainSteps` (sums and the parts of a result), `PlainProducts`,
+-- `PlainStep` (one step of Horner arithmetic), `PlainSize` (a coefficient in units), `PlainScale` (the sum of magnitudes), `PlainMagnitudes` (the sum with the residuals, and the bound of `near-zero`).
 -- Curves: `Inner` (what an inner call of the root finder says, by its answer), `Norm` (how many roots a squared norm has).
 pub mod Cuts
 pub mod Placed
@@ -22,4 +22,5 @@ pub mod PlainProducts
 pub mod PlainStep
 pub mod PlainSize
 pub mod PlainScale
+pub mod PlainMagnitudes
 pub mod Plain
