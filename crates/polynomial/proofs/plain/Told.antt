@@ -2,7 +2,7 @@
 use Prim.Native.Nat.{ℕ, _≤_}
 use native.Mathlib.Omega.{arith}
 use mathlib.Core.Path.{_≡_, refl, sym, ap, ap₂, _∙_, subst}
-use mathlib.Core.Logic.{_⊎_, inl, inr}
+use mathlib.Core.Logic.{inl, inr}
 use mathlib.Core.Bool.{Bool, true, false, cond, true≢false}
 use mathlib.Core.List.{List}
 use lib.Dec.{T}
@@ -10,13 +10,8 @@ use lib.ListN.{length, take, length-take}
 use lib.Ieee.{Float, binary64, fits, neg, lt, le, eq}
 use Rattle.float.specs.Number.{_⊗_, abs, zero-float, one-float}
 use Rattle.polynomial.specs.Plain.{plain, scale, least, margin, AllTidy, told, Tells}
-use Rattle.polynomial.specs.Polynomial.{near-zero}
-use Rattle.polynomial.specs.Laws.Plain.{plain-positive, plain-negative}
+use Rattle.polynomial.specs.Laws.Plain.{plain-positive, plain-negative, plain-away}
 use Rattle.polynomial.specs.declared.compensated.Compensated.{Compensated}
-
-plain-away : (p : List Compensated) (x : Float) → length p ≤ 9 → AllTidy p → T (fits binary64 x) → le (abs x) one-float ≡ true → le least (scale p x) ≡ true
-    → (lt (margin ⊗ scale p x) (plain p x) ≡ true) ⊎ (lt (plain p x) (neg (margin ⊗ scale p x)) ≡ true) → near-zero p x ≡ false
-plain-away = ?
 
 module _ (p : List Compensated) (x : Float) (l : length p ≤ 9) (t : AllTidy p) (f : T (fits binary64 x)) where
   plain-tells : Tells (told (abs x) (plain p x) (scale p x)) p x

@@ -3,15 +3,14 @@ use Prim.Native.Nat.{ℕ, suc, _+_, _≤_, _<_}
 use native.Mathlib.Nat.{le-refl}
 use native.Mathlib.Numerals.{add-one}
 use native.Mathlib.Omega.{arith}
-use mathlib.Core.Path.{_≡_, refl, sym, ap, ap₂, subst, _∙_}
-use mathlib.Core.Bool.{cond}
+use mathlib.Core.Path.{_≡_, refl, sym, ap, subst, _∙_}
 use mathlib.Core.List.{List, [], _∷_, _++_}
 use lib.ListN.{length, getD, take, drop, length-take}
 use lib.Seq.{slice, slice-cons, slice-empty}
 use lib.Ieee.{Float}
 use Rattle.float.specs.Laws.Middle.{Span}
-use Rattle.polynomial.specs.Cuts.{cuts, put}
-use Rattle.polynomial.specs.Polynomial.{evaluate, value-near, near-zero}
+use Rattle.polynomial.specs.Cuts.{cuts}
+use Rattle.polynomial.specs.Polynomial.{evaluate}
 use Rattle.polynomial.specs.Roots.{touches, crossings}
 use Rattle.polynomial.specs.Inside.{Ready, Stands, touched, crossed}
 use Rattle.polynomial.specs.declared.compensated.Compensated.{Compensated}

@@ -1,5 +1,4 @@
 -- `polynomial::roots::look` meets its contract.
-use mathlib.Core.Path.{_≡_, _∙_}
 use lib.ListN.{take}
 use lib.Ieee.{ofBits, ne}
 use borrow.Author.Needs.{needs}
@@ -16,8 +15,7 @@ unfolding ofBits ne
 returns c =
     let s = c .before .before .before .before in
     let a = s .args in
-    let r = by-sign (take (a .n) (a .p)) (a .x) (a .out .now) (a .k) (c .before .plain-sign .result) (search needs) (not-true _ (c .if2 .taken)) (c .before .plain-sign .ensures) in
-    (r .0, r .1 .0, r .1 .1)
+    by-sign (take (a .n) (a .p)) (a .x) (a .out .now) (a .k) (c .before .plain-sign .result) (search needs) (not-true _ (c .if2 .taken)) (c .before .plain-sign .ensures)
 
 evaluate-requires : tie.Need-evaluate-requires
 evaluate-requires c κs = search needs
@@ -33,8 +31,7 @@ returns-2 c =
     let t = c .before .before in
     let v = t .before .before in
     let a = v .before .before .before .args in
-    let r = by-value (take (a .n) (a .p)) (a .x) (a .out .now) (a .k) (v .evaluate .result) _ _ (v .evaluate .ensures) (t .touch .ensures) in
-    (r .0, r .1 .0, r .1 .1)
+    by-value (take (a .n) (a .p)) (a .x) (a .out .now) (a .k) (v .evaluate .result) _ _ (v .evaluate .ensures) (t .touch .ensures)
 
 pub look-spec : {M : Type 1} → statement M
 look-spec = tie.close (tie.spec plain-sign-requires returns evaluate-requires touch-requires same-length returns-2)
