@@ -77,7 +77,7 @@ fn count_of(sheet: &[u8]) -> usize
     half(sheet, at) as usize
 }
 
-// 32: the length is that of n angles, and the trailer is theirs.
+// 32: the length is that of n angles, the request's position 8n is a u32, and the trailer is theirs.
 fn formed(sheet: &[u8], n: usize) -> bool
     requires { ⌜ Request.request-size + Sheet.trailer-size ≤ length (now sheet) ⌝ }
     requires { ⌜ n ≡ Check.count-of (now sheet) ⌝ }
@@ -85,6 +85,9 @@ fn formed(sheet: &[u8], n: usize) -> bool
     ensures { λ r. ⌜ r ≡ Check.formed (now (sheet .entry)) ⌝ }
 {
     if sheet.len() != 8 * n + FIXED {
+        return false;
+    }
+    if 8 * n >= 4294967296 {
         return false;
     }
     let mut t = [0u8; 16];
