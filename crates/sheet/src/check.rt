@@ -6,6 +6,7 @@ ghost use Rattle.sampling.specs.Stream.{start};
 ghost use Rattle.sampling.specs.Plan.{to-come, Ready};
 ghost use Rattle.sheet.specs.Bytes as Bytes;
 ghost use Rattle.sheet.specs.Request as Request;
+ghost use Rattle.sheet.specs.Refusals as Refusals;
 ghost use Rattle.sheet.specs.Sheet as Sheet;
 ghost use Rattle.sheet.specs.Sampling as Sampling;
 ghost use Rattle.sheet.specs.Check as Check;
@@ -38,6 +39,21 @@ pub enum Checked {
     Unread,
     Work,
     Angles,
+}
+
+// 01's number of a refusal, 0 for an acceptance.
+pub fn refusal_of(a: Checked) -> u64
+    ensures { λ r. ⌜ r ≡ Refusals.refusal (Check.ruling a) ⌝ }
+{
+    match a {
+        Checked::Accepted(_) => 0,
+        Checked::Length => 31,
+        Checked::Trailer => 32,
+        Checked::Request => 33,
+        Checked::Unread => 34,
+        Checked::Work => 35,
+        Checked::Angles => 36,
+    }
 }
 
 // Whether the bytes are those of the angles, no more and no less.
