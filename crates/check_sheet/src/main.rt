@@ -8,6 +8,7 @@ use libc::STDIN_FILENO;
 use libc::STDOUT_FILENO;
 use sheet::check::Checked;
 use sheet::check::check;
+use sheet::check::refusal_of;
 use text::report::number;
 
 // The first n floats of a sheet, a line each.
@@ -25,26 +26,16 @@ fn print_angles(sheet: &[u8], n: usize) {
     }
 }
 
-fn print_refusal(k: u64) {
-    number(STDOUT_FILENO, b"refused", k);
-}
-
 fn answer(sheet: &[u8]) {
     let mut work = [0.0f64; 4096];
     let checked = check(sheet, &mut work);
-    match checked {
-        Checked::Accepted(n) => {
-            if number(STDOUT_FILENO, b"accepted", n as u64) {
-                print_angles(sheet, n);
-            }
+    if let Checked::Accepted(n) = checked {
+        if number(STDOUT_FILENO, b"accepted", n as u64) {
+            print_angles(sheet, n);
         }
-        Checked::Length => print_refusal(31),
-        Checked::Trailer => print_refusal(32),
-        Checked::Request => print_refusal(33),
-        Checked::Unread => print_refusal(34),
-        Checked::Work => print_refusal(35),
-        Checked::Angles => print_refusal(36),
+        return;
     }
+    number(STDOUT_FILENO, b"refused", refusal_of(checked));
 }
 
 // Whether one more byte stands on standard input.

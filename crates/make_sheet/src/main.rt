@@ -5,12 +5,9 @@ use libc::STDERR_FILENO;
 use libc::STDIN_FILENO;
 use libc::STDOUT_FILENO;
 use sheet::sample::Sampled;
+use sheet::sample::refusal_of;
 use sheet::sample::sample;
 use text::report::number;
-
-fn print_refusal(k: u64) {
-    number(STDERR_FILENO, b"refused", k);
-}
 
 // The sheet of n angles, at the start of the output.
 fn write_sheet(output: &[u8], n: usize) {
@@ -30,20 +27,11 @@ fn answer(request: &[u8]) {
     let mut work = [0.0f64; 4096];
     let mut output = io::large_buffer();
     let sampled = sample(request, &mut work, &mut output);
-    match sampled {
-        Sampled::Angles(n) => write_sheet(&output, n),
-        Sampled::Length => print_refusal(1),
-        Sampled::Head => print_refusal(2),
-        Sampled::Sign => print_refusal(3),
-        Sampled::NotFinite => print_refusal(4),
-        Sampled::Zero => print_refusal(5),
-        Sampled::Arm => print_refusal(6),
-        Sampled::Reference => print_refusal(7),
-        Sampled::Offset => print_refusal(8),
-        Sampled::Roots => print_refusal(9),
-        Sampled::Work => print_refusal(10),
-        Sampled::Output => print_refusal(11),
+    if let Sampled::Angles(n) = sampled {
+        write_sheet(&output, n);
+        return;
     }
+    number(STDERR_FILENO, b"refused", refusal_of(sampled));
 }
 
 // One byte more than a request has room, so that a longer one is refused.

@@ -36,7 +36,7 @@ pub struct Numerators {
 }
 
 // A harmonic as a polynomial numerator in u = tan((q1 - origin) / 2), in the first three places.
-pub fn numerator(h: Harmonic, origin: f64) -> [Compensated; 9]
+pub(crate) fn numerator(h: Harmonic, origin: f64) -> [Compensated; 9]
     ensures { λ r. ⌜ take 3 r ≡ Of.numerator h origin ⌝ }
 {
     let both = sin_cos(origin);
@@ -111,7 +111,7 @@ fn norm_target(norm: f64) -> [Compensated; 9]
 }
 
 // x(u)^2 + y(u)^2 less the target, in the chart around the origin, in the first five places.
-pub fn norm_polynomial(x: Harmonic, y: Harmonic, norm: f64, origin: f64) -> [Compensated; 9]
+pub(crate) fn norm_polynomial(x: Harmonic, y: Harmonic, norm: f64, origin: f64) -> [Compensated; 9]
     ensures { λ r. ⌜ take 5 r ≡ Of.norm-polynomial x y norm origin ⌝ }
 {
     let p = numerator(x, origin);

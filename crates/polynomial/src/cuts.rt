@@ -17,7 +17,7 @@ fn negative(x: f64) -> bool
 }
 
 // v goes past w: it comes later, and does not equal it. A NaN goes past every number.
-pub fn passes(w: f64, v: f64) -> bool
+pub(crate) fn passes(w: f64, v: f64) -> bool
     ensures { λ r. ⌜ r ≡ passed v w ⌝ }
 {
     if w < v {

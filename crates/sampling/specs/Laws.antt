@@ -1,5 +1,5 @@
 -- Laws of the definitions, for upper files to cite.
--- `Intervals` (a limit interval is in order and lies within P), `Limits` (a joint's interval: centre and half width within P, ends in order and within a turn),
+-- `Intervals` (a limit interval is in order and lies within P), `Limits` (the ends of a joint's interval are in order and lie within a turn),
 -- `Pose` (the parts of a normalized quaternion lie within 2, the entries of its matrix within 17),
 -- `Pushed` and `Grown` (lists and cuts that grow, one after the other),
 -- `Samples` (roots one by one, the sample at each position), `Few` (how many boundary angles, cuts and angles of one free joint at most), `CriticalSlices` (roots and curves one by one),

@@ -4,7 +4,6 @@ ghost use mathlib.Core.Path.{_≡_};
 ghost use mathlib.Core.List.{[], _∷_};
 ghost use Prim.Native.Nat.{_<_};
 ghost use lib.Dec.{leb};
-ghost use lib.ListN.{length};
 ghost use Rattle.polynomial.specs.declared.cuts.Put.the-variants as put;
 ghost use Rattle.sampling.specs.Grown.{Grown, counted, number};
 use polynomial::cuts::Put;

@@ -4,7 +4,6 @@ ghost use mathlib.Core.Path.{_≡_};
 ghost use Rattle.sampling.specs.Wrist as Of;
 use crate::continuum::Axes;
 use crate::continuum::Trig;
-use crate::continuum::TrigVector;
 use crate::pose::Matrix;
 
 // A vector in the plane, whose direction is an angle of the wrist.

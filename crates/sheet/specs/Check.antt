@@ -1,9 +1,9 @@
 -- The operation Check (01): refusals 31 to 36 in their order. Definitions only.
-use Prim.Native.Nat.{ℕ, _+_, _-_}
+use Prim.Native.Nat.{ℕ, _+_, _-_, _*_, _^_}
 use mathlib.Core.List.{List}
 use mathlib.Core.Bool.{Bool, cond, _&&_}
 use lib.ListN.{length, take}
-use lib.Dec.{eqb, leb}
+use lib.Dec.{eqb, leb, ltb}
 use Rattle.sheet.specs.Bytes.{le, part, floats-bytes, same-bytes}
 use Rattle.sheet.specs.Request.{request-size, blank}
 use Rattle.sheet.specs.Refusals.{Verdict, accepted, refused, need}
@@ -35,9 +35,9 @@ request-of s = part (length s - (request-size + trailer-size)) request-size s
 abbrev pub angles-of : List ℕ → List ℕ
 angles-of s = take (length s - (request-size + trailer-size)) s
 
--- 32: the length is that of n angles, and the trailer is theirs
+-- 32: the length is that of n angles, the request's position 8n is a u32, and the trailer is theirs
 unfoldable pub formed : List ℕ → Bool
-formed s = eqb (length s) (sheet-size (count-of s)) && same-bytes (trailer-of s) (trailer (count-of s))
+formed s = eqb (length s) (sheet-size (count-of s)) && (ltb (8 * count-of s) (2 ^ 32) && same-bytes (trailer-of s) (trailer (count-of s)))
 
 -- 34: every unread field is zero
 abbrev pub clean : List ℕ → Bool

@@ -22,6 +22,11 @@ abbrev pub number : Verdict → ℤ
 number (accepted n) = pos n
 number (refused k) = negℤ (pos k)
 
+-- for the programs: the refusal's number, 0 for what is accepted
+abbrev pub refusal : Verdict → ℕ
+refusal (accepted n) = 0
+refusal (refused k) = k
+
 -- what comes next, if a condition holds, and else the refusal k
 unfoldable pub need : Bool → ℕ → Verdict → Verdict
 need true k v = v

@@ -6,6 +6,7 @@ ghost use Rattle.sampling.specs.Stream.{start};
 ghost use Rattle.sampling.specs.Plan.{to-come, Ready};
 ghost use Rattle.sheet.specs.Bytes as Bytes;
 ghost use Rattle.sheet.specs.Request as Request;
+ghost use Rattle.sheet.specs.Refusals as Refusals;
 ghost use Rattle.sheet.specs.Sheet as Sheet;
 ghost use Rattle.sheet.specs.Sampling as Sampling;
 ghost use Rattle.sheet.specs.Check as Check;
@@ -38,6 +39,21 @@ pub enum Checked {
     Unread,
     Work,
     Angles,
+}
+
+// 01's number of a refusal, 0 for an acceptance.
+pub fn refusal_of(a: Checked) -> u64
+    ensures { λ r. ⌜ r ≡ Refusals.refusal (Check.ruling a) ⌝ }
+{
+    match a {
+        Checked::Accepted(_) => 0,
+        Checked::Length => 31,
+        Checked::Trailer => 32,
+        Checked::Request => 33,
+        Checked::Unread => 34,
+        Checked::Work => 35,
+        Checked::Angles => 36,
+    }
 }
 
 // Whether the bytes are those of the angles, no more and no less.
@@ -77,7 +93,7 @@ fn count_of(sheet: &[u8]) -> usize
     half(sheet, at) as usize
 }
 
-// 32: the length is that of n angles, and the trailer is theirs.
+// 32: the length is that of n angles, the request's position 8n is a u32, and the trailer is theirs.
 fn formed(sheet: &[u8], n: usize) -> bool
     requires { ⌜ Request.request-size + Sheet.trailer-size ≤ length (now sheet) ⌝ }
     requires { ⌜ n ≡ Check.count-of (now sheet) ⌝ }
@@ -85,6 +101,9 @@ fn formed(sheet: &[u8], n: usize) -> bool
     ensures { λ r. ⌜ r ≡ Check.formed (now (sheet .entry)) ⌝ }
 {
     if sheet.len() != 8 * n + FIXED {
+        return false;
+    }
+    if 8 * n >= 4294967296 {
         return false;
     }
     let mut t = [0u8; 16];

@@ -48,6 +48,26 @@ pub enum Sampled {
     Output,
 }
 
+// 01's number of a refusal, 0 for success.
+pub fn refusal_of(a: Sampled) -> u64
+    ensures { λ r. ⌜ r ≡ Refusals.refusal (Sampling.verdict a) ⌝ }
+{
+    match a {
+        Sampled::Angles(_) => 0,
+        Sampled::Length => 1,
+        Sampled::Head => 2,
+        Sampled::Sign => 3,
+        Sampled::NotFinite => 4,
+        Sampled::Zero => 5,
+        Sampled::Arm => 6,
+        Sampled::Reference => 7,
+        Sampled::Offset => 8,
+        Sampled::Roots => 9,
+        Sampled::Work => 10,
+        Sampled::Output => 11,
+    }
+}
+
 // The angles as `next` gives them, from the start of the output on.
 fn put_stream(output: &mut [u8], work: &[f64], plan: Plan)
     requires { ⌜ Ready plan (now work) ⌝ }

@@ -1,6 +1,6 @@
-// A view that holds a request's bytes, and thin readers over it. The borrow checker covers no function over such a struct: each is proved
-// by hand, takes the view apart and calls a covered function on slice and position. `float_in` and `byte_in`, whose parameters are plain, stand
-// above them.
+// A view that holds a request's bytes, and thin readers over it. The checker covers no function over
+// such a struct: each is proved by hand, takes the view apart and calls a covered function on slice
+// and position. `float_in` and `byte_in`, whose parameters are plain, stand above them.
 ghost use mathlib.Core.Path.{_≡_};
 ghost use Prim.Native.Nat.{_+_, _≤_, _<_};
 ghost use lib.ListN.{length, getD};
@@ -34,7 +34,8 @@ pub(crate) fn byte<'a>(v: View<'a>, at: usize) -> u8
     byte_at(v.request, at)
 }
 
-// The float at `at` of a request, read through a view of it: whoever calls this needs no proof by hand.
+// The float at `at` of a request, read through a view of it. Whoever calls this needs no proof by
+// hand.
 pub(crate) fn float_in(request: &[u8], at: usize) -> f64
     requires { ⌜ at + 8 ≤ length (now request) ⌝ }
     ensures { λ r. ⌜ r ≡ Bytes.float-at (now (request .entry)) at ⌝ }

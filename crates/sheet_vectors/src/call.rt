@@ -7,39 +7,25 @@ use sheet::check::Checked;
 use sheet::check::check;
 use sheet::sample::Sampled;
 use sheet::sample::sample;
+use std::num::wrapping_sub_u64;
 use text::hex::word;
 use text::lines::bytes;
 use text::lines::held;
 
 // The count, or minus 01's number of the refusal, in two's complement.
 fn sampled_number(a: Sampled) -> u64 {
-    match a {
-        Sampled::Angles(n) => n as u64,
-        Sampled::Length => 0xffff_ffff_ffff_ffff,
-        Sampled::Head => 0xffff_ffff_ffff_fffe,
-        Sampled::Sign => 0xffff_ffff_ffff_fffd,
-        Sampled::NotFinite => 0xffff_ffff_ffff_fffc,
-        Sampled::Zero => 0xffff_ffff_ffff_fffb,
-        Sampled::Arm => 0xffff_ffff_ffff_fffa,
-        Sampled::Reference => 0xffff_ffff_ffff_fff9,
-        Sampled::Offset => 0xffff_ffff_ffff_fff8,
-        Sampled::Roots => 0xffff_ffff_ffff_fff7,
-        Sampled::Work => 0xffff_ffff_ffff_fff6,
-        Sampled::Output => 0xffff_ffff_ffff_fff5,
+    if let Sampled::Angles(n) = a {
+        return n as u64;
     }
+    wrapping_sub_u64(0, sheet::sample::refusal_of(a))
 }
 
 // The same for Check.
 fn checked_number(a: Checked) -> u64 {
-    match a {
-        Checked::Accepted(n) => n as u64,
-        Checked::Length => 0xffff_ffff_ffff_ffe1,
-        Checked::Trailer => 0xffff_ffff_ffff_ffe0,
-        Checked::Request => 0xffff_ffff_ffff_ffdf,
-        Checked::Unread => 0xffff_ffff_ffff_ffde,
-        Checked::Work => 0xffff_ffff_ffff_ffdd,
-        Checked::Angles => 0xffff_ffff_ffff_ffdc,
+    if let Checked::Accepted(n) = a {
+        return n as u64;
     }
+    wrapping_sub_u64(0, sheet::check::refusal_of(a))
 }
 
 // The bits that place i of the work is to hold afterwards: those of +0.0 where it was lent, else of

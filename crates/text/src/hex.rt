@@ -39,7 +39,7 @@ fn digit(b: u8) -> u64
 }
 
 // Whether the 16 bytes at `at` are digits.
-pub fn is_word(s: &[u8], at: usize) -> bool
+pub(crate) fn is_word(s: &[u8], at: usize) -> bool
     requires { ⌜ at + 16 ≤ length (now s) ⌝ }
     ensures { λ r. ⌜ r ≡ Hex.digits (now (s .entry)) at 16 ⌝ }
 {
@@ -67,7 +67,7 @@ pub fn word(s: &[u8], at: usize) -> u64
 }
 
 // The byte that the two digits at `at` stand for.
-pub fn byte(s: &[u8], at: usize) -> u8
+pub(crate) fn byte(s: &[u8], at: usize) -> u8
     requires { ⌜ at + 2 ≤ length (now s) ⌝ }
     ensures { λ r. ⌜ r ≡ Hex.value (now (s .entry)) at 2 ⌝ }
 {

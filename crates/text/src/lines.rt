@@ -3,7 +3,7 @@
 ghost use mathlib.Core.Path.{_≡_};
 ghost use mathlib.Core.Bool.{cond};
 ghost use Prim.Native.Nat.{_+_, _*_, _≤_, _<_, min};
-ghost use lib.ListN.{length};
+ghost use lib.ListN.{length, replicate};
 ghost use lib.Seq.{sets};
 ghost use Rattle.text.specs.Lines as Lines;
 use crate::hex::byte;
@@ -11,7 +11,7 @@ use crate::hex::is_word;
 
 // Room for a program's text, 2 MiB.
 pub fn room() -> [u8; 2097152]
-    ensures { λ r. ⌜ 2097152 ≡ length r ⌝ }
+    ensures { λ r. ⌜ r ≡ replicate 2097152 0 ⌝ }
 {
     [0; 2097152]
 }

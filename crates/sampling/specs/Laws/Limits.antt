@@ -14,10 +14,10 @@ use Rattle.float.specs.Laws.Within.{Within, held, fits→held, numeral, add-wit
 use Rattle.float.specs.Laws.Interval.{In, Le-refl, Le-trans}
 use Rattle.float.specs.Laws.Range.{nlt→Le}
 use Rattle.polynomial.specs.Angle.{turn, wrapped-angle}
-use Rattle.polynomial.specs.Laws.Wrapped.{wrapped-within, wrapped-fits, wrapped-not-minus-zero}
+use Rattle.polynomial.specs.Laws.Wrapped.{wrapped-within}
 use Rattle.sampling.specs.Constraints.{arc, compute-center}
 use Rattle.sampling.specs.Limits.{centered, limits-of, limits}
-use Rattle.sampling.specs.Laws.Intervals.{minimum-fits, nothing-between}
+use Rattle.sampling.specs.Laws.Intervals.{nothing-between}
 use Rattle.sampling.specs.declared.constraints.Center.{Center}
 use Rattle.sampling.specs.declared.intervals.Range.the-variants.{Nothing, Between}
 use Rattle.sampling.specs.declared.job.Joint.{Joint}
@@ -38,18 +38,7 @@ half-within : {x : Float} → In zero-float P x → Within P x
 unfolding neg le
 half-within h = Le→within tt (h .upper) (Le-trans (le→Le (neg P) zero-float tt tt tt) (h .lower))
 
--- ---- an interval around a centre, and its ends
-pub record Around (lo hi : Float) : Type 0 where
-  pub center : Float
-  pub half : Float
-  pub lower-is : lo ≡ center ⊖ half
-  pub upper-is : hi ≡ center ⊕ half
-  pub center-fits : T (fits binary64 center)
-  pub center-within : Within P center
-  pub center-not-minus-zero : center ≡ fin true 0 (pos 0) → ⊥
-  pub half-fits : T (fits binary64 half)
-  pub half-between : In zero-float P half
-
+-- ---- the ends of an interval around a centre
 pub record Ends (lo hi : Float) : Type 0 where
   pub lower-fits : T (fits binary64 lo)
   pub upper-fits : T (fits binary64 hi)
@@ -70,9 +59,6 @@ around-ends c h w k =
       upper-within = upper;
       order = le→Le (c ⊖ h) (c ⊕ h) (lower .real) (upper .real) (add-mono binary64 (Le-refl c (w .real)) turned);
     }
-
-ends : {lo hi : Float} → Around lo hi → Ends lo hi
-ends a = rw (a .lower-is, a .upper-is) (around-ends (a .center) (a .half) (a .center-within) (a .half-between))
 
 -- ---- the centre
 pub unit-sign : {sign : Float} → (sign ≡ one-float) ⊎ (sign ≡ neg one-float) → Within one-float sign
@@ -100,60 +86,38 @@ taken false true f x y lo hi e = absurd (nothing-between e)
 taken false false false x y lo hi e = absurd (nothing-between e)
 taken false false true x y lo hi e = record { number-is = tt; plus = tt; finite-is = tt; lower = cc; upper = cc }
 
--- ---- parts that fit binary64
-pub record Center-fits (c : Center) : Type 0 where
-  pub center : T (fits binary64 (c .center))
-  pub tolerance : T (fits binary64 (c .tolerance))
+-- ---- a centre that fits binary64
+abbrev Fits : Center → Type 0
+Fits c = T (fits binary64 (c .center))
 
-fitting : (x y : Float) → T (fits binary64 x) → T (fits binary64 y) → Center-fits (record { center = x; tolerance = y })
-fitting x y t u = record { center = t; tolerance = u }
+chosen : (p q r s : Bool) (a b c n : Center) → Fits a → Fits b → Fits c → Fits n → Fits (cond p (cond q (cond r a (cond s b c)) n) n)
+chosen false q r s a b c n f g h k = k
+chosen true false r s a b c n f g h k = k
+chosen true true true s a b c n f g h k = f
+chosen true true false true a b c n f g h k = g
+chosen true true false false a b c n f g h k = h
 
-chosen : (p q r s : Bool) {a b c n : Center} → Center-fits a → Center-fits b → Center-fits c → Center-fits n → Center-fits (cond p (cond q (cond r a (cond s b c)) n) n)
-chosen false q r s a b c n = n
-chosen true false r s a b c n = n
-chosen true true true s a b c n = a
-chosen true true false true a b c n = b
-chosen true true false false a b c n = c
-
-compute-fits : (a b : Float) → Center-fits (compute-center a b)
+compute-fits : (a b : Float) → Fits (compute-center a b)
 unfolding compute-center fits
 compute-fits a b =
-    chosen (finite a) (finite b) (eq a b) (lt a b)
-    (fitting zero-float (inf false) tt tt)
-    (fitting ((a ⊕ b) ⊘ two-float) ((b ⊖ a) ⊘ two-float) (div-fits binary64 (a ⊕ b) two-float) (div-fits binary64 (b ⊖ a) two-float))
-    (fitting (a ⊕ arc a b ⊘ two-float) (arc a b ⊘ two-float) (add-fits binary64 a (arc a b ⊘ two-float)) (div-fits binary64 (arc a b) two-float))
-    (fitting nan nan tt tt)
+    chosen (finite a) (finite b) (eq a b) (lt a b) _ _ _ _ tt (div-fits binary64 (a ⊕ b) two-float) (add-fits binary64 a (arc a b ⊘ two-float)) tt
 
-centered-fits : (limited : Bool) (j : Joint) → T (fits binary64 (j .reference)) → Center-fits (centered limited j)
-unfolding centered fits
+centered-fits : (limited : Bool) (j : Joint) → T (fits binary64 (j .reference)) → Fits (centered limited j)
+unfolding centered
 centered-fits true j t = compute-fits (j .from) (j .to)
-centered-fits false j t = fitting (j .reference) P t tt
+centered-fits false j t = t
 
--- ---- the laws
-limits-of-around : (c : Center) (sign offset lo hi : Float) → Center-fits c → Within one-float sign → Within turn offset → limits-of c sign offset ≡ Between lo hi → Around lo hi
+-- ---- the law
+limits-of-ends : (c : Center) (sign offset lo hi : Float) → Fits c → Within one-float sign → Within turn offset → limits-of c sign offset ≡ Between lo hi → Ends lo hi
 unfolding limits-of
-limits-of-around c sign offset lo hi t s o e =
+limits-of-ends c sign offset lo hi t s o e =
     let m = wrapped-angle (c .center) ⊗ sign ⊖ offset in
     let h = minimum (c .tolerance) P in
     let k = taken (isNan (c .tolerance)) (lt (c .tolerance) zero-float) (finite (c .center)) (wrapped-angle m ⊖ h) (wrapped-angle m ⊕ h) lo hi e in
-    let g = model-held (c .center) sign offset (t .center) (k .finite-is) s o in
-    record {
-      center = wrapped-angle m;
-      half = h;
-      lower-is = k .lower;
-      upper-is = k .upper;
-      center-fits = wrapped-fits m;
-      center-within = wrapped-within m g;
-      center-not-minus-zero = wrapped-not-minus-zero m g;
-      half-fits = minimum-fits (c .tolerance) (t .tolerance);
-      half-between = half-in (c .tolerance) (k .number-is) (k .plus);
-    }
-
-pub limits-around : (limited : Bool) (j : Joint) (lo hi : Float) → T (fits binary64 (j .reference)) → (j .sign ≡ one-float) ⊎ (j .sign ≡ neg one-float) → Within turn (j .offset)
-    → limits limited j ≡ Between lo hi → Around lo hi
-unfolding limits
-limits-around limited j lo hi t s o e = limits-of-around (centered limited j) (j .sign) (j .offset) lo hi (centered-fits limited j t) (unit-sign s) o e
+    let g = model-held (c .center) sign offset t (k .finite-is) s o in
+    rw (k .lower, k .upper) (around-ends (wrapped-angle m) h (wrapped-within m g) (half-in (c .tolerance) (k .number-is) (k .plus)))
 
 pub limits-ends : (limited : Bool) (j : Joint) (lo hi : Float) → T (fits binary64 (j .reference)) → (j .sign ≡ one-float) ⊎ (j .sign ≡ neg one-float) → Within turn (j .offset)
     → limits limited j ≡ Between lo hi → Ends lo hi
-limits-ends limited j lo hi t s o e = ends (limits-around limited j lo hi t s o e)
+unfolding limits
+limits-ends limited j lo hi t s o e = limits-of-ends (centered limited j) (j .sign) (j .offset) lo hi (centered-fits limited j t) (unit-sign s) o e

@@ -1,14 +1,14 @@
 -- The rulings of Check one by one. Assumes nothing.
-use Prim.Native.Nat.{ℕ, _+_, _-_, _≤_, _<_}
+use Prim.Native.Nat.{ℕ, _+_, _-_, _*_, _≤_, _<_}
 use native.Mathlib.Omega.{arith}
 use mathlib.Core.Path.{_≡_, sym, ap, _∙_}
 use mathlib.Core.List.{List}
 use mathlib.Core.Bool.{true, false, false≢true}
 use lib.ListN.{length, take, drop}
 use lib.Seq.{sets}
-use lib.Dec.{eqb}
+use lib.Dec.{eqb, ltb}
 use lib.Ieee.{Float}
-use borrow.Author.Tests.{eqb-true, eq-eqb, ne-eqb, le-leb, lt-leb}
+use borrow.Author.Tests.{eqb-true, eq-eqb, ne-eqb, le-leb, lt-leb, lt-ltb, le-ltb}
 use Rattle.sampling.specs.Stream.{start}
 use Rattle.sampling.specs.Plan.{to-come}
 use Rattle.sampling.specs.Planned.{Outcome, came}
@@ -47,14 +47,20 @@ pub formed-no : (s : List ℕ) (n : ℕ) → n ≡ count-of s → (length s ≡ 
 unfolding formed
 formed-no s n e h = rw (ne-eqb (length s) (sheet-size (count-of s)) (λ q. h (q ∙ ap sheet-size (sym e))))
 
+pub formed-wide : (s : List ℕ) (n : ℕ) → n ≡ count-of s → length s ≡ sheet-size n → 4294967296 ≤ 8 * n → false ≡ formed s
+unfolding formed
+formed-wide s n e h k =
+    rw (eq-eqb (length s) (sheet-size (count-of s)) (h ∙ ap sheet-size e), le-ltb (8 * count-of s) 4294967296 (omega (arith, e)))
+
 -- the trailer is written into sixteen places, which are compared
-pub formed-by : (s z b : List ℕ) (n : ℕ) → n ≡ count-of s → length s ≡ sheet-size n → length z ≡ 16 → b ≡ sets z 0 (trailer n)
+pub formed-by : (s z b : List ℕ) (n : ℕ) → n ≡ count-of s → length s ≡ sheet-size n → 8 * n < 4294967296 → length z ≡ 16 → b ≡ sets z 0 (trailer n)
     → same-bytes (part (length s - 16) (length b) s) b ≡ formed s
 unfolding formed
-formed-by s z b n e h l f =
+formed-by s z b n e h w l f =
     let g : b ≡ trailer n = f ∙ sets-all z (trailer n) (length-trailer n ∙ sym l) in
     let k : length s ≡ sheet-size (count-of s) = h ∙ ap sheet-size e in
-    rw (eq-eqb (length s) (sheet-size (count-of s)) k, g, length-trailer n) (ap (λ (m : ℕ). same-bytes (part (length s - 16) 16 s) (trailer m)) e)
+    let v : ltb (8 * count-of s) 4294967296 ≡ true = lt-ltb (8 * count-of s) 4294967296 (omega (arith, e)) in
+    rw (eq-eqb (length s) (sheet-size (count-of s)) k, v, g, length-trailer n) (ap (λ (m : ℕ). same-bytes (part (length s - 16) 16 s) (trailer m)) e)
 
 -- ---- 33 to 36, for a request with a plan
 

@@ -7,8 +7,8 @@ use mathlib.Core.List.{List, _++_, append-assoc}
 use mathlib.Core.Bool.{Bool, true, false, cond}
 use lib.ListN.{length, take, drop, length-drop, take-append-drop}
 use lib.Seq.{take-at, drop-at, drop-drop, take-all, length-take-le}
-use lib.Dec.{eqb, leb}
-use borrow.Author.Tests.{eq-eqb, leb-true}
+use lib.Dec.{eqb, leb, ltb}
+use borrow.Author.Tests.{eq-eqb, leb-true, lt-ltb}
 use Rattle.sheet.specs.Bytes.{le, bytes, floats-bytes, same-bytes}
 use Rattle.sheet.specs.Request.{request-size, shape-of, blank, Agree}
 use Rattle.sheet.specs.Fields.{job-of, rotation-of, matrix}
@@ -122,7 +122,7 @@ sound s places n e =
     let h : 280 ≤ length s = leb-true 280 (length s) (need-holds (leb 280 (length s)) 31 n _ e) in
     let g : formed s ≡ true = need-holds (formed s) 32 n _ f in
     let p = weigh-parts (judged (request-of s) places) (request-of s) (angles-of s) (count-of s) n (need-accepted (formed s) 32 n _ f) in
-    let t : trailer-of s ≡ trailer (count-of s) = same-is _ _ (and-right (eqb (length s) (sheet-size (count-of s))) _ g) in
+    let t : trailer-of s ≡ trailer (count-of s) = same-is _ _ (and-right (ltb (8 * count-of s) 4294967296) _ (and-right (eqb (length s) (sheet-size (count-of s))) _ g)) in
     let m : count-of s ≡ length (angles (request-of s)) =
     omega
     (arith, formed-length s g, length-floats-bytes (angles (request-of s)), ap length (p .floats), length-take-le (length s - 280) s (omega arith)) in
@@ -176,16 +176,17 @@ module _ (r : List ℕ) (e : length r ≡ request-size) where
   trailer-in : trailer-of (sheet r) ≡ trailer (length (angles r))
   trailer-in = ap (take 16) tail ∙ take-all 16 (trailer (length (angles r))) (omega (arith, length-trailer (length (angles r))))
 
-  module _ (h : length (angles r) < 4294967296) where
+  module _ (h : length (angles r) < 536870912) where
     count-in : count-of (sheet r) ≡ length (angles r)
-    count-in = ap (λ (l : List ℕ). le (take 4 l)) tail ∙ ap le (first-four (length (angles r))) ∙ le-half (length (angles r)) h
+    count-in = ap (λ (l : List ℕ). le (take 4 l)) tail ∙ ap le (first-four (length (angles r))) ∙ le-half (length (angles r)) (omega arith)
 
     formed-in : formed (sheet r) ≡ true
     unfolding formed
     formed-in =
         let a : length (sheet r) ≡ sheet-size (count-of (sheet r)) = size ∙ ap sheet-size (sym count-in) in
         let b : trailer-of (sheet r) ≡ trailer (count-of (sheet r)) = trailer-in ∙ ap trailer (sym count-in) in
-        rw (eq-eqb (length (sheet r)) (sheet-size (count-of (sheet r))) a, b) (same-itself (trailer (count-of (sheet r))))
+        let w : ltb (8 * count-of (sheet r)) 4294967296 ≡ true = lt-ltb (8 * count-of (sheet r)) 4294967296 (omega (arith, count-in)) in
+        rw (eq-eqb (length (sheet r)) (sheet-size (count-of (sheet r))) a, w, b) (same-itself (trailer (count-of (sheet r))))
 
 -- its request passes for what it is
 weigh-own : (v : Verdict) (r : List ℕ) (k m : ℕ) → v ≡ accepted k → blank r ≡ r → weigh v r (floats-bytes (angles r)) m ≡ accepted m
@@ -195,9 +196,9 @@ weigh-own v r k m e f = rw (e, f, same-itself r, same-itself (floats-bytes (angl
 pub few : Few
 few = angles-few
 
-few-angles : (r : List ℕ) → length (angles r) < 4294967296
+few-angles : (r : List ℕ) → length (angles r) < 536870912
 unfolding angles
-few-angles r = omega (arith, few (job-of r) (matrix (rotation-of r)))
+few-angles r = few (job-of r) (matrix (rotation-of r))
 
 pub complete : Complete
 complete r places n e =
