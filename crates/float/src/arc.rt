@@ -99,16 +99,23 @@ pub fn atan2(y: f64, x: f64) -> f64
     0.0
 }
 
+// The sine of an angle from 0 to P whose cosine is x.
+pub fn other_side(x: f64) -> f64
+    ensures { λ r. ⌜ r ≡ Trig.other-side x ⌝ }
+{
+    sqrt((1.0 - x) * (1.0 + x))
+}
+
 pub fn acos(x: f64) -> f64
     ensures { λ r. ⌜ r ≡ Trig.acos x ⌝ }
 {
-    atan2(sqrt((1.0 - x) * (1.0 + x)), x)
+    atan2(other_side(x), x)
 }
 
 pub fn asin(x: f64) -> f64
     ensures { λ r. ⌜ r ≡ Trig.asin x ⌝ }
 {
-    atan2(x, sqrt((1.0 - x) * (1.0 + x)))
+    atan2(x, other_side(x))
 }
 
 // Four numbers side by side. What is worked out of one does not wait for the others, and so four take
