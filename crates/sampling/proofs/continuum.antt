@@ -1,2 +1,2 @@
 -- What the proofs of `continuum` share.
-mod Steps
+pub mod Steps

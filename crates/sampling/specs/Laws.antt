@@ -1,7 +1,7 @@
 -- Laws of the definitions, for upper files to cite.
 -- `Intervals` (a limit interval is in order and lies within P), `Limits` (the ends of a joint's interval are in order and lie within a turn),
 -- `Pose` (the parts of a normalized quaternion lie within 2, the entries of its matrix within 17),
--- `Pushed` and `Grown` (lists and cuts that grow, one after the other),
+-- `Pushed`, `Asked` and `Grown` (lists, questions and cuts that grow, one after the other),
 -- `Samples` (roots one by one, the sample at each position), `Few` (how many boundary angles, cuts and angles of one free joint at most), `CriticalSlices` (roots and curves one by one),
 -- `Weave` (a list with the middles of its neighbours: its values, its length, its places),
 -- `Slices` (the values at which joint 1 is tried are what the stream has; how many at most; the reference is among them),
@@ -12,6 +12,7 @@ pub mod Intervals
 pub mod Limits
 pub mod Pose
 pub mod Pushed
+pub mod Asked
 pub mod Grown
 pub mod CriticalSlices
 pub mod Samples

@@ -14,9 +14,9 @@ use crate::marks::Marks;
 use crate::marks::Sixth;
 use crate::rays::poles;
 use crate::rays::push;
-use crate::rays::ray_marks;
+use crate::rays::ray_angles;
 use crate::rays::roots_by;
-use crate::rays::sixth_roots;
+use crate::rays::sixth_angles;
 use crate::wrist::Ray;
 use crate::wrist::Wrist;
 use float::number::abs;
@@ -153,16 +153,16 @@ pub(crate) fn all_roots(
     center: f64,
     out: &mut [f64],
 ) -> Counted
-    requires { ⌜ 282 ≤ length (now out) ⌝ }
-    ensures { λ r. ⌜ (r .holds ≡ Of.all-roots-hold w fifth) × Pushed 282 (Of.all-roots w near fourth fifth sixth center) 0 (now (out .entry)) (r .count) (now (out .exit)) ⌝ }
+    requires { ⌜ 300 ≤ length (now out) ⌝ }
+    ensures { λ r. ⌜ (r .holds ≡ Of.all-roots-hold w fifth) × Pushed 300 (Of.all-roots w near fourth fifth sixth center) 0 (now (out .entry)) (r .count) (now (out .exit)) ⌝ }
 {
     let cos5 = w.cos5;
     let polar = cos5.polar();
     let n1 = push(near, out, 0);
     let n2 = poles(cos5, polar, out, n1);
-    let n3 = ray_marks(w.q4, fourth, out, n2);
+    let n3 = ray_angles(w.q4, fourth, out, n2);
     let bends = bend_marks(cos5, polar, w.q4, fifth, out, n3);
-    let n4 = sixth_roots(w, fourth, sixth, out, bends.count);
+    let n4 = sixth_angles(w, fourth, sixth, out, bends.count);
     let n5 = push(center, out, n4);
     Counted {
         count: n5,

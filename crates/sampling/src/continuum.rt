@@ -88,24 +88,13 @@ impl Trig {
     }
 
     // Whether the polynomial, of this radius, equals the target anywhere.
-    fn meets(self, radius: f64, target: f64) -> bool
+    pub(crate) fn meets(self, radius: f64, target: f64) -> bool
         ensures { λ r. ⌜ r ≡ By.meets self radius target ⌝ }
     {
         let constant = self.constant - target;
-        if is_finite(radius) {
-            if is_finite(constant) {
-                if radius == 0.0 {
-                    return false;
-                }
-                let room = radius + self.error(target);
-                if room < abs(constant) {
-                    return false;
-                }
-                return true;
-            }
-            return false;
-        }
-        false
+        let room = radius + self.error(target);
+        let finite = is_finite(radius) & is_finite(constant);
+        finite & !(radius == 0.0) & !(room < abs(constant))
     }
 
     // The wrapped angles on both sides of the phase.

@@ -1,5 +1,6 @@
 // From a job's numbers to its angles, document 01's modules 4 to 6. specs/Lib.antt says which files
 // define what.
+pub mod asked;
 pub mod bend_slices;
 pub mod bends;
 pub mod boundaries;

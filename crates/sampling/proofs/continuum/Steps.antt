@@ -1,15 +1,16 @@
 -- `crossings` in steps: the tests, then the angles around the phase. Assumes nothing.
 use mathlib.Core.Path.{_≡_, refl, sym, ap, _∙_}
 use mathlib.Core.Bool.{Bool, true, false, cond}
-use lib.Ieee.{Float, eq, lt}
+use mathlib.Core.List.{[]}
+use lib.Ieee.{Float, neg, eq, lt}
 use lib.Ieee.Scale.{finite}
-use Rattle.float.specs.Number.{_⊕_, _⊖_, abs, zero-float}
+use Rattle.float.specs.Number.{_⊕_, _⊖_, _⊘_, abs, clamp, zero-float}
 use Rattle.float.specs.Trig.{hypot, atan2}
-use Rattle.sampling.specs.Continuum.{crossings, error}
+use Rattle.sampling.specs.Continuum.{crossings, error, listed, roots}
+use Rattle.sampling.specs.Asked.{answer}
 use Rattle.sampling.specs.Polar.{polar, meets, around}
 use Rattle.sampling.specs.declared.continuum.Trig.{Trig}
 use Rattle.sampling.specs.declared.continuum.Polar.{Polar}
-use Rattle.sampling.specs.declared.continuum.Crossings.{Crossings}
 use Rattle.sampling.specs.declared.continuum.Crossings.the-variants.{Neither}
 
 -- four tests as one
@@ -50,3 +51,12 @@ met-apart t target r f b d e m h = met t target (both r f) b (both-are t r f d e
 
 pub missed-apart : (t : Trig) (target r : Float) (b : Bool) → r ≡ hypot (t .cosine) (t .sine) → b ≡ meets t r target → b ≡ false → Neither ≡ crossings t target
 missed-apart t target r b d m h = missed t target (both r (atan2 (t .sine) (t .cosine))) b (both-are t r (atan2 (t .sine) (t .cosine)) d refl) m h
+
+-- as a list
+pub met-roots : (t : Trig) (target r v : Float) (b : Bool) → r ≡ hypot (t .cosine) (t .sine) → v ≡ clamp (neg (t .constant ⊖ target) ⊘ r) → b ≡ meets t r target → b ≡ true → answer (t .sine) (t .cosine) v ≡ roots t target
+unfolding answer roots around
+met-roots t target r v b d e m h = ap (answer (t .sine) (t .cosine)) e ∙ ap listed (met-apart t target r (atan2 (t .sine) (t .cosine)) b d refl m h)
+
+pub missed-roots : (t : Trig) (target r : Float) (b : Bool) → r ≡ hypot (t .cosine) (t .sine) → b ≡ meets t r target → b ≡ false → [] ≡ roots t target
+unfolding roots
+missed-roots t target r b d m h = ap listed (missed-apart t target r b d m h)

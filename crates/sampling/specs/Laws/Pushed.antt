@@ -1,5 +1,5 @@
 -- Laws of lists that grow: nothing, one value, one list after another, a list that a callee puts into the rest of the slice. Assumes nothing.
-use mathlib.Core.Path.{_≡_, refl, sym, ap, _∙_}
+use mathlib.Core.Path.{_≡_, refl, sym, ap, _∙_, subst}
 use mathlib.Core.List.{List, [], _∷_, _++_, append-assoc, append-nil}
 use Prim.Native.Nat.{ℕ, _+_, _≤_, _<_}
 use native.Mathlib.Omega.{arith}
@@ -26,6 +26,13 @@ then {A} {k} {l} {n} {m} {r} {x} {y} {a} {b} {c} p q =
       rest = q .rest ∙ later m r a b (length y) (q .count) (p .rest);
       most = omega (arith, p .most, q .most);
     }
+
+-- the same values, and a larger bound
+pub same : {A : Type 0} {k n r : ℕ} {x y a b : List A} → x ≡ y → Pushed k x n a r b → Pushed k y n a r b
+same {A} {k} {n} {r} {x} {y} {a} {b} e p = subst (λ (z : List A). Pushed k z n a r b) e p
+
+pub wider : {A : Type 0} {j k n r : ℕ} {x a b : List A} → j ≤ k → Pushed j x n a r b → Pushed k x n a r b
+wider h p = record { count = p .count; front = p .front; rest = p .rest; most = omega (arith, h, p .most) }
 
 -- a callee that is lent what stands behind the first n values puts x in the front of it
 pub behind : {A : Type 0} (k n : ℕ) (a x : List A) → n ≤ length a → length x ≤ k → Pushed k x n a (n + length x) (take n a ++ (x ++ drop (length x) (drop n a)))

@@ -1,20 +1,20 @@
 -- `float::arc::asin` meets its contract. Assumes nothing.
 use mathlib.Core.Path.{ap, _∙_}
-use lib.Ieee.{Float, ofBits}
+use lib.Ieee.{Float}
 use borrow.Author.Needs.{needs}
 use Rattle.float.specs.Trig.{atan2, asin}
 use Rattle.float.proofs.arc.asin.Statement.{statement}
 use Rattle.float.proofs.arc.asin.Tie as tie
 
-sqrt-requires : tie.Need-sqrt-requires
-sqrt-requires c κs = search needs
+other-side-requires : tie.Need-other-side-requires
+other-side-requires c κs = search needs
 
 atan2-requires : tie.Need-atan2-requires
 atan2-requires c κs = search needs
 
 returns : tie.Need-returns
-unfolding asin ofBits
-returns c = c .atan2 .ensures ∙ ap (λ (s : Float). atan2 (c .before .before .args .x) s) (c .before .sqrt .ensures)
+unfolding asin
+returns c = c .atan2 .ensures ∙ ap (λ (s : Float). atan2 (c .before .before .args .x) s) (c .before .other-side .ensures)
 
 pub asin-spec : {M : Type 1} → statement M
-asin-spec = tie.close (tie.spec sqrt-requires atan2-requires returns)
+asin-spec = tie.close (tie.spec other-side-requires atan2-requires returns)

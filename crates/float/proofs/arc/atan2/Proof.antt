@@ -1,47 +1,15 @@
 -- `float::arc::atan2` meets its contract. Assumes nothing.
-use mathlib.Core.Path.{_≡_, sym, ap, _∙_}
-use mathlib.Core.Bool.{Bool, true, false, _||_, cond}
-use lib.Ieee.{Float, nan, binary64, neg, lt, le, ne, ofBits, isNan}
+use mathlib.Core.Path.{sym, _∙_}
+use mathlib.Core.Bool.{true, false}
 use borrow.Author.Needs.{needs}
-use Rattle.float.specs.Number.{_⊕_, _⊖_, _⊘_, zero-float, two-float}
-use Rattle.float.specs.Trig.{atan2, atan, P}
-use Rattle.float.specs.Laws.Tests.{ne-self, nan-of}
+use Rattle.float.specs.Number.{_⊕_, _⊖_}
+use Rattle.float.specs.Trig.{atan2, atan}
+use Rattle.float.specs.Laws.Tests.{nan-of}
 use Rattle.float.specs.Laws.Zero.{zero-bits}
 use Rattle.float.specs.Laws.Literals.{two-bits, P-bits}
+use Rattle.float.proofs.arc.Sides.{is-nan, right, left}
 use Rattle.float.proofs.arc.atan2.Statement.{statement}
 use Rattle.float.proofs.arc.atan2.Tie as tie
-
--- `x != x` is the test for a NaN
-is-nan : (x : Float) (b : Bool) → ne x x ≡ b → isNan x ≡ b
-is-nan x b h = sym (ne-self x) ∙ h
-
--- the definition by its tests, each a variable
-abbrev axis : Float → Float
-axis y = cond (lt zero-float y) (P ⊘ two-float) (cond (lt y zero-float) (neg (P ⊘ two-float)) zero-float)
-
-abbrev chosen : Bool → Bool → Bool → Bool → Bool → Float → Float → Float
-chosen m n p q g y x = cond (m || n) nan (cond p (atan (y ⊘ x)) (cond q (cond g (atan (y ⊘ x) ⊕ P) (atan (y ⊘ x) ⊖ P)) (axis y)))
-
-module _ (y x : Float) (a : isNan y ≡ false) (b : isNan x ≡ false) where
-  right : lt (ofBits binary64 0) x ≡ true → atan (y ⊘ x) ≡ atan2 y x
-  unfolding atan2
-  right p = sym (λ i. chosen (a i) (b i) (told i) (lt x zero-float) (le zero-float y) y x)
-    where
-      told : lt zero-float x ≡ true
-      told = ap (λ (z : Float). lt z x) (sym zero-bits) ∙ p
-
-  left : (g : Bool) → lt (ofBits binary64 0) x ≡ false → lt x (ofBits binary64 0) ≡ true → le (ofBits binary64 0) y ≡ g → cond g (atan (y ⊘ x) ⊕ P) (atan (y ⊘ x) ⊖ P) ≡ atan2 y x
-  unfolding atan2
-  left g p q h = sym (λ i. chosen (a i) (b i) (not-right i) (told i) (side i) y x)
-    where
-      not-right : lt zero-float x ≡ false
-      not-right = ap (λ (z : Float). lt z x) (sym zero-bits) ∙ p
-
-      told : lt x zero-float ≡ true
-      told = ap (λ (z : Float). lt x z) (sym zero-bits) ∙ q
-
-      side : le zero-float y ≡ g
-      side = ap (λ (z : Float). le z y) (sym zero-bits) ∙ h
 
 returns : tie.Need-returns
 unfolding atan2

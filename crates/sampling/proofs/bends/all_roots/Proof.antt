@@ -14,14 +14,14 @@ push-requires c = search needs
 poles-requires : tie.Need-poles-requires
 poles-requires c κs = (search needs, search needs)
 
-ray-marks-requires : tie.Need-ray-marks-requires
-ray-marks-requires c = search needs
+ray-angles-requires : tie.Need-ray-angles-requires
+ray-angles-requires c = search needs
 
 bend-marks-requires : tie.Need-bend-marks-requires
 bend-marks-requires c κs = (search needs, search needs)
 
-sixth-roots-requires : tie.Need-sixth-roots-requires
-sixth-roots-requires c = search needs
+sixth-angles-requires : tie.Need-sixth-angles-requires
+sixth-angles-requires c = search needs
 
 push-requires-2 : tie.Need-push-requires-2
 push-requires-2 c = search needs
@@ -31,7 +31,7 @@ same-length c = search needs
 
 returns : tie.Need-returns
 unfolding all-roots all-roots-hold
-returns c = ((c .before .before .before .before .before .before .before .before .before .before .bend-marks .ensures) .0, then (then (then (then (then (c .before .before .before .before .before .before .before .before .before .before .before .before .before .before .before .before .before .before .before .before .before .before .push .ensures) (c .before .before .before .before .before .before .before .before .before .before .before .before .before .before .before .before .before .before .poles .ensures)) (c .before .before .before .before .before .before .before .before .before .before .before .before .before .before .ray-marks .ensures)) ((c .before .before .before .before .before .before .before .before .before .before .bend-marks .ensures) .1)) (c .before .before .before .before .before .before .sixth-roots .ensures)) (c .before .before .push2 .ensures))
+returns c = ((c .before .before .before .before .before .before .before .before .before .before .bend-marks .ensures) .0, then (then (then (then (then (c .before .before .before .before .before .before .before .before .before .before .before .before .before .before .before .before .before .before .before .before .before .before .push .ensures) (c .before .before .before .before .before .before .before .before .before .before .before .before .before .before .before .before .before .before .poles .ensures)) (c .before .before .before .before .before .before .before .before .before .before .before .before .before .before .ray-angles .ensures)) ((c .before .before .before .before .before .before .before .before .before .before .bend-marks .ensures) .1)) (c .before .before .before .before .before .before .sixth-angles .ensures)) (c .before .before .push2 .ensures))
 
 pub all-roots-spec : {M : Type 1} → statement M
-all-roots-spec = tie.close (tie.spec polar-requires push-requires poles-requires ray-marks-requires bend-marks-requires sixth-roots-requires push-requires-2 same-length returns)
+all-roots-spec = tie.close (tie.spec polar-requires push-requires poles-requires ray-angles-requires bend-marks-requires sixth-angles-requires push-requires-2 same-length returns)

@@ -1,6 +1,6 @@
 -- `sampling::rays::corners` meets its contract: at each return, what the calls and the tests on the way to it say. Assumes nothing.
 use borrow.Author.Needs.{needs}
-use Rattle.sampling.specs.Laws.Pushed.{none, then}
+use Rattle.sampling.specs.Laws.Asked.{none, then}
 use Rattle.sampling.specs.Rays.{corners}
 use Rattle.sampling.proofs.rays.corners.Statement.{statement}
 use Rattle.sampling.proofs.rays.corners.Tie as tie
@@ -31,11 +31,11 @@ corner-requires-4 c = search needs
 
 returns : tie.Need-returns
 unfolding corners
-returns c = simp (c .enum-told .given .1) (none 8 _ _)
+returns c = simp (c .enum-told .given .1) (none 12 _ _)
 
 returns-2 : tie.Need-returns-2
 unfolding corners
-returns-2 c = simp (c .before .before .before .fourth .given .1, c .enum-told2 .given .1) (none 8 _ _)
+returns-2 c = simp (c .before .before .before .fourth .given .1, c .enum-told2 .given .1) (none 12 _ _)
 
 same-length : tie.Need-same-length
 same-length c = search needs

@@ -1,6 +1,6 @@
 -- `sampling::rays::ray_at` meets its contract: at each return, what the calls and the tests on the way to it say. Assumes nothing.
 use borrow.Author.Needs.{needs}
-use Rattle.sampling.specs.Laws.Pushed.{none}
+use Rattle.sampling.specs.Laws.Asked.{none}
 use Rattle.sampling.specs.Rays.{ray-at}
 use Rattle.sampling.proofs.rays.ray_at.Statement.{statement}
 use Rattle.sampling.proofs.rays.ray_at.Tie as tie
@@ -20,7 +20,7 @@ returns c = simp (← c .before .before .before .before .before .is-finite .ensu
 
 returns-2 : tie.Need-returns-2
 unfolding ray-at
-returns-2 c = simp (← c .before .is-finite .ensures, c .if1 .left) (none 2 _ _)
+returns-2 c = simp (← c .before .is-finite .ensures, c .if1 .left) (none 3 _ _)
 
 pub ray-at-spec : {M : Type 1} → statement M
 ray-at-spec = tie.close (tie.spec is-finite-requires ray-roots-requires same-length returns returns-2)

@@ -1,6 +1,6 @@
 -- `sampling::rays::ray_marks` meets its contract: at each return, what the calls and the tests on the way to it say. Assumes nothing.
 use borrow.Author.Needs.{needs}
-use Rattle.sampling.specs.Laws.Pushed.{none, then}
+use Rattle.sampling.specs.Laws.Asked.{none, then}
 use Rattle.sampling.specs.Rays.{ray-marks}
 use Rattle.sampling.proofs.rays.ray_marks.Statement.{statement}
 use Rattle.sampling.proofs.rays.ray_marks.Tie as tie
@@ -26,7 +26,7 @@ same-length-2 c = search needs
 
 returns-2 : tie.Need-returns-2
 unfolding ray-marks
-returns-2 c = simp (c .if1 .left) (then (c .before .before .before .ray-at .ensures) (none 6 _ _))
+returns-2 c = simp (c .if1 .left) (then (c .before .before .before .ray-at .ensures) (none 9 _ _))
 
 pub ray-marks-spec : {M : Type 1} → statement M
 ray-marks-spec = tie.close (tie.spec ray-at-requires ray-at-requires-2 ray-range-requires same-length returns same-length-2 returns-2)

@@ -1,6 +1,6 @@
 -- `sampling::rays::ray_range` meets its contract: at each return, what the calls and the tests on the way to it say. Assumes nothing.
 use borrow.Author.Needs.{needs}
-use Rattle.sampling.specs.Laws.Pushed.{none, then}
+use Rattle.sampling.specs.Laws.Asked.{none, then}
 use Rattle.sampling.specs.Rays.{ray-range}
 use Rattle.sampling.proofs.rays.ray_range.Statement.{statement}
 use Rattle.sampling.proofs.rays.ray_range.Tie as tie
@@ -19,7 +19,7 @@ ray-at-requires-2 c = search needs
 
 returns : tie.Need-returns
 unfolding ray-range
-returns c = simp (c .enum-told .given .1) (none 4 _ _)
+returns c = simp (c .enum-told .given .1) (none 6 _ _)
 
 same-length : tie.Need-same-length
 same-length c = search needs

@@ -1,0 +1,34 @@
+-- `sampling::asked::answer_one` meets its contract: at each return, what the calls and the tests on the way to it say. Assumes nothing.
+use borrow.Author.Needs.{needs}
+use Rattle.sampling.specs.Asked.{answer}
+use Rattle.sampling.specs.Laws.Pushed.{then}
+use Rattle.sampling.proofs.asked.answer_one.Statement.{statement}
+use Rattle.sampling.proofs.asked.answer_one.Tie as tie
+
+atan2-requires : tie.Need-atan2-requires
+atan2-requires c = search needs
+
+acos-requires : tie.Need-acos-requires
+acos-requires c = search needs
+
+wrapped-angle-requires : tie.Need-wrapped-angle-requires
+wrapped-angle-requires c = search needs
+
+push-requires : tie.Need-push-requires
+push-requires c = search needs
+
+wrapped-angle-requires-2 : tie.Need-wrapped-angle-requires-2
+wrapped-angle-requires-2 c = search needs
+
+push-requires-2 : tie.Need-push-requires-2
+push-requires-2 c = search needs
+
+same-length : tie.Need-same-length
+same-length c = search needs
+
+returns : tie.Need-returns
+unfolding answer
+returns c = simp (← c .before .before .before .before .before .before .before .before .before .before .before .atan2 .ensures, ← c .before .before .before .before .before .before .before .before .before .before .acos .ensures, ← c .before .before .before .before .before .before .before .before .before .wrapped-angle .ensures, ← c .before .before .before .before .wrapped-angle2 .ensures) (then (c .before .before .before .before .before .before .before .push .ensures) (c .before .before .push2 .ensures))
+
+pub answer-one-spec : {M : Type 1} → statement M
+answer-one-spec = tie.close (tie.spec atan2-requires acos-requires wrapped-angle-requires push-requires wrapped-angle-requires-2 push-requires-2 same-length returns)

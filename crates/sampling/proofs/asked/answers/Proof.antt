@@ -1,0 +1,55 @@
+-- `sampling::asked::answers` meets its contract: at each return, what the calls and the tests on the way to it say. Assumes nothing.
+use mathlib.Core.Path.{_≡_, ap, _∙_}
+use mathlib.Core.List.{List, [], _∷_, _++_}
+use lib.Ieee.{Float}
+use borrow.Author.Needs.{needs}
+use Rattle.float.specs.Number.{_⊕_, _⊖_}
+use Rattle.float.specs.declared.arc.Four.{Four}
+use Rattle.polynomial.specs.Angle.{wrapped-angle}
+use Rattle.float.specs.Trig.{atan2, acos, other-side}
+use Rattle.float.specs.Four.{beside}
+use Rattle.sampling.specs.Asked.{answer, answered, listed}
+use Rattle.sampling.specs.declared.asked.Question.{Question}
+use Rattle.sampling.proofs.asked.answers.Statement.{statement}
+use Rattle.sampling.proofs.asked.answers.Tie as tie
+
+abbrev angles : Float → Float → Float → Float → List Float
+angles s c f t = wrapped-angle (atan2 s c ⊖ atan2 f t) ∷ (wrapped-angle (atan2 s c ⊕ atan2 f t) ∷ [])
+
+-- the definition, by what was worked out of it
+joined : (p q : Question) (f g : Float) (v : Four) (a b c d : Float) → f ≡ other-side (p .ratio) → g ≡ other-side (q .ratio)
+    → v ≡ beside atan2 (record { a = p .sine; b = f; c = q .sine; d = g }) (record { a = p .cosine; b = p .ratio; c = q .cosine; d = q .ratio })
+    → a ≡ wrapped-angle (v .a ⊖ v .b) → b ≡ wrapped-angle (v .a ⊕ v .b) → c ≡ wrapped-angle (v .c ⊖ v .d) → d ≡ wrapped-angle (v .c ⊕ v .d)
+    → a ∷ (b ∷ (c ∷ (d ∷ []))) ≡ answered (listed p ++ listed q)
+unfolding answer acos beside
+joined p q f g v a b c d ef eg ev ea eb ec ed =
+    (λ i. ea i ∷ (eb i ∷ (ec i ∷ (ed i ∷ []))))
+    ∙ ap (λ (w : Four). wrapped-angle (w .a ⊖ w .b) ∷ (wrapped-angle (w .a ⊕ w .b) ∷ (wrapped-angle (w .c ⊖ w .d) ∷ (wrapped-angle (w .c ⊕ w .d) ∷ [])))) ev
+    ∙ (λ i. angles (p .sine) (p .cosine) (ef i) (p .ratio) ++ angles (q .sine) (q .cosine) (eg i) (q .ratio))
+
+other-side-requires : tie.Need-other-side-requires
+other-side-requires c = search needs
+
+other-side-requires-2 : tie.Need-other-side-requires-2
+other-side-requires-2 c = search needs
+
+atan2-four-requires : tie.Need-atan2-four-requires
+atan2-four-requires c = search needs
+
+wrapped-angle-requires : tie.Need-wrapped-angle-requires
+wrapped-angle-requires c = search needs
+
+wrapped-angle-requires-2 : tie.Need-wrapped-angle-requires-2
+wrapped-angle-requires-2 c = search needs
+
+wrapped-angle-requires-3 : tie.Need-wrapped-angle-requires-3
+wrapped-angle-requires-3 c = search needs
+
+wrapped-angle-requires-4 : tie.Need-wrapped-angle-requires-4
+wrapped-angle-requires-4 c = search needs
+
+returns : tie.Need-returns
+returns c = joined (c .before .before .before .before .before .before .before .before .before .before .before .args .p) (c .before .before .before .before .before .before .before .before .before .before .before .args .q) _ _ _ _ _ _ _ (c .before .before .before .before .before .before .before .before .before .before .other-side .ensures) (c .before .before .before .before .before .before .before .before .before .other-side2 .ensures) (c .before .before .before .before .before .before .before .before .atan2-four .ensures) (c .before .before .before .before .before .before .wrapped-angle .ensures) (c .before .before .before .before .wrapped-angle2 .ensures) (c .before .before .wrapped-angle3 .ensures) (c .wrapped-angle4 .ensures)
+
+pub answers-spec : {M : Type 1} → statement M
+answers-spec = tie.close (tie.spec other-side-requires other-side-requires-2 atan2-four-requires wrapped-angle-requires wrapped-angle-requires-2 wrapped-angle-requires-3 wrapped-angle-requires-4 returns)
