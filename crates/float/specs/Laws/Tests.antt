@@ -1,6 +1,6 @@
--- The tests of code in the words of the definitions: the sign's bit, `<` and `==` beside the total order, and `x != x`. Assumes nothing.
+-- The tests of code in the words of the definitions: the sign's bit, `<` and `==` beside the total order, `x != x`, and the parts of a true `&&`. Assumes nothing.
 use mathlib.Core.Path.{_≡_, refl, sym, ap, subst, _∙_}
-use mathlib.Core.Bool.{Bool, true, false, not, _||_, cond, Bool·not-not}
+use mathlib.Core.Bool.{Bool, true, false, not, _||_, _&&_, cond, Bool·not-not, false≢true}
 use Prim.Native.Nat.{ℕ, zero, suc, _+_, _*_, _/_, _%_, _^_, _<_}
 use native.Mathlib.Omega.{arith}
 use borrow.Author.Tests.{ne-eqb}
@@ -127,3 +127,17 @@ number-of x h = subst (λ (b : Bool). T (not b)) (sym (sym (ne-self x) ∙ h)) t
 
 pub nan-of : (x : Float) → ne x x ≡ true → x ≡ nan
 nan-of x h = differs-from-itself x (subst T (sym h) tt)
+
+-- ---- the parts of a true `&&`
+pub and-left : (a b : Bool) → (a && b) ≡ true → a ≡ true
+and-left true b h = refl
+and-left false b h = absurd (false≢true h)
+
+pub and-right : (a b : Bool) → (a && b) ≡ true → b ≡ true
+and-right true b h = h
+and-right false b h = absurd (false≢true h)
+
+pub three : (a b c : Bool) → (a && b && c) ≡ true → (a ≡ true) × (b ≡ true) × (c ≡ true)
+three true true c h = (refl, refl, h)
+three true false c h = absurd (false≢true h)
+three false b c h = absurd (false≢true h)

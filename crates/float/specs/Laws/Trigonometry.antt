@@ -1,9 +1,9 @@
 -- Bounds on sine, cosine and tangent: sin and cos are within 25/16 for |x| ≤ 32, and tan within 4 for |y| ≤ 101/128, where k is −1, 0 or 1. Assumes nothing.
-use mathlib.Core.Path.{_≡_, sym, ap, subst}
-use mathlib.Core.Bool.{Bool, true, false, cond}
 use Prim.Native.Nat.{ℕ, zero, suc, _≤_}
 use native.Mathlib.Nat.{lt-irrefl}
 use native.Mathlib.Omega.{arith}
+use mathlib.Core.Path.{_≡_, sym, ap, subst}
+use mathlib.Core.Bool.{Bool, true, false, cond}
 use lib.IntN.{ℤ, pos, negsuc}
 use lib.Ieee.{Float, nan, fin, binary64, neg, add, sub, mul, le, ofInt}
 use lib.Ieee.Bits.{is-true}
@@ -30,14 +30,10 @@ reduced-within x h = reduce-within x (turns x) h (floor-is (quad x) (quad-finite
 abbrev nans : SinCos
 nans = record { sine = nan; cosine = nan }
 
--- `sin-cos` where its test holds, and where it does not
+-- `sin-cos` where its test holds
 pub sin-cos-is : (x : Float) → Within widest x → sin-cos x ≡ turned (quadrant (turns x)) (sine (reduced (turns x) x)) (cosine (reduced (turns x) x))
 unfolding sin-cos
 sin-cos-is x h = ap (λ (b : Bool). cond b (turned (quadrant (turns x)) (sine (reduced (turns x) x)) (cosine (reduced (turns x) x))) nans) (in-range h)
-
-pub sin-cos-beyond : (x : Float) → le (abs x) widest ≡ false → sin-cos x ≡ record { sine = nan; cosine = nan }
-unfolding sin-cos
-sin-cos-beyond x h = ap (λ (b : Bool). cond b (turned (quadrant (turns x)) (sine (reduced (turns x) x)) (cosine (reduced (turns x) x))) nans) h
 
 turned-within : (q : ℕ) {B s w : Float} → Within B s → Within B w → Within B (turned q s w .sine) × Within B (turned q s w .cosine)
 turned-within zero h k = (h, k)

@@ -1,6 +1,6 @@
 -- Bounds that pass the operation's test are an interval that can be halved, so that the laws of `Enclosed` hold. Assumes nothing.
-use mathlib.Core.Path.{_≡_, refl, sym, subst}
-use mathlib.Core.Bool.{Bool, true, false, _&&_, false≢true}
+use mathlib.Core.Path.{_≡_, sym, subst}
+use mathlib.Core.Bool.{true}
 use lib.Dec.{T, lit<}
 use lib.Ieee.{Float, binary64, le, fits}
 use Rattle.float.specs.Number.{abs}
@@ -8,12 +8,8 @@ use Rattle.float.specs.Laws.Le.{le→Le}
 use Rattle.float.specs.Laws.Range.{abs-within}
 use Rattle.float.specs.Laws.Middle.{Span}
 use Rattle.float.specs.Trig.{four-float}
+use Rattle.float.specs.Laws.Tests.{three}
 use Rattle.polynomial.specs.Operation.{bounds-hold}
-
-three : (a b c : Bool) → (a && b && c) ≡ true → (a ≡ true) × (b ≡ true) × (c ≡ true)
-three true true c h = (refl, refl, h)
-three true false c h = absurd (false≢true h)
-three false b c h = absurd (false≢true h)
 
 pub bounds-span : (lower upper : Float) → T (fits binary64 lower) → T (fits binary64 upper) → bounds-hold lower upper ≡ true → Span 2 lower upper
 bounds-span lower upper s t h =

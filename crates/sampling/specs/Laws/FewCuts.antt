@@ -3,12 +3,13 @@ use Prim.Native.Nat.{ℕ, zero, suc, _+_, _*_, _≤_, zero-le}
 use native.Mathlib.Nat.{not-suc-le-zero, le-of-suc-le-suc}
 use native.Mathlib.Omega.{arith}
 use mathlib.Core.Path.{_≡_, refl, ap}
-use mathlib.Core.Bool.{Bool, true, false, _&&_, false≢true, cond}
+use mathlib.Core.Bool.{Bool, true, false, cond}
 use mathlib.Core.List.{List, [], _∷_, _++_}
 use lib.Dec.{leb}
 use lib.ListN.{length, length-append}
 use lib.Ieee.{Float, lt, le, neg}
 use borrow.Author.Tests.{leb-true}
+use Rattle.float.specs.Laws.Tests.{three}
 use Rattle.float.specs.Number.{_⊕_, _⊖_, _⊗_, _⊘_, abs, clamp, middle, zero-float, one-float}
 use Rattle.float.specs.Trig.{P, sin-cos, hypot, atan2, asin}
 use Rattle.float.specs.declared.trig.SinCos.{SinCos}
@@ -148,15 +149,10 @@ unfolding angles
 angles-length origin [] = refl
 angles-length origin (u ∷ l) = ap suc (angles-length origin l)
 
-last : (a b c : Bool) → (a && b && c) ≡ true → c ≡ true
-last true true c e = e
-last true false c e = absurd (false≢true e)
-last false b c e = absurd (false≢true e)
-
 -- a call that is not refused has no more roots than places
 inner-few : (p : List Compensated) (lower upper : Float) → inner-holds p lower upper ≡ true → length (roots p lower upper) ≤ 509
 unfolding inner-holds
-inner-few p lower upper e = leb-true (length (roots p lower upper)) 509 (last (bounds-hold lower upper) (all-hold p) (leb (length (roots p lower upper)) 509) e)
+inner-few p lower upper e = leb-true (length (roots p lower upper)) 509 (three (bounds-hold lower upper) (all-hold p) (leb (length (roots p lower upper)) 509) e .2)
 
 chart-roots-few : (c : Chart) (p : List Compensated) → length (chart-roots c p) ≤ 509
 unfolding chart-roots

@@ -1,6 +1,6 @@
 -- Where the ends of a half are in order and lie within ±8, as those of a joint's interval do, all its values lie within ±64, so that its cuts can be streamed. Assumes nothing.
 use mathlib.Core.Path.{_≡_, refl}
-use mathlib.Core.Bool.{Bool, true, false, _&&_, false≢true, cond}
+use mathlib.Core.Bool.{Bool, true, false, cond}
 use mathlib.Core.List.{List, [], _∷_, _++_}
 use lib.IntN.{pos}
 use lib.Dec.{T, leb, lit<}
@@ -8,6 +8,7 @@ use lib.ListN.{length}
 use lib.Ieee.{Float, fin, binary64, neg, le, fits}
 use lib.Ieee.Scale.{finite}
 use lib.Ieee.Fits.{div-fits, and-i}
+use Rattle.float.specs.Laws.Tests.{three}
 use Rattle.float.specs.Number.{_⊕_, _⊖_, _⊗_, _⊘_, middle, zero-float, one-float, two-float}
 use Rattle.float.specs.Trig.{sin, cos, tan}
 use Rattle.float.specs.Laws.Within.{Within, weaken, numeral, add-within, mul-within, within→Le, Le→within}
@@ -66,13 +67,9 @@ charted lower upper s =
     let origin = middle lower upper in
     record { origin-within = middle-within s; lower-fits = tan-fits ((lower ⊖ origin) ⊘ two-float); upper-fits = tan-fits ((upper ⊖ origin) ⊘ two-float) }
 
-first : (a b c : Bool) → (a && b && c) ≡ true → a ≡ true
-first true b c e = refl
-first false b c e = absurd (false≢true e)
-
 inner-bounds : (p : List Compensated) (lower upper : Float) → inner-holds p lower upper ≡ true → bounds-hold lower upper ≡ true
 unfolding inner-holds
-inner-bounds p lower upper e = first (bounds-hold lower upper) (all-hold p) (leb (length (roots p lower upper)) 509) e
+inner-bounds p lower upper e = three (bounds-hold lower upper) (all-hold p) (leb (length (roots p lower upper)) 509) e .0
 
 angles-small : (origin lower upper : Float) → Within eight origin → (l : List Float) → All (Between lower upper) l → All Small (angles origin l)
 unfolding angles

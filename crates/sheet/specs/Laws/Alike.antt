@@ -16,7 +16,7 @@ use Rattle.sheet.specs.Fields.{sign-of, joint-at, arm-of, job-of, rotati
 use Rattle.sheet.specs.Tests.{right, head-right}
 use Rattle.sheet.specs.Refusals.{Verdict, need, early}
 use Rattle.sheet.specs.Sampling.{angles, cut-count, holds, late, judged}
-use Rattle.sheet.specs.Laws.Bytes.{and-left}
+use Rattle.float.specs.Laws.Tests.{and-left}
 use Rattle.sheet.specs.Laws.Agree.{same-first, same-sign, same-float}
 use Rattle.sheet.specs.Laws.Early.{rotation-same, early-same}
 use Rattle.sheet.specs.Laws.Read.{JointAlike, Alike, angles-alike, cuts-alike, hold-alike}

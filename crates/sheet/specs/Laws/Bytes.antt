@@ -5,12 +5,13 @@ use native.Mathlib.Nat.{add-zero}
 use native.Mathlib.Numerals.{towards-suc}
 use mathlib.Core.Path.{_≡_, refl, ap, _∙_}
 use mathlib.Core.List.{List, [], _∷_, _++_, append-nil}
-use mathlib.Core.Bool.{Bool, true, false, _&&_, false≢true}
+use mathlib.Core.Bool.{true, false, false≢true}
 use lib.ListN.{length, getD, set, drop, length-append, length-drop, drop-of-length-le}
 use lib.Seq.{drop-cons, sets, sets-eq, length-take-le}
 use lib.Dec.{eqb}
 use lib.Ieee.{Float}
 use borrow.Author.Tests.{eq-eqb, ne-eqb, eqb-true}
+use Rattle.float.specs.Laws.Tests.{and-left, and-right}
 use Rattle.sheet.specs.Bytes.{le, bytes, part, float-bytes, floats-bytes, same-bytes}
 
 -- ---- parts
@@ -120,14 +121,6 @@ same-stop a b x y e = rw (ne-eqb a b e)
 pub same-nil : true ≡ same-bytes [] []
 unfolding same-bytes
 same-nil = refl
-
-pub and-left : (p q : Bool) → (p && q) ≡ true → p ≡ true
-and-left true q e = refl
-and-left false q e = absurd (false≢true e)
-
-pub and-right : (p q : Bool) → (p && q) ≡ true → q ≡ true
-and-right true q e = e
-and-right false q e = absurd (false≢true e)
 
 -- the comparison says what it should
 pub same-is : (x y : List ℕ) → same-bytes x y ≡ true → x ≡ y

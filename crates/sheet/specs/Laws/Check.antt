@@ -19,7 +19,8 @@ use Rattle.sheet.specs.Sheet.{trailer}
 use Rattle.sheet.specs.Sampling.{angles, late, judged, sheet-size}
 use Rattle.sheet.specs.Check.{count-of, request-of, angles-of, formed, clean, weigh, ruled}
 use Rattle.sheet.specs.Judge.{is-refused, is-short, PlannedFor}
-use Rattle.sheet.specs.Laws.Bytes.{sets-all, and-left}
+use Rattle.float.specs.Laws.Tests.{and-left}
+use Rattle.sheet.specs.Laws.Bytes.{sets-all}
 use Rattle.sheet.specs.Laws.Sheet.{length-trailer}
 use Rattle.sheet.specs.Laws.Judge.{by-outcome, late-is, late-refused, late-short, late-found, found-angles}
 use Rattle.sampling.specs.Planned as planned

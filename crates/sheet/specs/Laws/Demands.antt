@@ -9,6 +9,7 @@ use lib.ListN.{length, take, drop, length-drop, take-append-drop}
 use lib.Seq.{take-at, drop-at, drop-drop, take-all, length-take-le}
 use lib.Dec.{eqb, leb, ltb}
 use borrow.Author.Tests.{eq-eqb, leb-true, lt-ltb}
+use Rattle.float.specs.Laws.Tests.{and-right}
 use Rattle.sheet.specs.Bytes.{le, bytes, floats-bytes, same-bytes}
 use Rattle.sheet.specs.Request.{request-size, shape-of, blank, Agree}
 use Rattle.sheet.specs.Fields.{job-of, rotation-of, matrix}
@@ -19,7 +20,7 @@ use Rattle.sheet.specs.Sampling.{angles, cut-count, holds, late, judged,
 use Rattle.sheet.specs.Check.{trailer-of, count-of, request-of, angles-of, formed, clean, weigh, ruled}
 use Rattle.sampling.specs.Laws.Angles.{angles-few}
 use Rattle.sheet.specs.Demands.{Leaves, Counted, Sound, Complete, Exact, Few, SameAnswer, SameAngles, SameSheet, Together}
-use Rattle.sheet.specs.Laws.Bytes.{length-bytes, le-half, length-floats-bytes, and-right, same-is, same-itself}
+use Rattle.sheet.specs.Laws.Bytes.{length-bytes, le-half, length-floats-bytes, same-is, same-itself}
 use Rattle.sheet.specs.Laws.Blank.{length-blank}
 use Rattle.sheet.specs.Laws.Agree.{agree-blank, blank-agree, agree-own, blank-twice}
 use Rattle.sheet.specs.Laws.Passed.{Passed, need-holds, need-accepted, early-passed, passed-early}

@@ -30,7 +30,7 @@ use Rattle.sheet.specs.Tests.{right, head-right, within}
 use Rattle.sheet.specs.Refusals.{Verdict, accepted, need, told, early}
 use Rattle.sheet.specs.Sampling.{angles, cut-count, holds, late, judged}
 use Rattle.sheet.specs.Judge.{is-ready, is-refused, is-short, PlannedFor}
-use Rattle.sheet.specs.Laws.Bytes.{and-left, and-right}
+use Rattle.float.specs.Laws.Tests.{and-left, and-right}
 use Rattle.sheet.specs.Laws.Passed.{Passed, ready-passed, passed-reference, passed-offset}
 use Rattle.sheet.specs.declared.tests.Early.the-variants as early-case
 use Rattle.sheet.specs.Refusals as Refusals

@@ -19,7 +19,7 @@ use Rattle.sheet.specs.Request.{request-size, shape-of, reads, last}
 use Rattle.sheet.specs.Fields.{field, rotation-of}
 use Rattle.sheet.specs.Tests.{all-from, head-right, signs-right, rotation-finite, rotation-nonzero, passes, field-right, fields-right, within, arm-within, references-finite, offsets-within}
 use Rattle.sheet.specs.Refusals.{Verdict, accepted, need, early, told}
-use Rattle.sheet.specs.Laws.Bytes.{and-left, and-right}
+use Rattle.float.specs.Laws.Tests.{and-left, and-right}
 
 pub need-holds : (b : Bool) (k n : ℕ) (v : Verdict) → need b k v ≡ accepted n → b ≡ true
 unfolding need

@@ -1,13 +1,14 @@
 -- `polynomial::polynomial::evaluate_three` meets its contract. The loop's invariant: each sum is the value of the coefficients from i on at its point.
 use Prim.Native.Nat.{_≤_}
 use native.Mathlib.Omega.{arith}
-use mathlib.Core.Path.{_≡_, refl, sym, ap, _∙_}
-use mathlib.Core.Bool.{Bool, true, false, _&&_, false≢true}
-use borrow.Author.Tests.{not-false}
+use mathlib.Core.Path.{_≡_, sym, ap, _∙_}
+use mathlib.Core.Bool.{true, _&&_}
 use lib.ListN.{length}
 use lib.Seq.{slice}
+use borrow.Author.Tests.{not-false}
 use borrow.Author.Needs.{needs}
 use Rattle.float.specs.Laws.Operand.{whole-of, halved-whole}
+use Rattle.float.specs.Laws.Tests.{and-left, and-right}
 use Rattle.float.specs.Laws.Zero.{zero-bits}
 use Rattle.polynomial.specs.Compensated.{from, value}
 use Rattle.polynomial.specs.Polynomial.{horner, evaluate}
@@ -21,17 +22,17 @@ Inv-loop n x y z p at-x at-y at-z a₀ b₀ d₀ i₀ a b d i = (i ≤ n) × (le
 abbrev μ-loop : tie.MeasureT-loop
 μ-loop n x y z p at-x at-y at-z a₀ b₀ d₀ i₀ a b d i = i
 
-both : (a b : Bool) → (a && b) ≡ true → (a ≡ true) × (b ≡ true)
-both true b h = (refl, h)
-both false b h = absurd (false≢true h)
-
 -- the halves serve all three points
 fine : (e : tie.Else1 Inv-loop μ-loop)
     → ((e .before .before .before .before .before .before .halved-operand .result .fine ≡ true) × (e .before .before .before .before .before .halved-operand2 .result .fine ≡ true)) × (e .before .before .before .before .halved-operand3 .result .fine ≡ true)
 fine e =
     let h = e .before .before .before .before in
-    let k = both (h .before .before .halved-operand .result .fine && h .before .halved-operand2 .result .fine) (h .halved-operand3 .result .fine) (not-false _ (e .if1 .left)) in
-    (both (h .before .before .halved-operand .result .fine) (h .before .halved-operand2 .result .fine) (k .0), k .1)
+    let a = h .before .before .halved-operand .result .fine in
+    let b = h .before .halved-operand2 .result .fine in
+    let d = h .halved-operand3 .result .fine in
+    let k = not-false _ (e .if1 .left) in
+    let j = and-left (a && b) d k in
+    ((and-left a b j, and-right a b j), and-right (a && b) d k)
 
 halved-operand-requires : tie.Need-halved-operand-requires Inv-loop μ-loop
 halved-operand-requires c κs = search needs
