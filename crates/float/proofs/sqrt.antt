@@ -1,1 +1,3 @@
+mod Guessed
+mod Middles
 mod Rooted

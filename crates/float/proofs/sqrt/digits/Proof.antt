@@ -1,6 +1,8 @@
 -- `float::sqrt::digits` meets its contract: 52 digits, and the leading one. Assumes nothing.
+use Prim.Native.Nat.{ℕ, _+_, _^_}
 use native.Mathlib.Omega.{arith}
-use lib.Bits.{mask-lt}
+use mathlib.Core.Path.{ap}
+use lib.Bits.{mask-lt, and-mask}
 use lib.Ieee.{binary64, toBits}
 use borrow.Author.Needs.{needs}
 use Rattle.float.proofs.sqrt.digits.Statement.{statement}
@@ -13,7 +15,7 @@ add-result : tie.Need-add-result
 add-result c = omega (arith, mask-lt (toBits binary64 (c .args .x)) 52)
 
 returns : tie.Need-returns
-returns c = omega (arith, mask-lt (toBits binary64 (c .args .x)) 52)
+returns c = ap (λ (n : ℕ). n + 2 ^ 52) (and-mask (toBits binary64 (c .args .x)) 52)
 
 pub digits-spec : {M : Type 1} → statement M
 digits-spec = tie.close (tie.spec float-to-bits-result add-result returns)

@@ -1,15 +1,18 @@
--- `float::sqrt::sqrt` meets its contract: a NaN, a zero, what is below zero and an infinity by `Rooted`, and of the rest the whole number nearest to the root of the digits at an even place. Assumes nothing.
-use mathlib.Core.Path.{_≡_, sym, ap, _∙_, subst}
-use mathlib.Core.Bool.{Bool, false}
+-- `float::sqrt::sqrt` meets its contract: a NaN, a zero, what is below zero and an infinity by `Rooted`, and of the rest the root of the digits at an even place. Assumes nothing.
 use Prim.Native.Nat.{ℕ, _+_, _-_, _*_, _/_, _%_, _^_, _≤_, _<_}
 use native.Mathlib.Omega.{arith}
+use mathlib.Core.Path.{_≡_, sym, ap, _∙_, subst}
+use mathlib.Core.Logic.{_⊎_, inl, inr, ⊎-elim}
+use mathlib.Core.Bool.{Bool, false}
 use lib.Ieee.{Float, binary64}
 use borrow.Author.Needs.{needs}
 use Rattle.float.specs.Sqrt.{sqrt, rootOf}
-use Rattle.float.specs.Parts.{Splits, Roots}
+use Rattle.float.specs.Parts.{Splits}
+use Rattle.float.specs.Laws.Tests.{number-of}
 use Rattle.float.specs.Laws.Zero.{not-finite, is-finite}
 use Rattle.float.proofs.mul_add.Special.{some-digits}
-use Rattle.float.proofs.sqrt.Rooted.{root-at, root-range, sqrt-at, evenly, oddly, of-nan, of-zero, quotient, of-negative, of-infinite, no-sign}
+use Rattle.float.proofs.sqrt.Guessed.{no-sign-bit}
+use Rattle.float.proofs.sqrt.Rooted.{sqrt-at, evenly, oddly, of-nan, of-zero, quotient, of-negative, of-infinite, no-sign}
 use Rattle.float.proofs.sqrt.sqrt.Statement.{statement}
 use Rattle.float.proofs.sqrt.sqrt.Tie as tie
 
@@ -60,35 +63,35 @@ add-t c = search needs
 sub-t : tie.Need-sub-t
 sub-t c = search needs
 
-root-requires : tie.Need-root-requires
-root-requires c κs = search needs
+mul-n : tie.Need-mul-n
+mul-n c = search needs
 
-add-write : tie.Need-add-write
-add-write c = search needs
+-- ---- the digits at an even place
+-- m at an even place t, or twice m below an odd one
+abbrev Evened : ℕ → ℕ → ℕ → Type 0
+Evened t m n = ((t % 2 ≡ 0) × (n ≡ m)) ⊎ ((t % 2 ≡ 0 → ⊥) × (n ≡ m * 2))
 
--- ---- where the ways part
 -- a shift that leaves 53 digits loses nothing
 kept : (n : ℕ) → n < 2 ^ 53 → n % 2 ^ 64 ≡ n
 kept n h = omega arith
 
-lo-even : (m : ℕ) → 2 ^ 52 ≤ m → 2 ^ 104 ≤ m * 2 ^ 52
-lo-even m h = native.Mathlib.Nat.mul-le-mul-right (2 ^ 52) h
+evened-range : (t m n : ℕ) → 2 ^ 52 ≤ m → m < 2 ^ 53 → Evened t m n → (2 ^ 52 ≤ n) × (n < 2 ^ 54)
+evened-range t m n a b (inl (_, e)) = (omega arith, omega arith)
+evened-range t m n a b (inr (_, e)) = (omega arith, omega arith)
 
-hi-even : (m : ℕ) → m < 2 ^ 54 → m * 2 ^ 52 < 2 ^ 106
-hi-even m h = native.Mathlib.Nat.mul-lt-mul-of-pos-right h (lib.Pow.pow-pos 52)
+evened-value : (q k i t n : ℕ) → i + t ≡ k + 52 → Evened t (q * 2 ^ i) n → q * 2 ^ k * 2 ^ 1074 ≡ n * 2 ^ 52 * 2 ^ (t / 2 + 485) * 2 ^ (t / 2 + 485)
+evened-value q k i t n p (inl (h, e)) = evenly q k i t (t / 2) p (half t h) ∙ ap (λ (x : ℕ). x * 2 ^ 52 * 2 ^ (t / 2 + 485) * 2 ^ (t / 2 + 485)) (sym e)
+  where
+    half : (t : ℕ) → t % 2 ≡ 0 → t ≡ 2 * (t / 2)
+    half t e = omega arith
+evened-value q k i t n p (inr (h, e)) = oddly q k i t (t / 2) p (half t h) ∙ ap (λ (x : ℕ). x * 2 ^ 52 * 2 ^ (t / 2 + 485) * 2 ^ (t / 2 + 485)) (sym e)
+  where
+    half : (t : ℕ) → (t % 2 ≡ 0 → ⊥) → t ≡ 2 * (t / 2) + 1
+    half t e = omega arith
 
-more : (m : ℕ) → m < 2 ^ 53 → m < 2 ^ 54
-more m h = omega arith
-
-twice-lo : (m : ℕ) → 2 ^ 52 ≤ m → 2 ^ 52 ≤ m * 2
-twice-lo m h = omega arith
-
-twice-hi : (m : ℕ) → m < 2 ^ 53 → m * 2 < 2 ^ 54
-twice-hi m h = omega arith
-
-module _ (j : tie.After-struct-known2) where
+module _ (j : tie.Joined5) where
   abbrev l : tie.After-lift
-  l = j .before .before
+  l = j .before .before .before
 
   abbrev i : ℕ
   i = l .lift .result
@@ -103,8 +106,13 @@ module _ (j : tie.After-struct-known2) where
   abbrev m : ℕ
   m = q (l .before) * 2 ^ i
 
-  m-is : m % 2 ^ 64 ≡ m
-  m-is = kept m (l .lift .ensures .2)
+  evened : Evened t m (j .if5 .n)
+  evened =
+      let m-is = kept m (l .lift .ensures .2) in
+      ⊎-elim (λ w. inl (w .0 .taken, w .1 ∙ m-is)) (λ w. inr (w .0 .left, w .1 ∙ ap (λ (x : ℕ). x * 2) m-is)) (j .if5 .came)
+
+  n-range : (2 ^ 52 ≤ j .if5 .n) × (j .if5 .n < 2 ^ 54)
+  n-range = evened-range t m (j .if5 .n) (l .lift .ensures .1) (l .lift .ensures .2) evened
 
   places : i + t ≡ k + 52
   places = back k i (l .lift .ensures .0)
@@ -118,87 +126,23 @@ module _ (j : tie.After-struct-known2) where
       few : (k i : ℕ) → k ≤ 2045 → (k + 52 - i) / 2 + 485 ≤ 2045
       few k i h = omega arith
 
-  -- an even place, and an odd one
-  module _ (e : t % 2 ≡ 0) (r : ℕ) (R : Roots (m % 2 ^ 64 * 2 ^ 52) r) where
-    even-roots : Roots (m * 2 ^ 52) r
-    even-roots = subst (λ (n : ℕ). Roots (n * 2 ^ 52) r) m-is R
+  root-is : sqrt binary64 (x (l .before)) ≡ rootOf binary64 (j .if5 .n * 2 ^ 52 * 2 ^ (t / 2 + 485) * 2 ^ (t / 2 + 485))
+  root-is = is-root (l .before) ∙ ap (λ (n : ℕ). rootOf binary64 n) (evened-value (q (l .before)) k i t (j .if5 .n) places evened)
 
-    even-range : (2 ^ 52 ≤ r) × (r ≤ 2 ^ 53)
-    even-range = root-range (m * 2 ^ 52) r (lo-even m (l .lift .ensures .1)) (hi-even m (more m (l .lift .ensures .2))) even-roots
+estimate-requires : tie.Need-estimate-requires
+estimate-requires c κs =
+    let s = l c .before in
+    let number = number-of (x s) (s .before .before .before .before .if1 .left) in
+    (number, no-sign-bit (x s) (q s * 2 ^ s .split .result .k) (2 ^ 1074) (parts s .value) (search needs) number)
 
-    even-way : lib.Ieee.units binary64 false r (t / 2 + 485) ≡ sqrt binary64 (x (l .before))
-    even-way =
-        sym (root-at (m * 2 ^ 52) (t / 2 + 485) r (lo-even m (l .lift .ensures .1)) (hi-even m (more m (l .lift .ensures .2))) even-roots)
-        ∙ sym (is-root (l .before) ∙ ap (λ (n : ℕ). rootOf binary64 n) (evenly (q (l .before)) k i t (t / 2) places (half t e)))
-      where
-        half : (t : ℕ) → t % 2 ≡ 0 → t ≡ 2 * (t / 2)
-        half t e = omega arith
+add-settle : tie.Need-add-settle
+add-settle c = search needs
 
-  module _ (e : t % 2 ≡ 0 → ⊥) (r : ℕ) (R : Roots (m % 2 ^ 64 * 2 * 2 ^ 52) r) where
-    odd-roots : Roots (m * 2 * 2 ^ 52) r
-    odd-roots = subst (λ (n : ℕ). Roots (n * 2 * 2 ^ 52) r) m-is R
-
-    odd-range : (2 ^ 52 ≤ r) × (r ≤ 2 ^ 53)
-    odd-range = root-range (m * 2 * 2 ^ 52) r (lo-even (m * 2) (twice-lo m (l .lift .ensures .1))) (hi-even (m * 2) (twice-hi m (l .lift .ensures .2))) odd-roots
-
-    odd-way : lib.Ieee.units binary64 false r (t / 2 + 485) ≡ sqrt binary64 (x (l .before))
-    odd-way =
-        sym (root-at (m * 2 * 2 ^ 52) (t / 2 + 485) r (lo-even (m * 2) (twice-lo m (l .lift .ensures .1))) (hi-even (m * 2) (twice-hi m (l .lift .ensures .2))) odd-roots)
-        ∙ sym (is-root (l .before) ∙ ap (λ (n : ℕ). rootOf binary64 n) (oddly (q (l .before)) k i t (t / 2) places (half t e)))
-      where
-        half : (t : ℕ) → (t % 2 ≡ 0 → ⊥) → t ≡ 2 * (t / 2) + 1
-        half t e = omega arith
-
-write-requires : tie.Need-write-requires
-write-requires c κs =
-    let j = c .before .before in
-    let g = even-range j (c .before .if5 .taken) (c .root .result) (c .root .ensures) in
-    (g .0, g .1, room j)
-
-mul-root : tie.Need-mul-root
-mul-root c = search needs
-
-root-requires-2 : tie.Need-root-requires-2
-root-requires-2 c κs = search needs
-
-add-write-2 : tie.Need-add-write-2
-add-write-2 c = search needs
-
-write-requires-2 : tie.Need-write-requires-2
-write-requires-2 c κs =
-    let j = c .before .before in
-    let g = odd-range j (c .before .if5 .left) (c .root2 .result) (c .root2 .ensures) in
-    (g .0, g .1, room j)
+settle-requires : tie.Need-settle-requires
+settle-requires c κs = (n-range (c .before) .0, n-range (c .before) .1, room (c .before))
 
 returns-5 : tie.Need-returns-5
-returns-5 c =
-    let r = c .before in
-    c .write .ensures ∙ even-way (r .before .before) (r .before .if5 .taken) (r .root .result) (r .root .ensures)
-
-returns-6 : tie.Need-returns-6
-returns-6 c =
-    let r = c .before in
-    c .write2 .ensures ∙ odd-way (r .before .before) (r .before .if5 .left) (r .root2 .result) (r .root2 .ensures)
+returns-5 c = c .settle .ensures ∙ sym (root-is (c .before .before))
 
 pub sqrt-spec : {M : Type 1} → statement M
-sqrt-spec =
-    tie.close
-    (tie.spec
-    returns
-    returns-2
-    returns-3
-    returns-4
-    split-requires
-    lift-requires
-    shl-m
-    add-t
-    sub-t
-    root-requires
-    add-write
-    write-requires
-    mul-root
-    root-requires-2
-    add-write-2
-    write-requires-2
-    returns-5
-    returns-6)
+sqrt-spec = tie.close (tie.spec returns returns-2 returns-3 returns-4 split-requires lift-requires shl-m add-t sub-t mul-n estimate-requires add-settle settle-requires returns-5)
