@@ -1,2 +1,3 @@
 mod Sums
 mod Products
+pub mod Filled

@@ -5,11 +5,13 @@
 -- Angles: `Wrapped` (a wrapped angle lies within P).
 -- Signs: `Plain` (a plain value that is far from zero has the sign of the compensated one, which is not near zero), from `PlainSteps` (sums and the parts of a result), `PlainProducts`,
 -- `PlainStep` (one step of Horner arithmetic), `PlainSize` (a coefficient in units), `PlainScale` (the sum of magnitudes), `PlainMagnitudes` (the sum with the residuals, and the bound of `near-zero`).
+-- Arrays: `Nine` (a polynomial in nine places: its coefficients read back).
 -- Curves: `Inner` (what an inner call of the root finder says, by its answer), `Norm` (how many roots a squared norm has).
 pub mod Cuts
 pub mod Placed
 pub mod Held
 pub mod Lists
+pub mod Nine
 pub mod Halving
 pub mod Degree
 pub mod Enclosed

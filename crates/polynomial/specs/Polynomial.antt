@@ -1,8 +1,8 @@
 -- Polynomials with compensated coefficients, a list from the constant term up (01, module 3). Definitions only, named as in the Rust.
 use Prim.Native.Nat.{ℕ, zero, suc, _+_, _-_, min}
 use mathlib.Core.Bool.{Bool, true, false, _&&_, cond}
-use mathlib.Core.List.{List, [], _∷_}
-use lib.ListN.{length, getD}
+use mathlib.Core.List.{List, [], _∷_, _++_}
+use lib.ListN.{length, getD, replicate}
 use lib.IntN.{pos, negsuc}
 use lib.Ieee.{Float, fin, binary64, le, neg, ofInt}
 use lib.Ieee.Scale.{finite}
@@ -12,6 +12,10 @@ use Rattle.polynomial.specs.declared.compensated.Compensated.{Compensate
 
 abbrev pub nothing : Compensated
 nothing = from zero-float
+
+-- the coefficients in the first of nine places, and zeros behind them
+unfoldable pub nine : List Compensated → List Compensated
+nine l = l ++ replicate (9 - length l) nothing
 
 -- a + scale * b. Each coefficient of the result starts at zero; the coefficients of a are added, then those of b times the scale
 abbrev pub scaled-on : Compensated → Compensated → Float → Compensated

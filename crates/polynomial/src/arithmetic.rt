@@ -8,7 +8,7 @@ use crate::compensated::Compensated;
 // a + scale * b, of n coefficients each.
 pub fn add(a: [Compensated; 9], b: [Compensated; 9], n: usize, scale: f64) -> [Compensated; 9]
     requires { ⌜ n ≤ 9 ⌝ }
-    ensures { λ r. ⌜ take n r ≡ Of.add (take n a) (take n b) scale ⌝ }
+    ensures { λ r. ⌜ r ≡ Of.nine (Of.add (take n a) (take n b) scale) ⌝ }
 {
     let factor = Compensated::from(scale);
     let mut r = [Compensated {
@@ -53,7 +53,7 @@ fn coefficient(
 // a * b, of n and m coefficients: n + m - 1 of them.
 pub fn multiply(a: [Compensated; 9], n: usize, b: [Compensated; 9], m: usize) -> [Compensated; 9]
     requires { ⌜ (0 < n) × (0 < m) × (n + m ≤ 10) ⌝ }
-    ensures { λ r. ⌜ take (n + m - 1) r ≡ Of.multiply (take n a) (take m b) ⌝ }
+    ensures { λ r. ⌜ r ≡ Of.nine (Of.multiply (take n a) (take m b)) ⌝ }
 {
     let mut r = [Compensated {
         high: 0.0,
@@ -77,7 +77,7 @@ pub fn determinant(
     m: usize,
 ) -> [Compensated; 9]
     requires { ⌜ (0 < n) × (0 < m) × (n + m ≤ 10) ⌝ }
-    ensures { λ r. ⌜ take (n + m - 1) r ≡ Of.determinant (take n a) (take m b) (take n c) (take m d) ⌝ }
+    ensures { λ r. ⌜ r ≡ Of.nine (Of.determinant (take n a) (take m b) (take n c) (take m d)) ⌝ }
 {
     add(multiply(a, n, b, m), multiply(c, n, d, m), n + m - 1, -1.0)
 }

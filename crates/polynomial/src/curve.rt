@@ -2,6 +2,7 @@
 ghost use mathlib.Core.Path.{_≡_};
 ghost use lib.ListN.{take};
 ghost use Rattle.polynomial.specs.Curve as Of;
+ghost use Rattle.polynomial.specs.Polynomial.{nine};
 use crate::arithmetic::add;
 use crate::arithmetic::multiply;
 use crate::compensated::Compensated;
@@ -37,7 +38,7 @@ pub struct Numerators {
 
 // A harmonic as a polynomial numerator in u = tan((q1 - origin) / 2), in the first three places.
 pub(crate) fn numerator(h: Harmonic, origin: f64) -> [Compensated; 9]
-    ensures { λ r. ⌜ take 3 r ≡ Of.numerator h origin ⌝ }
+    ensures { λ r. ⌜ r ≡ nine (Of.numerator h origin) ⌝ }
 {
     let both = sin_cos(origin);
     let s = both.sine;
@@ -58,7 +59,7 @@ pub(crate) fn numerator(h: Harmonic, origin: f64) -> [Compensated; 9]
 impl Curve {
     // The J1 harmonics as polynomial numerators around the origin.
     pub fn polynomials(self, origin: f64) -> Numerators
-        ensures { λ r. ⌜ (take 3 (r .a) ≡ Of.numerator (Of.harmonic-a self) origin) × (take 3 (r .b) ≡ Of.numerator (Of.harmonic-b self) origin) × (take 3 (r .c) ≡ Of.numerator (Of.harmonic-c self) origin) ⌝ }
+        ensures { λ r. ⌜ (r .a ≡ nine (Of.numerator (Of.harmonic-a self) origin)) × (r .b ≡ nine (Of.numerator (Of.harmonic-b self) origin)) × (r .c ≡ nine (Of.numerator (Of.harmonic-c self) origin)) ⌝ }
     {
         let a = numerator(
             Harmonic {

@@ -9,21 +9,26 @@ use lib.Seq.{slice, slice-cons, slice-empty, take-set-lt, drop-set-lt}
 use lib.Ieee.{Float, binary64, ofBits}
 use Rattle.float.specs.Laws.Zero.{zero-bits}
 use Rattle.polynomial.specs.Compensated.{from, times}
-use Rattle.polynomial.specs.Polynomial.{multiply}
+use Rattle.polynomial.specs.Polynomial.{nine, multiply}
 use Rattle.polynomial.specs.Curve.{times-each, target}
 use Rattle.polynomial.specs.Laws.Lists.{store-more}
+use Rattle.polynomial.specs.Laws.Nine.{multiply-front}
 use Rattle.float.specs.Laws.Literals.{one-bits}
 use Rattle.polynomial.specs.declared.compensated.Compensated.{Compensated}
 
 module _ (norm : Float) (n squared first last : Compensated) (square : List Compensated) where
+  -- the denominator, as the code writes it
+  abbrev written : List Compensated
+  written = first ∷ record { high = ofBits binary64 0; low = ofBits binary64 0 } ∷ last ∷ []
+
   pub target-start : n ≡ from norm
       → squared ≡ times n n
       → first ≡ from (ofBits binary64 0x3ff0_0000_0000_0000)
       → last ≡ from (ofBits binary64 0x3ff0_0000_0000_0000)
-      → square ≡ multiply (first ∷ record { high = ofBits binary64 0; low = ofBits binary64 0 } ∷ last ∷ []) (first ∷ record { high = ofBits binary64 0; low = ofBits binary64 0 } ∷ last ∷ [])
-      → target norm ≡ times-each square squared
+      → square ≡ nine (multiply written written)
+      → target norm ≡ times-each (take 5 square) squared
   unfolding target
-  target-start e0 e1 e2 e3 e4 = sym (simp (e4, e1, e0, e2, e3, one-bits, zero-bits))
+  target-start e0 e1 e2 e3 e4 = sym (simp (multiply-front square written written 3 3 e4 (omega arith) (omega arith), e1, e0, e2, e3, one-bits, zero-bits))
 
 module _ (r : List Compensated) (n i : ℕ) (factor : Compensated) where
   pub times-more : (z v : Compensated) → i < n → n ≤ length r → v ≡ times (getD r i z) factor

@@ -10,6 +10,8 @@ use lib.Ieee.{Float, nan}
 use Rattle.float.specs.Number.{_⊕_, _⊗_, two-float}
 use Rattle.float.specs.Trig.{atan}
 use Rattle.polynomial.specs.Curve.{numerator, harmonic-a, harmonic-b, harmonic-c}
+use Rattle.polynomial.specs.Polynomial.{nine}
+use Rattle.polynomial.specs.Laws.Nine.{numerator-front}
 use Rattle.polynomial.specs.declared.compensated.Compensated.{Compensated}
 use Rattle.polynomial.specs.declared.curve.Curve.{Curve}
 use Rattle.polynomial.specs.declared.cuts.Put.{Put}
@@ -30,20 +32,24 @@ module _ (origin : Float) (l : List Float) (i n : ℕ) where
   angles-end e = rw (e, slice-empty n l)
 
 numerators-are : (r : Numerators) (q : Curve) (origin : Float) →
-    (take 3 (r .a) ≡ numerator (harmonic-a q) origin) × (take 3 (r .b) ≡ numerator (harmonic-b q) origin) × (take 3 (r .c) ≡ numerator (harmonic-c q) origin) →
+    (r .a ≡ nine (numerator (harmonic-a q) origin)) × (r .b ≡ nine (numerator (harmonic-b q) origin)) × (r .c ≡ nine (numerator (harmonic-c q) origin)) →
     first-three r ≡ polynomials q origin
-numerators-are r q origin e = λ i. record { a = e .0 i; b = e .1 i; c = e .2 i }
+numerators-are r q origin e =
+    let x = numerator-front (r .a) (harmonic-a q) origin (e .0) in
+    let y = numerator-front (r .b) (harmonic-b q) origin (e .1) in
+    let z = numerator-front (r .c) (harmonic-c q) origin (e .2) in
+    λ i. record { a = x i; b = y i; c = z i }
 
 -- the polynomials of a curve, where the code has its numerators
 module _ (r : Numerators) (q : Curve) (origin : Float)
-    (e : (take 3 (r .a) ≡ numerator (harmonic-a q) origin) × (take 3 (r .b) ≡ numerator (harmonic-b q) origin) × (take 3 (r .c) ≡ numerator (harmonic-c q) origin)) where
+    (e : (r .a ≡ nine (numerator (harmonic-a q) origin)) × (r .b ≡ nine (numerator (harmonic-b q) origin)) × (r .c ≡ nine (numerator (harmonic-c q) origin))) where
   pub intersection-is : (k : Polynomials) (p : List Compensated) → p ≡ intersection k (first-three r) → p ≡ intersection k (polynomials q origin)
   intersection-is k p f = f ∙ ap (intersection k) (numerators-are r q origin e)
 
 -- a curve alone and with later ones, where the code has its numerators
 module _ (c : Chart) (r : Numerators) (q : Curve) (later : List Curve) (p : List Compensated)
     (e :
-    (take 3 (r .a) ≡ numerator (harmonic-a q) (c .origin)) × (take 3 (r .b) ≡ numerator (harmonic-b q) (c .origin)) × (take 3 (r .c) ≡ numerator (harmonic-c q) (c .origin)))
+    (r .a ≡ nine (numerator (harmonic-a q) (c .origin))) × (r .b ≡ nine (numerator (harmonic-b q) (c .origin))) × (r .c ≡ nine (numerator (harmonic-c q) (c .origin))))
     (f : p ≡ tangency (first-three r)) where
   abbrev k : Polynomials
   k = polynomials q (c .origin)

@@ -1,20 +1,21 @@
--- `polynomial::arithmetic::add` meets its contract. The loop's invariant: what is stored, and then the sum of the coefficients from i on.
+-- `polynomial::arithmetic::add` meets its contract. The loop's invariant: what is stored, with zeros behind it, and then the sum of the coefficients from i on.
 use Prim.Native.Nat.{_-_, _≤_}
 use native.Mathlib.Omega.{arith}
 use mathlib.Core.Path.{_≡_, refl, sym, ap, _∙_}
 use mathlib.Core.List.{_++_}
-use lib.ListN.{length, take, length-set}
+use lib.ListN.{length, take, drop, replicate, length-set}
 use lib.Seq.{slice}
 use borrow.Author.Needs.{needs}
 use Rattle.float.specs.Laws.Zero.{zero-bits}
 use Rattle.polynomial.specs.Compensated.{from}
-use Rattle.polynomial.specs.Polynomial.{add}
+use Rattle.polynomial.specs.Polynomial.{nothing, add}
+use Rattle.polynomial.proofs.arithmetic.Filled.{zeros-start, zeros-more, nine-of}
 use Rattle.polynomial.proofs.arithmetic.Sums.{add-more, add-end}
 use Rattle.polynomial.proofs.arithmetic.add.Statement.{statement}
 use Rattle.polynomial.proofs.arithmetic.add.Tie as tie
 
 abbrev Inv-loop : tie.InvT-loop
-Inv-loop n scale a b factor r₀ i₀ r i = (i ≤ n) × (length a ≡ 9) × (length b ≡ 9) × (length r ≡ 9) × (add (take n a) (take n b) scale ≡ take i r ++ add (slice i n a) (slice i n b) scale)
+Inv-loop n scale a b factor r₀ i₀ r i = (i ≤ n) × (length a ≡ 9) × (length b ≡ 9) × (length r ≡ 9) × (drop i r ≡ replicate (9 - i) nothing) × (add (take n a) (take n b) scale ≡ take i r ++ add (slice i n a) (slice i n b) scale)
 
 abbrev μ-loop : tie.MeasureT-loop
 μ-loop n scale a b factor r₀ i₀ r i = n - i
@@ -23,7 +24,7 @@ from-requires : tie.Need-from-requires Inv-loop μ-loop
 from-requires c κs = search needs
 
 loop-holds : tie.Need-loop-holds Inv-loop μ-loop
-loop-holds c = (search needs, search needs, search needs, refl, refl)
+loop-holds c = (search needs, search needs, search needs, refl, zeros-start 9, refl)
 
 mul-x : tie.Need-mul-x Inv-loop μ-loop
 mul-x c = search needs
@@ -71,7 +72,8 @@ loop-again c =
       l .loop .inv .1,
       l .loop .inv .2,
       simp length-set (l .loop .inv .3),
-      l .loop .inv .4
+      zeros-more (l .loop .r) (l .loop .i) (c .plus2 .result) (omega arith) (l .loop .inv .4),
+      l .loop .inv .5
           ∙ add-more (a .t1) (a .t2) (l .loop .r) (a .n) (l .loop .i) (a .scale) _ _ (o .from .result) (s .from2 .result) (c .before .before .plus .result) (c .before .times .result) (c .plus2 .result) (search needs) (omega arith) (omega arith) (omega arith)
           (o .from .ensures) (s .from2 .ensures ∙ ap from zero-bits) (c .before .before .plus .ensures) (c .before .times .ensures) (c .plus2 .ensures),
     )
@@ -80,7 +82,10 @@ returns : tie.Need-returns Inv-loop μ-loop
 returns c =
     let l = c .before in
     let a = l .before .before .args in
-    sym (l .loop .inv .4 ∙ add-end (a .t1) (a .t2) (l .loop .r) (a .n) (l .loop .i) (a .scale) (search needs) (search needs))
+    let e : l .loop .i ≡ a .n = omega arith in
+    nine-of (l .loop .r) (add (take (a .n) (a .t1)) (take (a .n) (a .t2)) (a .scale)) (a .n) (l .loop .inv .3) (search needs)
+    (sym (l .loop .inv .5 ∙ add-end (a .t1) (a .t2) (l .loop .r) (a .n) (l .loop .i) (a .scale) (search needs) (search needs)))
+    (rw (sym e) (l .loop .inv .4))
 
 pub add-spec : {M : Type 1} → statement M
 add-spec =

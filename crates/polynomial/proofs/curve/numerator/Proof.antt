@@ -1,5 +1,9 @@
 -- `polynomial::curve::numerator` meets its contract. Assumes nothing.
+use native.Mathlib.Omega.{arith}
+use mathlib.Core.Path.{refl}
 use borrow.Author.Needs.{needs}
+use Rattle.polynomial.specs.Curve.{numerator}
+use Rattle.polynomial.proofs.arithmetic.Filled.{zeros-start, nine-of}
 use Rattle.polynomial.proofs.curve.Harmonics.{numerator-of}
 use Rattle.polynomial.proofs.curve.numerator.Statement.{statement}
 use Rattle.polynomial.proofs.curve.numerator.Tie as tie
@@ -40,8 +44,10 @@ returns c =
     let o = p .before .before in
     let b = o .before .before .before .before .before in
     let a = b .before .args in
-    numerator-of (a .h) (a .origin) (b .sin-cos .result) (o .from .result) (p .before .from2 .result) (p .plus .result) (c .before .before .from3 .result) (c .before .from4 .result) (c .plus2 .result)
-    (b .sin-cos .ensures) (o .from .ensures) (p .before .from2 .ensures) (p .plus .ensures) (c .before .before .from3 .ensures) (c .before .from4 .ensures) (c .plus2 .ensures)
+    nine-of _ (numerator (a .h) (a .origin)) 3 refl (omega arith)
+    (numerator-of (a .h) (a .origin) (b .sin-cos .result) (o .from .result) (p .before .from2 .result) (p .plus .result) (c .before .before .from3 .result) (c .before .from4 .result) (c .plus2 .result)
+    (b .sin-cos .ensures) (o .from .ensures) (p .before .from2 .ensures) (p .plus .ensures) (c .before .before .from3 .ensures) (c .before .from4 .ensures) (c .plus2 .ensures))
+    (zeros-start 6)
 
 pub numerator-spec : {M : Type 1} → statement M
 numerator-spec =
