@@ -108,20 +108,7 @@ impl Trig {
         Crossings::Both(first, second)
     }
 
-    // The wrapped angles where the polynomial equals the target.
-    pub fn crossings(self, target: f64) -> Crossings
-        ensures { λ r. ⌜ r ≡ Of.crossings self target ⌝ }
-    {
-        let radius = hypot(self.cosine, self.sine);
-        if self.meets(radius, target) {
-            let phase = atan2(self.sine, self.cosine);
-            let polar = Polar { radius, phase };
-            return self.around(polar, target);
-        }
-        Crossings::Neither
-    }
-
-    // The same, by a radius and phase worked out before.
+    // The wrapped angles where the polynomial equals the target, by its radius and phase.
     pub(crate) fn crossings_by(self, polar: Polar, target: f64) -> Crossings
         requires { ⌜ polar ≡ By.polar self ⌝ }
         ensures { λ r. ⌜ r ≡ Of.crossings self target ⌝ }

@@ -46,10 +46,10 @@ both-are : (t : Trig) (r f : Float) → r ≡ hypot (t .cosine) (t .sine) → f 
 unfolding polar
 both-are t r f d e = ap (λ (z : Float). both z f) d ∙ ap (λ (z : Float). both (hypot (t .cosine) (t .sine)) z) e
 
-pub met-apart : (t : Trig) (target r f : Float) (b : Bool) → r ≡ hypot (t .cosine) (t .sine) → f ≡ atan2 (t .sine) (t .cosine) → b ≡ meets t r target → b ≡ true → around t (both r f) target ≡ crossings t target
+met-apart : (t : Trig) (target r f : Float) (b : Bool) → r ≡ hypot (t .cosine) (t .sine) → f ≡ atan2 (t .sine) (t .cosine) → b ≡ meets t r target → b ≡ true → around t (both r f) target ≡ crossings t target
 met-apart t target r f b d e m h = met t target (both r f) b (both-are t r f d e) m h
 
-pub missed-apart : (t : Trig) (target r : Float) (b : Bool) → r ≡ hypot (t .cosine) (t .sine) → b ≡ meets t r target → b ≡ false → Neither ≡ crossings t target
+missed-apart : (t : Trig) (target r : Float) (b : Bool) → r ≡ hypot (t .cosine) (t .sine) → b ≡ meets t r target → b ≡ false → Neither ≡ crossings t target
 missed-apart t target r b d m h = missed t target (both r (atan2 (t .sine) (t .cosine))) b (both-are t r (atan2 (t .sine) (t .cosine)) d refl) m h
 
 -- as a list
