@@ -2,7 +2,7 @@
 -- A value of up to 2 ^ 53 * h units is rounded by at most h of them: so errors through sums and differences (`close-add`, `close-sub`) are sums, and `omega` adds them up.
 -- A rounded product is within h units (`mul-close`), its error within 2 * h (`error-close`); far enough from zero the sign is known (`close-positive`, `close-negative`). Assumes nothing.
 use Prim.Native.Nat.{ℕ, zero, suc, _+_, _-_, _*_, _/_, _^_, _≤_, _<_}
-use native.Mathlib.Nat.{le-trans, le-of-eq, le-of-lt, le-of-suc-le-suc, lt-of-le-of-lt, lt-of-not-le, mul-pos, mul-one, zero-mul, zero-add, mul-assoc, mul-comm, mul-right-comm, mul-mul-mul-comm, add-mul, suc-mul, pow-suc, le-of-mul-le-mul-right, mul-le-mul-right, mul-le-mul-left, mul-lt-mul-of-pos-right, div-lt-iff-lt-mul, zero-lt-suc, lt-irrefl}
+use native.Mathlib.Nat.{le-of-eq, le-of-lt, le-of-suc-le-suc, lt-of-le-of-lt, lt-of-not-le, mul-pos, mul-one, zero-mul, zero-add, mul-assoc, mul-comm, mul-right-comm, mul-mul-mul-comm, add-mul, suc-mul, pow-suc, le-of-mul-le-mul-right, mul-le-mul-right, mul-le-mul-left, mul-lt-mul-of-pos-right, div-lt-iff-lt-mul, zero-lt-suc, lt-irrefl}
 use native.Mathlib.Omega.{arith}
 use mathlib.Core.Path.{_≡_, refl, sym, ap, ap₂, _∙_, subst}
 use mathlib.Core.Logic.{_⊎_, inl, inr}
@@ -185,27 +185,9 @@ Room h = (0 < h) × (h ≤ 2 ^ 2000)
 room-low : (h : ℕ) → h ≤ 2 ^ 2000 → Low binary64 h
 room-low h l = lt-of-le-of-lt (mul-le-mul-left (suc (2 ^ 53)) l) (ltb→lt (suc (2 ^ 53) * 2 ^ 2000) (2 ^ 2098) tt)
 
--- for h in multiples of W
-pub room-of : (h : ℕ) → 0 < h → h ≤ 2 ^ 100 * W → Room h
-unfolding W
-room-of h H l = (H, le-trans l (leb→le (2 ^ 100 * 2 ^ 1074) (2 ^ 2000) tt))
-
 -- exactly its own units
 pub close-self : {x : Float} (p n : ℕ) → Is binary64 x p n 0 → Close x p n 0
 close-self p n k = record { r = p; s = n; is = k; over = omega arith; under = omega arith }
-
--- another centre
-pub close-move : {x : Float} (p n q m e d : ℕ) → p + m ≤ q + n + d → q + n ≤ p + m + d → Close x p n e → Close x q m (e + d)
-close-move p n q m e d a b k =
-    let o = k .over in
-    let u = k .under in
-    record { r = k .r; s = k .s; is = k .is; over = omega arith; under = omega arith }
-
-pub close-weaken : {x : Float} (p n e d : ℕ) → e ≤ d → Close x p n e → Close x p n d
-close-weaken p n e d l k =
-    let o = k .over in
-    let u = k .under in
-    record { r = k .r; s = k .s; is = k .is; over = omega arith; under = omega arith }
 
 pub close-neg : {x : Float} (p n e : ℕ) → Close x p n e → Close (neg x) n p e
 close-neg {x} p n e k =
