@@ -8,7 +8,7 @@ use lib.Arith.{digits-div, digits-mod}
 use lib.Pow.{pow-pos}
 use lib.Ieee.{nearest}
 use lib.Ieee.Nearest.{closest}
-use Rattle.float.specs.Jam.{jam}
+use Rattle.float.specs.Promises.Jam.{jam}
 use Rattle.float.specs.Laws.Near.{Cmp, cmp}
 use Rattle.float.proofs.Compare.{cmp-is}
 

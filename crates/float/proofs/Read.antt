@@ -10,7 +10,7 @@ use lib.Ieee.{Float, nan, inf, binary64, odd, fits, ofFields, ofBits, toBits}
 use lib.Ieee.Exact.{HasValue, odd-sign}
 use lib.Ieee.Bits.{ofBits-toBits}
 use lib.Ieee.Scale.{finite}
-use Rattle.float.specs.Parts.{Splits}
+use Rattle.float.specs.Promises.Parts.{Splits}
 
 -- the pattern b of x, read as its fields
 as-fields : (x : Float) (b : ℕ) → T (fits binary64 x) → b ≡ toBits binary64 x → ofFields binary64 (leb (2 ^ 63) b) (b / 2 ^ 52 % 2 ^ 11) (b % 2 ^ 52) ≡ x

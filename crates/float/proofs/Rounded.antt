@@ -11,7 +11,7 @@ use lib.Ieee.Digits.{size-le}
 use lib.Ieee.Fits.{round-is}
 use lib.Ieee.Nearest.{closest, closest-same}
 use lib.Ieee.Order.{drop}
-use Rattle.float.specs.Jam.{jam}
+use Rattle.float.specs.Promises.Jam.{jam}
 use Rattle.float.specs.Laws.Near.{size-gt}
 use Rattle.float.proofs.Cut.{closest-jam}
 

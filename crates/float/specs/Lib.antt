@@ -6,10 +6,6 @@ pub mod MulAdd
 pub mod Sqrt
 pub mod ProductError
 pub mod Trig
-mod Worked
-mod Constants
 pub mod Laws
-pub mod Jam
-pub mod Parts
-pub mod Halves
-pub mod Four
+pub mod Promises
+mod Examples

@@ -3,7 +3,7 @@ ghost use mathlib.Core.Bool.{true};
 ghost use mathlib.Core.Path.{_≡_};
 ghost use Rattle.float.specs.Number.{_⊘_};
 ghost use Rattle.float.specs.Trig as Trig;
-ghost use Rattle.float.specs.Four as Of;
+ghost use Rattle.float.specs.Promises.Four as Of;
 use crate::number::abs;
 use crate::number::is_sign_positive;
 use crate::sqrt::sqrt;

@@ -10,7 +10,7 @@ ghost use lib.Ieee.{binary64, units};
 ghost use lib.Ieee.Nearest.{closest};
 ghost use lib.Ieee.Scale.{finite};
 ghost use Rattle.float.specs.MulAdd.{mul-add};
-ghost use Rattle.float.specs.Parts.{Splits, Shifts, Finishes, Combines};
+ghost use Rattle.float.specs.Promises.Parts.{Splits, Shifts, Finishes, Combines};
 use crate::wide::add;
 use crate::wide::jam;
 use crate::wide::less;

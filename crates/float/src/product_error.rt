@@ -3,7 +3,7 @@
 ghost use mathlib.Core.Path.{_≡_};
 ghost use mathlib.Core.Bool.{true};
 ghost use Rattle.float.specs.ProductError as ProductError;
-ghost use Rattle.float.specs.Halves as Of;
+ghost use Rattle.float.specs.Promises.Halves as Of;
 use crate::mul_add::mul_add;
 
 // Whether a magnitude is zero or from `low` to 2^400.

@@ -6,7 +6,7 @@ ghost use lib.Dec.{T, ltb};
 ghost use mathlib.Core.Bool.{not, false};
 ghost use lib.Ieee.{binary64, units, isNan, toBits};
 ghost use Rattle.float.specs.Sqrt as Sqrt;
-ghost use Rattle.float.specs.Parts.{Roots};
+ghost use Rattle.float.specs.Promises.Parts.{Roots};
 use crate::mul_add::split;
 use crate::wide::less;
 use crate::wide::product;

@@ -2,7 +2,7 @@
 ghost use mathlib.Core.Path.{_≡_};
 ghost use Prim.Native.Nat.{_+_, _-_, _*_, _^_, _≤_, _<_, min};
 ghost use lib.Dec.{ltb};
-ghost use Rattle.float.specs.Jam as Jam;
+ghost use Rattle.float.specs.Promises.Jam as Jam;
 
 // hi * 2^64 + lo.
 pub struct Wide {

@@ -8,7 +8,6 @@
 -- Arrays: `Nine` (a polynomial in nine places: its coefficients read back).
 -- Curves: `Inner` (what an inner call of the root finder says, by its answer), `Norm` (how many roots a squared norm has).
 pub mod Cuts
-pub mod Placed
 pub mod Held
 pub mod Lists
 pub mod Nine
@@ -19,10 +18,3 @@ pub mod Wrapped
 pub mod Bounds
 pub mod Inner
 pub mod Norm
-pub mod PlainSteps
-pub mod PlainProducts
-pub mod PlainStep
-pub mod PlainSize
-pub mod PlainScale
-pub mod PlainMagnitudes
-pub mod Plain

@@ -9,7 +9,4 @@ pub mod Operation
 pub mod Angle
 pub mod Curve
 pub mod Laws
-pub mod Insert
-pub mod Inside
-pub mod Norm
-pub mod Plain
+pub mod Promises

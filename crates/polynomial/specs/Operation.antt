@@ -1,14 +1,13 @@
 -- The operation Roots (01): its refusals in 01's order, its answer, and the result slice afterwards. Definitions only.
 use Prim.Native.Nat.{ℕ, _%_}
-use mathlib.Core.Bool.{Bool, true, _&&_, _||_, cond}
+use mathlib.Core.Bool.{Bool, true, false, _&&_, _||_, cond}
 use mathlib.Core.List.{List, [], _∷_, _++_}
 use lib.IntN.{ℤ, pos, negℤ}
 use lib.Dec.{ltb, leb, eqb}
 use lib.ListN.{length, drop}
-use lib.Ieee.{Float, le}
+use lib.Ieee.{Float, fin, le}
 use Rattle.float.specs.Number.{abs}
 use Rattle.float.specs.Trig.{four-float}
-use Rattle.float.specs.Halves.{most}
 use Rattle.polynomial.specs.Roots.{roots}
 use Rattle.polynomial.specs.declared.compensated.Compensated.{Compensated}
 use Rattle.polynomial.specs.declared.operation.Answer.{Answer}
@@ -28,9 +27,13 @@ bad-length s = eqb (length s % 2) 1 || ltb 18 (length s)
 abbrev pub bounds-hold : Float → Float → Bool
 bounds-hold lower upper = le (abs lower) four-float && le (abs upper) four-float && le lower upper
 
+-- 2^400
+abbrev pub largest-part : Float
+largest-part = fin false 1 (pos 400)
+
 -- 23, a part is not finite or exceeds 2^400 in magnitude
 abbrev pub part-holds : Float → Bool
-part-holds x = le (abs x) most
+part-holds x = le (abs x) largest-part
 
 unfoldable pub parts-hold : List Float → Bool
 parts-hold [] = true

@@ -2,7 +2,7 @@
 // error, by value.
 ghost use mathlib.Core.Path.{_≡_};
 ghost use mathlib.Core.Bool.{true};
-ghost use Rattle.float.specs.Halves.{halves, least, in-range};
+ghost use Rattle.float.specs.Promises.Halves.{halves, least, in-range};
 ghost use Rattle.polynomial.specs.Compensated as Of;
 use float::product_error::Halves;
 use float::product_error::error_by_halves;

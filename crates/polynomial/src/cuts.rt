@@ -6,7 +6,7 @@ ghost use Prim.Native.Nat.{_+_, _<_, _≤_};
 ghost use lib.ListN.{length, drop};
 ghost use lib.Seq.{paste};
 ghost use Rattle.float.specs.Number as Number;
-ghost use Rattle.polynomial.specs.Insert.{passed, putAnswer, putRoom, Found};
+ghost use Rattle.polynomial.specs.Promises.Insert.{passed, putAnswer, putRoom, Found};
 use float::number::is_sign_positive;
 
 // The sign's bit.

@@ -5,7 +5,7 @@ ghost use Prim.Native.Nat.{_+_, _≤_};
 ghost use lib.ListN.{length, take, drop};
 ghost use Rattle.polynomial.specs.Curve as Of;
 ghost use Rattle.polynomial.specs.Roots as Roots;
-ghost use Rattle.polynomial.specs.Norm.{inner-answer, squared-norm-answer, size, listed, put-all};
+ghost use Rattle.polynomial.specs.Promises.Norm.{inner-answer, squared-norm-answer, size, listed, put-all};
 use crate::angle::wrapped_angle;
 use crate::compensated::Compensated;
 use crate::curve::Harmonic;

@@ -4,7 +4,7 @@ ghost use mathlib.Core.Path.{_≡_};
 ghost use mathlib.Core.Bool.{true};
 ghost use Prim.Native.Nat.{_≤_};
 ghost use lib.ListN.{take};
-ghost use Rattle.polynomial.specs.Plain.{both, Tidy, AllTidy, Tells, told};
+ghost use Rattle.polynomial.specs.Promises.Plain.{both, Tidy, AllTidy, Tells, told};
 use crate::compensated::Compensated;
 use float::number::abs;
 

@@ -4,7 +4,7 @@ ghost use mathlib.Core.Path.{_≡_};
 ghost use Prim.Native.Nat.{_+_, _-_, _≤_, _<_};
 ghost use lib.ListN.{take};
 ghost use Rattle.polynomial.specs.Polynomial as Of;
-ghost use Rattle.polynomial.specs.Inside.{Known};
+ghost use Rattle.polynomial.specs.Promises.Inside.{Known};
 use crate::compensated::Compensated;
 use float::number::abs;
 use float::number::is_finite;

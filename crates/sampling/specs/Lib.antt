@@ -23,16 +23,6 @@ pub mod CriticalSlices
 pub mod Slices
 pub mod J1j2free
 pub mod Angles
-pub mod Planned
-mod Examples
 pub mod Laws
-pub mod Polar
-pub mod Pushed
-pub mod Asked
-pub mod Grown
-pub mod Stream
-pub mod Plan
-pub mod Drawn
-pub mod Numerators
-pub mod Cutting
-pub mod Halving
+pub mod Promises
+mod Examples

@@ -2,7 +2,7 @@
 // harmonics of the free model angle, and where they meet a target.
 ghost use mathlib.Core.Path.{_≡_};
 ghost use Rattle.sampling.specs.Continuum as Of;
-ghost use Rattle.sampling.specs.Polar as By;
+ghost use Rattle.sampling.specs.Promises.Polar as By;
 use crate::pose::Vector;
 use crate::pose::dot;
 use float::arc::acos;

@@ -5,7 +5,7 @@ ghost use mathlib.Core.Path.{_≡_};
 ghost use mathlib.Core.List.{_++_};
 ghost use Prim.Native.Nat.{_≤_};
 ghost use lib.ListN.{length, take};
-ghost use Rattle.sampling.specs.Cutting.{cutting, filled, listed};
+ghost use Rattle.sampling.specs.Promises.Cutting.{cutting, filled, listed};
 ghost use Rattle.sampling.specs.Samples.{interval-cuts};
 ghost use Rattle.sampling.specs.SampleAngles as Of;
 ghost use Rattle.sampling.specs.declared.sample_angles.Cutting.the-variants as answer;

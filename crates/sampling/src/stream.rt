@@ -6,8 +6,8 @@ ghost use mathlib.Core.Bool.{not};
 ghost use lib.Dec.{T};
 ghost use lib.ListN.{length, getD};
 ghost use lib.Ieee.{nan, isNan};
-ghost use Rattle.sampling.specs.Stream.{weave, stream, distinct, Steps, Woven};
-ghost use Rattle.sampling.specs.Stream as Of;
+ghost use Rattle.sampling.specs.Promises.Stream.{weave, stream, distinct, Steps, Woven};
+ghost use Rattle.sampling.specs.Promises.Stream as Of;
 use float::number::middle;
 use float::number::total_le;
 

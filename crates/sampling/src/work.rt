@@ -5,7 +5,7 @@ ghost use mathlib.Core.List.{[], _∷_};
 ghost use Prim.Native.Nat.{_<_};
 ghost use lib.Dec.{leb};
 ghost use Rattle.polynomial.specs.declared.cuts.Put.the-variants as put;
-ghost use Rattle.sampling.specs.Grown.{Grown, counted, number};
+ghost use Rattle.sampling.specs.Promises.Grown.{Grown, counted, number};
 use polynomial::cuts::Put;
 use polynomial::cuts::insert;
 

@@ -10,5 +10,5 @@ pub mod Sheet
 pub mod Sampling
 pub mod Check
 pub mod Demands
-pub mod Judge
 pub mod Laws
+pub mod Promises

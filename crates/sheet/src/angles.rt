@@ -4,7 +4,7 @@ ghost use Prim.Native.Nat.{_+_, _-_, _*_, _≤_};
 ghost use lib.ListN.{length, take, drop};
 ghost use lib.Seq.{sets};
 ghost use Rattle.sampling.specs.Samples as Samples;
-ghost use Rattle.sampling.specs.Plan.{all-samples};
+ghost use Rattle.sampling.specs.Promises.Plan.{all-samples};
 ghost use Rattle.sheet.specs.Bytes as Bytes;
 use crate::bytes::put_float;
 use sampling::lists::Lists;

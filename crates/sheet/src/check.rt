@@ -2,15 +2,15 @@
 ghost use mathlib.Core.Path.{_≡_};
 ghost use Prim.Native.Nat.{_+_, _<_, _≤_};
 ghost use lib.ListN.{length};
-ghost use Rattle.sampling.specs.Stream.{start};
-ghost use Rattle.sampling.specs.Plan.{to-come, Ready};
+ghost use Rattle.sampling.specs.Promises.Stream.{start};
+ghost use Rattle.sampling.specs.Promises.Plan.{to-come, Ready};
 ghost use Rattle.sheet.specs.Bytes as Bytes;
 ghost use Rattle.sheet.specs.Request as Request;
 ghost use Rattle.sheet.specs.Refusals as Refusals;
 ghost use Rattle.sheet.specs.Sheet as Sheet;
 ghost use Rattle.sheet.specs.Sampling as Sampling;
 ghost use Rattle.sheet.specs.Check as Check;
-ghost use Rattle.sheet.specs.Judge as Judge;
+ghost use Rattle.sheet.specs.Promises.Judge as Judge;
 use crate::bytes::clear;
 use crate::bytes::half;
 use crate::bytes::same_at;

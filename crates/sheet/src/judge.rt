@@ -1,8 +1,8 @@
 // What becomes of a request, the output apart.
 ghost use mathlib.Core.Path.{_≡_};
-ghost use Rattle.sampling.specs.Planned.{came};
-ghost use Rattle.sheet.specs.Judge as Judge;
-ghost use Rattle.sheet.specs.Laws.Passed.{Passed};
+ghost use Rattle.sampling.specs.Promises.Planned.{came};
+ghost use Rattle.sheet.specs.Promises.Judge as Judge;
+ghost use Rattle.sheet.specs.Promises.Passed.{Passed};
 use crate::fields::job_of;
 use crate::fields::matrix_of;
 use crate::fields::rotation_of;

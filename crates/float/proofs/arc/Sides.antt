@@ -4,7 +4,7 @@ use mathlib.Core.Bool.{Bool, true, false, _&&_, _||_, cond, false≢true}
 use lib.Ieee.{Float, nan, inf, fin, binary64, neg, eq, lt, le, ne, ofBits, isNan}
 use Rattle.float.specs.Number.{_⊕_, _⊖_, _⊘_, zero-float, two-float}
 use Rattle.float.specs.Trig.{atan2, atan, P}
-use Rattle.float.specs.Four.{plain, all-plain}
+use Rattle.float.specs.Promises.Four.{plain, all-plain}
 use Rattle.float.specs.declared.arc.Four.{Four}
 use Rattle.float.specs.Laws.Tests.{ne-self}
 use Rattle.float.specs.Laws.Zero.{zero-bits}

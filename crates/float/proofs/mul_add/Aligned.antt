@@ -6,7 +6,7 @@ use Prim.Native.Nat.{ℕ, zero, suc, _+_, _-_, _*_, _/_, _%_, _^_, _≤_, _<_, m
 use native.Mathlib.Nat.{le-trans, le-of-eq, lt-of-lt-of-le, mod-lt, div-add-mod', mul-assoc, mul-comm, mul-le-mul-right, mul-le-mul-left, eq-or-lt-of-le, eq-zero-or-pos, pow-succ', add-sub-of-le}
 use native.Mathlib.Omega.{arith}
 use lib.Pow.{pow-pos}
-use Rattle.float.specs.Jam.{jam}
+use Rattle.float.specs.Promises.Jam.{jam}
 use Rattle.float.proofs.wide.Words.{jam-at}
 
 -- ---- the parts of a number n at 2 ^ suc d

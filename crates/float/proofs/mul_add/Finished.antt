@@ -10,11 +10,11 @@ use lib.Arith.{digits-lt}
 use lib.Pow.{pow-pos, pow-add, pow-mono}
 use lib.Ieee.{Float, binary64, round}
 use lib.Ieee.Scale.{round-same}
-use Rattle.float.specs.Jam.{jam}
+use Rattle.float.specs.Promises.Jam.{jam}
 use Rattle.float.proofs.wide.Words.{jam-at, some-times}
 use Rattle.float.proofs.mul_add.Left.{jam-top, jam-under}
 use Rattle.float.proofs.Rounded.{round-jam}
-use Rattle.float.specs.Parts.{Shifts, Finishes}
+use Rattle.float.specs.Promises.Parts.{Shifts, Finishes}
 
 -- ---- a shift to the left of what a cut left
 module _ (S d L : ℕ) where

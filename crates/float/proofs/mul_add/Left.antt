@@ -5,8 +5,8 @@ use native.Mathlib.Nat.{le-trans, le-of-eq, lt-of-lt-of-le, lt-of-le-of-lt, lt-o
 use native.Mathlib.Omega.{arith}
 use lib.Pow.{pow-pos, pow-add, pow-mono, shr-lt}
 use lib.Bits.{bitOr, or-shifted}
-use Rattle.float.specs.Jam.{jam}
-use Rattle.float.specs.Parts.{Shifts}
+use Rattle.float.specs.Promises.Jam.{jam}
+use Rattle.float.specs.Promises.Parts.{Shifts}
 use Rattle.float.proofs.wide.Words.{jam-or, or-last}
 
 -- ---- what is cut off leaves the top digit

@@ -13,7 +13,7 @@ use lib.Ieee.Fits.{down-pos}
 use lib.Ieee.Exact.{HasValue}
 use lib.Ieee.Scale.{finite}
 use Rattle.float.specs.MulAdd.{mul-add}
-use Rattle.float.specs.Parts.{Splits}
+use Rattle.float.specs.Promises.Parts.{Splits}
 use Rattle.float.specs.Laws.Zero.{round-of-zero, zero-bits, equals-zero, level-zero, zero-of}
 use Rattle.float.proofs.mul_add.Sums.{sum-same}
 

@@ -9,8 +9,8 @@ use lib.Pow.{pow-pos}
 use lib.Ieee.{Float, binary64, round, sum}
 use lib.Ieee.Scale.{round-same}
 use Rattle.float.specs.Laws.Zero.{sum-same-sign, sum-less, sum-more, sum-none}
-use Rattle.float.specs.Jam.{jam}
-use Rattle.float.specs.Parts.{Combines}
+use Rattle.float.specs.Promises.Jam.{jam}
+use Rattle.float.specs.Promises.Parts.{Combines}
 use Rattle.float.specs.Laws.Near.{Cmp, cmp}
 use Rattle.float.proofs.mul_add.Aligned.{jam-add, more-is, jam-more, less-is, jam-less, none-is, whole-add, whole-more, whole-less}
 use Rattle.float.proofs.mul_add.Finished.{finished}

@@ -19,13 +19,14 @@ use Rattle.float.specs.Laws.Sign.{strip, Alike, zeroF, round-zero, neg-n
 use Rattle.float.specs.Laws.Like.{Like, Opp, like-refl, like-sym, like-trans, add-like, sub-like, mul-like, neg-like, add-opp, sub-opp, mul-opp-l, mul-opp-r, neg-opp, from-opp, first-zero, zero-l, zero-r}
 use Rattle.float.specs.Laws.MulAdd.{by-parts, plus, mul-add-is, by-parts-like, by-parts-opp, by-parts-opp-r}
 use Rattle.float.specs.Laws.Le.{plain, neg-finite}
-use Rattle.float.specs.Laws.Within.{Within, Beyond, held, fits→held, add-within, sub-within, mul-within, numeral, neg-within, neg-beyond}
+use Rattle.float.specs.Promises.Order.{Within}
+use Rattle.float.specs.Laws.Within.{Beyond, held, fits→held, add-within, sub-within, mul-within, numeral, neg-within, neg-beyond}
 use Rattle.float.specs.Laws.Units.{Is}
 use Rattle.float.proofs.product_error.NotMinusZero.{nz, sum-nz, whole-units, over-l, over-r, add-nz, mul-sgn, neg-sgn, one-nz}
 use Rattle.float.proofs.product_error.Split.{scaled, halves}
 use Rattle.float.proofs.product_error.Dekker.{dekker, step2, step3}
 use Rattle.float.proofs.product_error.Normal.{Normal, normal, in-range-equal}
-use Rattle.float.specs.Halves.{most, splitter, high-half, low-half}
+use Rattle.float.specs.Promises.Halves.{most, splitter, high-half, low-half}
 
 abbrev pub fused : Float → Float → Float
 fused a b = by-parts binary64 a b (neg (mul binary64 a b))

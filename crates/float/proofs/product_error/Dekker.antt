@@ -11,7 +11,7 @@ use lib.Ieee.{Float, Format, binary64, low, add, sub, mul}
 use lib.Ieee.Nearest.{closest}
 use Rattle.float.specs.Laws.Units.{Is, Is-add, Is-sub, Is-mul, Is-shift, Is-unit, Is-ununit}
 use Rattle.float.specs.Laws.Near.{closest-near, mul-near}
-use Rattle.float.specs.Halves.{high-half, low-half}
+use Rattle.float.specs.Promises.Halves.{high-half, low-half}
 use Rattle.float.proofs.product_error.Split.{Halves}
 
 -- ---- |x - y| ≤ e

@@ -8,10 +8,11 @@ use lib.Pow.{pow-pos}
 use lib.Ieee.{Float, binary64, neg, mul}
 use lib.Ieee.Positive.{den, den-pos}
 use Rattle.float.specs.Laws.Sign.{Alike}
-use Rattle.float.specs.Laws.Le.{pl, mi, add-srnd}
+use Rattle.float.specs.Promises.Order.{pl, mi}
+use Rattle.float.specs.Laws.Le.{add-srnd}
 use Rattle.float.specs.Laws.MulAdd.{by-parts, by-parts-srnd}
 use Rattle.float.specs.Laws.Units.{Is, Is-neg, Is-unit, sum-eq, mul-value, srnd-same}
-use Rattle.float.specs.Halves.{low-half}
+use Rattle.float.specs.Promises.Halves.{low-half}
 use Rattle.float.proofs.product_error.Split.{halves}
 use Rattle.float.proofs.product_error.Dekker.{numbers, product, dekker, step3, third, fourth}
 

@@ -11,10 +11,11 @@ use lib.Pow.{pow-add, pow-pos, pow-mono}
 use lib.Ieee.{Float, nan, inf, fin, binary64, up, down, size, neg, mul}
 use lib.Ieee.Digits.{size-lt, size-le, size-reaches}
 use lib.Ieee.Fits.{and-l, and-r, down-pos}
-use Rattle.float.specs.Halves.{most}
+use Rattle.float.specs.Promises.Halves.{most}
 use Rattle.float.specs.Laws.Sign.{Alike}
 use Rattle.float.specs.Laws.Le.{plain}
-use Rattle.float.specs.Laws.Within.{Within, Beyond, held, drop-pow, shift}
+use Rattle.float.specs.Promises.Order.{Within}
+use Rattle.float.specs.Laws.Within.{Beyond, held, drop-pow, shift}
 use Rattle.float.specs.Laws.Units.{Is, Is-unit}
 use Rattle.float.specs.Laws.MulAdd.{by-parts}
 use Rattle.float.proofs.product_error.Dekker.{dekker}

@@ -11,9 +11,10 @@ use borrow.Author.Tests.{ltb-true, ltb-false}
 use lib.Ieee.{Float, nan, inf, fin, binary64, up, down, neg, lt, le, eq, fits}
 use lib.Ieee.Positive.{num, den}
 use Rattle.float.specs.Number.{zero-float}
-use Rattle.float.specs.Halves.{most, sized, in-range}
+use Rattle.float.specs.Promises.Halves.{most, sized, in-range}
 use Rattle.float.specs.Laws.Le.{le→Le, yes-of}
-use Rattle.float.specs.Laws.Within.{Within, Beyond}
+use Rattle.float.specs.Promises.Order.{Within}
+use Rattle.float.specs.Laws.Within.{Beyond}
 use Rattle.float.specs.Laws.Range.{plain-le, under}
 use Rattle.float.specs.Laws.Zero.{zero-bits, zero-of, no-up}
 use Rattle.float.proofs.product_error.Bitwise.{Ranged, isZero}

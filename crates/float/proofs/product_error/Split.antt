@@ -10,7 +10,7 @@ use lib.Dec.{T, ltb, ltb→lt, nltb→le}
 use lib.Pow.{pow-pos}
 use lib.Ieee.{Float, binary64, sub, mul}
 use lib.Ieee.Nearest.{closest}
-use Rattle.float.specs.Halves.{splitter, high-half, low-half}
+use Rattle.float.specs.Promises.Halves.{splitter, high-half, low-half}
 use Rattle.float.specs.Laws.Units.{Is, Is-sub, Is-shift, Is-unit, Is-ununit}
 use Rattle.float.specs.Laws.Near.{closest-near, mul-near, sub-near}
 

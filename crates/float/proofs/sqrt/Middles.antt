@@ -9,7 +9,7 @@ use mathlib.Core.Bool.{false}
 use lib.Pow.{pow-pos}
 use lib.Ieee.{binary64, units}
 use Rattle.float.specs.Sqrt.{rootOf}
-use Rattle.float.specs.Parts.{Roots}
+use Rattle.float.specs.Promises.Parts.{Roots}
 use Rattle.float.proofs.sqrt.Rooted.{root-at, root-range}
 
 less-one : (q : ℕ) → q * (q - 1) + q ≡ q * q

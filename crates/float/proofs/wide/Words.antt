@@ -6,7 +6,7 @@ use native.Mathlib.Omega.{arith}
 use lib.Arith.{digits-lt, digits-div, digits-mod, mod-mul}
 use lib.Pow.{pow-pos, pow-add, pow-mono, shr-lt}
 use lib.Bits.{bitOr, or-step, or-zero-r, or-shifted, or-add-and, and-le-l, and-le-r}
-use Rattle.float.specs.Jam.{jam}
+use Rattle.float.specs.Promises.Jam.{jam}
 
 -- ---- `jam` from the parts of a number
 pub jam-at : (n d A r : ℕ) → n ≡ A * 2 ^ suc d + r → r < 2 ^ suc d → jam n d ≡ 2 * A + min 1 r

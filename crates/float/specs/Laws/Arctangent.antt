@@ -15,8 +15,10 @@ use Rattle.float.specs.Number.{_⊕_, _⊖_, _⊗_, _⊘_, abs, negative
 use Rattle.float.specs.Sqrt.{sqrt}
 use Rattle.float.specs.Trig.{P, four-float, halved, atan-start, atan-series, atan-value, copysign, atan, atan2, other-side, acos, asin}
 use Rattle.float.specs.Laws.Sign.{round-neg}
-use Rattle.float.specs.Laws.Le.{Le, le→Le, Le→le, plain, round-plain, add-mono}
-use Rattle.float.specs.Laws.Within.{Within, Beyond, divTest, add-within, sub-within, mul-within, div-within, neg-within, numeral, numeral-beyond, weaken, Le→beyond, not-none}
+use Rattle.float.specs.Promises.Order.{Le}
+use Rattle.float.specs.Laws.Le.{le→Le, Le→le, plain, round-plain, add-mono}
+use Rattle.float.specs.Promises.Order.{Within}
+use Rattle.float.specs.Laws.Within.{Beyond, divTest, add-within, sub-within, mul-within, div-within, neg-within, numeral, numeral-beyond, weaken, Le→beyond, not-none}
 use Rattle.float.specs.Laws.Interval.{Le-refl, Le-trans, within-in, in-self, in-wider, add-in, sub-in}
 use Rattle.float.specs.Laws.Range.{abs-within, within-abs, lt→Le, nlt→Le}
 use Rattle.float.specs.Laws.Sine.{per, over-within, step-within}

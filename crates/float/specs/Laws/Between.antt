@@ -19,10 +19,13 @@ use Rattle.float.specs.Laws.Zero.{sum-same-sign, sum-less, sum-more}
 use Rattle.float.specs.Laws.Total.{total-le-eq}
 use Rattle.float.specs.Laws.Tests.{total-le-lt, round-negative}
 use Rattle.float.specs.Laws.Like.{zero-l}
-use Rattle.float.specs.Laws.Le.{Le, Le→le, or-r, or-split, plain, round-plain, div-mono-by}
-use Rattle.float.specs.Laws.Within.{Within, held, fits→held, drop-pow, round-within, div-exact, within→Le, plain-finite}
+use Rattle.float.specs.Promises.Order.{Le}
+use Rattle.float.specs.Laws.Le.{Le→le, or-r, or-split, plain, round-plain, div-mono-by}
+use Rattle.float.specs.Promises.Order.{Within}
+use Rattle.float.specs.Laws.Within.{held, fits→held, drop-pow, round-within, div-exact, within→Le, plain-finite}
 use Rattle.float.specs.Laws.Whole.{le-units, lt-units}
-use Rattle.float.specs.Laws.Middle.{Span, middle-in}
+use Rattle.float.specs.Promises.Order.{Span}
+use Rattle.float.specs.Laws.Middle.{middle-in}
 
 -- ---- no minus sign
 

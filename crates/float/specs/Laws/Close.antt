@@ -18,7 +18,8 @@ use lib.Ieee.Positive.{den, den-pos}
 use lib.IntN.{ℤ}
 use Rattle.float.specs.Number.{_⊕_, _⊖_, _⊗_, zero-float, abs, negative}
 use Rattle.float.specs.Laws.Sign.{Alike, round-neg}
-use Rattle.float.specs.Laws.Le.{pl, mi, srnd, add-srnd}
+use Rattle.float.specs.Promises.Order.{pl, mi}
+use Rattle.float.specs.Laws.Le.{srnd, add-srnd}
 use Rattle.float.specs.Laws.Units.{Is, Is-alike, Is-neg, plus-Is, flat, cross-mul, mul-srnd', sum-eq}
 use Rattle.float.specs.Laws.Near.{closest-near}
 use Rattle.float.specs.ProductError.{product-error}

@@ -9,7 +9,8 @@ use lib.Dec.{T, ltb, leb, ltb→lt, leb→le, nleb→lt, lit≤}
 use lib.Pow.{pow-add, pow-pos, pow-mono}
 use lib.Ieee.{Float, nan, inf, fin, binary64}
 use lib.Ieee.Fits.{and-l, and-r}
-use Rattle.float.specs.Laws.Within.{Within, held}
+use Rattle.float.specs.Promises.Order.{Within}
+use Rattle.float.specs.Laws.Within.{held}
 
 -- ---- the largest value
 abbrev pub largest : Float

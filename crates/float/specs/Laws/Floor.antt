@@ -9,7 +9,7 @@ use lib.Dec.{T, eqb, eqb→eq}
 use lib.Ieee.{Float, nan, inf, fin, up, down}
 use lib.Ieee.Fits.{down-pos}
 use lib.Ieee.Scale.{finite}
-use Rattle.float.specs.Laws.Le.{Le}
+use Rattle.float.specs.Promises.Order.{Le}
 use Rattle.float.specs.Number.{floor, minus}
 
 -- k is the greatest whole number that is not above y

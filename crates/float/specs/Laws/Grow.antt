@@ -15,7 +15,8 @@ use lib.Ieee.Positive.{num, den}
 use Rattle.float.specs.Number.{_⊕_, _⊗_, zero-float}
 use Rattle.float.specs.Laws.Sign.{strip, Alike, round-zero}
 use Rattle.float.specs.Laws.Like.{second-zero}
-use Rattle.float.specs.Laws.Le.{Le, le→Le, Le→le, plain, round-plain, add-mono, le-alike, finite-alike, unstrip-Le-r}
+use Rattle.float.specs.Promises.Order.{Le}
+use Rattle.float.specs.Laws.Le.{le→Le, Le→le, plain, round-plain, add-mono, le-alike, finite-alike, unstrip-Le-r}
 use Rattle.float.specs.Laws.Within.{held, exact-self, value-finite, fits→held}
 use Rattle.float.specs.Laws.Interval.{Le-refl, Le-trans}
 use Rattle.float.specs.Laws.Zero.{sum-comm}

@@ -11,8 +11,10 @@ use lib.Ieee.{Float, nan, inf, fin, Format, neg, add, sub, mul, le}
 use lib.Ieee.Fits.{and-l, and-r}
 use lib.Ieee.Scale.{finite}
 use lib.Ieee.Positive.{den, den-pos}
-use Rattle.float.specs.Laws.Le.{pl, mi, Le, le→Le, plain, add-mono, sub-mono, mul-mono-by}
-use Rattle.float.specs.Laws.Within.{Within, Le→within, within→Le}
+use Rattle.float.specs.Promises.Order.{pl, mi, Le}
+use Rattle.float.specs.Laws.Le.{le→Le, plain, add-mono, sub-mono, mul-mono-by}
+use Rattle.float.specs.Promises.Order.{Within}
+use Rattle.float.specs.Laws.Within.{Le→within, within→Le}
 
 -- ---- the order is an order
 pub Le-refl : (x : Float) → T (finite x) → Le x x

@@ -15,24 +15,7 @@ use lib.Ieee.Scale.{finite}
 use lib.Ieee.Positive.{num, den, den-pos}
 use Rattle.float.specs.Laws.Sign.{strip, Alike, round-zero, round-neg}
 use Rattle.float.specs.Laws.Like.{zero-l}
-
-abbrev pub pl : Float → ℕ
-pl nan = 0
-pl (inf s) = 0
-pl (fin true m e) = 0
-pl (fin false m e) = m * up e
-
-abbrev pub mi : Float → ℕ
-mi nan = 0
-mi (inf s) = 0
-mi (fin true m e) = m * up e
-mi (fin false m e) = 0
-
--- x ≤ y for finite values, over whole numbers
-pub record Le (x y : Float) : Type 0 where
-  pub first : T (finite x)
-  pub second : T (finite y)
-  pub cross : pl x * den y + mi y * den x ≤ pl y * den x + mi x * den y
+use Rattle.float.specs.Promises.Order.{pl, mi, Le}
 
 -- ---- `le` says the same
 pub yes-of : {b : Bool} → b ≡ true → T b

@@ -17,11 +17,15 @@ use lib.Ieee.Scale.{round-same, finite}
 use lib.Ieee.Positive.{den, den-pos}
 use Rattle.float.specs.Number.{_⊕_, _⊖_, _⊘_, middle, two-float}
 use Rattle.float.specs.Laws.Sign.{Alike}
-use Rattle.float.specs.Laws.Le.{pl, mi, Le, le→Le, srnd, srnd-mono, le-alike, finite-alike, signed-pos, signed-neg, add-srnd, div-srnd}
-use Rattle.float.specs.Laws.Within.{Within, within→Le, Le→within, fits→held, exact-self}
+use Rattle.float.specs.Promises.Order.{pl, mi, Le}
+use Rattle.float.specs.Laws.Le.{le→Le, srnd, srnd-mono, le-alike, finite-alike, signed-pos, signed-neg, add-srnd, div-srnd}
+use Rattle.float.specs.Promises.Order.{Within}
+use Rattle.float.specs.Laws.Within.{within→Le, Le→within, fits→held, exact-self}
 use Rattle.float.specs.Laws.Interval.{In, Le-trans, between-finite}
 use Rattle.float.specs.Laws.Units.{Is, Is-alike, Is-neg, plus-Is, minus-Is, sum-eq, srnd-same, flat, Le-Is}
-use Rattle.float.specs.Laws.Whole.{plus-units, minus-units, amount, fits-amount, whole-is, Le-units, eq-units, lt-units, width, width-within}
+use Rattle.float.specs.Promises.Order.{plus-units, minus-units, amount, width}
+use Rattle.float.specs.Laws.Whole.{fits-amount, whole-is, Le-units, eq-units, lt-units, width-within}
+use Rattle.float.specs.Promises.Order.{Span}
 
 -- ---- a sum and a half as rounded numbers of units
 module _ (f : Format) (x : Float) (p n : ℕ) (h : Is f x p n 0) where
@@ -189,15 +193,6 @@ module _ (f : Format) (lo hi : Float) (s : T (fits f lo)) (p : T (finite lo)) (t
   mid-between S = moved S (div f (sub f hi lo) two-float) (div-fits f (sub f hi lo) two-float) (half-gap S (gap S))
 
 -- ---- what a loop over an interval uses, at binary64
--- An interval that can be halved: its ends are of the format and in order, and at most 2 ^ k in size, so that their difference is finite.
-pub record Span (k : ℕ) (lo hi : Float) : Type 0 where
-  pub room : k < 1023
-  pub lo-fits : T (fits binary64 lo)
-  pub hi-fits : T (fits binary64 hi)
-  pub lo-within : Within (fin false 1 (pos k)) lo
-  pub hi-within : Within (fin false 1 (pos k)) hi
-  pub order : Le lo hi
-
 -- m lies strictly between, and each half has fewer units
 pub record Inside (lo hi m : Float) : Type 0 where
   pub above : T (lt lo m)

@@ -12,7 +12,8 @@ use lib.Ieee.Scale.{round-same, finite}
 use lib.Ieee.Positive.{den}
 use Rattle.float.specs.MulAdd.{mul-add}
 use Rattle.float.specs.Laws.Sign.{strip, Alike, sum-neg, unlike-l, unlike-r}
-use Rattle.float.specs.Laws.Le.{pl, mi, srnd, sum-srnd}
+use Rattle.float.specs.Promises.Order.{pl, mi}
+use Rattle.float.specs.Laws.Le.{srnd, sum-srnd}
 use Rattle.float.specs.Laws.Like.{Like, Opp, first-zero, second-zero, from-opp, to-opp, like-trans, like-sym, zero-l, zero-r}
 
 -- ±a / c, exact, plus z

@@ -16,7 +16,8 @@ use lib.Ieee.Nearest.{closest, closest-same}
 use lib.Ieee.Order.{drop}
 use lib.Ieee.Scale.{grid, overflow, round-val}
 use lib.Ieee.Positive.{den, den-pos}
-use Rattle.float.specs.Laws.Le.{pl, mi, srnd, add-srnd}
+use Rattle.float.specs.Promises.Order.{pl, mi}
+use Rattle.float.specs.Laws.Le.{srnd, add-srnd}
 use Rattle.float.specs.Laws.Units.{Is, Is-alike, Is-neg, plus-Is, spread, mul-srnd', mul-value, sum-eq}
 
 -- ---- what `compare` answers

@@ -1,7 +1,7 @@
 -- An operand in its halves is still that operand. Assumes nothing.
 use mathlib.Core.Path.{_≡_, refl, sym, ap, _∙_}
 use lib.Ieee.{Float}
-use Rattle.float.specs.Halves.{halves}
+use Rattle.float.specs.Promises.Halves.{halves}
 use Rattle.float.specs.declared.product_error.Halves.{Halves}
 
 whole-is : (x : Float) → halves x .whole ≡ x

@@ -10,8 +10,9 @@ use lib.Ieee.{Float, nan, inf, fin, up, down, below, lt, eq, le}
 use lib.Ieee.Scale.{finite}
 use lib.Ieee.Positive.{num}
 use Rattle.float.specs.Number.{abs}
-use Rattle.float.specs.Laws.Le.{pl, mi, Le, le→Le, plain, or-l, yes-of}
-use Rattle.float.specs.Laws.Within.{Within}
+use Rattle.float.specs.Promises.Order.{pl, mi, Le}
+use Rattle.float.specs.Laws.Le.{le→Le, plain, or-l, yes-of}
+use Rattle.float.specs.Promises.Order.{Within}
 
 -- one product a side
 pub plain-le : (a b c d : ℕ) → a + 0 * b ≤ c + 0 * d → a ≤ c

@@ -20,8 +20,10 @@ use Rattle.float.specs.Number.{_⊕_, _⊗_, floor, floor-i64, zero-floa
 use Rattle.float.specs.Trig.{I, H, L, half, widest, turns, reduced}
 use Rattle.float.specs.Laws.Floor.{Floor, int, floor-is}
 use Rattle.float.specs.Laws.Range.{nlt→Le}
-use Rattle.float.specs.Laws.Le.{Le, le→Le, Le→le, neg-finite, add-mono, mul-mono-by}
-use Rattle.float.specs.Laws.Within.{Within, add-within, mul-within, numeral, Le→within}
+use Rattle.float.specs.Promises.Order.{Le}
+use Rattle.float.specs.Laws.Le.{le→Le, Le→le, neg-finite, add-mono, mul-mono-by}
+use Rattle.float.specs.Promises.Order.{Within}
+use Rattle.float.specs.Laws.Within.{add-within, mul-within, numeral, Le→within}
 use Rattle.float.specs.Laws.Interval.{Le-refl, Le-trans, Le-total, In, in-self, in-wider, add-in, sub-in, mul-in-by, within-in}
 
 -- ---- the bound on |r|, and half the width of an interval

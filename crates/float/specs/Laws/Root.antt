@@ -18,8 +18,10 @@ use lib.Ieee.Scale.{finite, grid, overflow, round-val, round-under}
 use lib.Ieee.Positive.{num, den, den-pos, through}
 use Rattle.float.specs.Number.{_⊗_, _⊘_, zero-float, one-float}
 use Rattle.float.specs.Sqrt.{root, rootOf, sqrt}
-use Rattle.float.specs.Laws.Le.{Le, plain, units-plain}
-use Rattle.float.specs.Laws.Within.{Within, Beyond, Held, held, held-finite, held-units, fits→held, value-cross, value-finite, pos-of, div-exact, Le→beyond, beyond→Le}
+use Rattle.float.specs.Promises.Order.{Le}
+use Rattle.float.specs.Laws.Le.{plain, units-plain}
+use Rattle.float.specs.Promises.Order.{Within}
+use Rattle.float.specs.Laws.Within.{Beyond, Held, held, held-finite, held-units, fits→held, value-cross, value-finite, pos-of, div-exact, Le→beyond, beyond→Le}
 use Rattle.float.specs.Laws.Interval.{Le-trans}
 use Rattle.float.specs.Laws.Units.{Is, plus-Is, Le-Is}
 use Rattle.float.specs.Laws.Grow.{square-is, square-plus, minus-zero}

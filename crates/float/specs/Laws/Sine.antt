@@ -9,7 +9,8 @@ use lib.Ieee.Fits.{and-l, and-r}
 use lib.Ieee.Positive.{num, den}
 use Rattle.float.specs.Number.{_⊕_, _⊗_, one-float}
 use Rattle.float.specs.Trig.{factorial, sine-series, cosine-series, sine, cosine}
-use Rattle.float.specs.Laws.Within.{Within, Beyond, held, addTest, mulTest, round-within, add-within, mul-within, add-beyond, numeral, numeral-beyond, weaken}
+use Rattle.float.specs.Promises.Order.{Within}
+use Rattle.float.specs.Laws.Within.{Beyond, held, addTest, mulTest, round-within, add-within, mul-within, add-beyond, numeral, numeral-beyond, weaken}
 
 -- n / 2 ^ k
 abbrev pub per : ℕ → ℕ → Float

@@ -10,8 +10,10 @@ use lib.Ieee.Bits.{is-true}
 use Rattle.float.specs.Number.{_⊗_, _⊘_, abs, one-float}
 use Rattle.float.specs.Trig.{I, H, L, half, widest, turns, reduced, quadrant, turned, sine, cosine, sin-cos, sin, cos, tan}
 use Rattle.float.specs.declared.trig.SinCos.{SinCos}
-use Rattle.float.specs.Laws.Le.{Le, Le→le}
-use Rattle.float.specs.Laws.Within.{Within, div-within, neg-within, neg-beyond, weaken, within→Le, Le→beyond, Le→beyond-neg}
+use Rattle.float.specs.Promises.Order.{Le}
+use Rattle.float.specs.Laws.Le.{Le→le}
+use Rattle.float.specs.Promises.Order.{Within}
+use Rattle.float.specs.Laws.Within.{div-within, neg-within, neg-beyond, weaken, within→Le, Le→beyond, Le→beyond-neg}
 use Rattle.float.specs.Laws.Interval.{Le-trans, In, within-in, in-wider, in-self, add-in, sub-in, mul-in-by}
 use Rattle.float.specs.Laws.Range.{within-abs}
 use Rattle.float.specs.Laws.Floor.{Floor, int, floor-is}

@@ -14,7 +14,8 @@ use lib.Ieee.Exact.{HasValue, round-exact}
 use lib.Ieee.Scale.{round-same, finite}
 use lib.Ieee.Positive.{den, den-pos}
 use Rattle.float.specs.Laws.Sign.{strip, Alike}
-use Rattle.float.specs.Laws.Le.{pl, mi, Le, srnd, signed-pos, signed-neg, add-srnd, neg-finite}
+use Rattle.float.specs.Promises.Order.{pl, mi, Le}
+use Rattle.float.specs.Laws.Le.{srnd, signed-pos, signed-neg, add-srnd, neg-finite}
 use Rattle.float.specs.Laws.Like.{zero-l}
 
 pub record Is (f : Format) (x : Float) (p n i : ℕ) : Type 0 where

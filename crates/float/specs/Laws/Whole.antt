@@ -16,29 +16,15 @@ use lib.Ieee.Fits.{and-l, and-r}
 use lib.Ieee.Scale.{finite}
 use Rattle.float.specs.Laws.Total.{eq-comm}
 use Rattle.float.specs.Laws.Tests.{lt-not-eq, lt-before, total-le-lt}
-use Rattle.float.specs.Laws.Le.{Le, le→Le, Le→le, or-r, or-split}
-use Rattle.float.specs.Laws.Within.{Within, within→Le, fits→held, drop-pow}
+use Rattle.float.specs.Promises.Order.{Le}
+use Rattle.float.specs.Laws.Le.{le→Le, Le→le, or-r, or-split}
+use Rattle.float.specs.Promises.Order.{Within}
+use Rattle.float.specs.Laws.Within.{within→Le, fits→held, drop-pow}
 use Rattle.float.specs.Laws.Range.{lt→Le, nlt→Le}
 use Rattle.float.specs.Laws.Units.{Is, Is-neg, Is-Le, Le-Is}
+use Rattle.float.specs.Promises.Order.{amount, plus-units, minus-units, width}
 
 -- ---- the counts
--- m * 2 ^ e in units
-abbrev pub amount : Format → ℕ → ℤ → ℕ
-amount f m (pos k) = m * 2 ^ (low f + k)
-amount f m (negsuc k) = m * 2 ^ (low f - suc k)
-
-abbrev pub plus-units : Format → Float → ℕ
-plus-units f nan = 0
-plus-units f (inf s) = 0
-plus-units f (fin true m e) = 0
-plus-units f (fin false m e) = amount f m e
-
-abbrev pub minus-units : Format → Float → ℕ
-minus-units f nan = 0
-minus-units f (inf s) = 0
-minus-units f (fin true m e) = amount f m e
-minus-units f (fin false m e) = 0
-
 -- for an exponent no less than the smallest value's
 pub amount-is : (f : Format) (m : ℕ) (e : ℤ) → down e ≤ 2 ^ low f → m * up e * 2 ^ low f ≡ amount f m e * down e
 amount-is f m (pos k) h = mul-assoc m (2 ^ k) (2 ^ low f) ∙ ap (λ (z : ℕ). m * z) (mul-comm (2 ^ k) (2 ^ low f) ∙ sym (pow-add 2 (low f) k)) ∙ sym (mul-one (m * 2 ^ (low f + k)))
@@ -100,10 +86,6 @@ module _ (f : Format) (x y : Float) (p : T (fits f x)) (r : T (finite x)) (q : T
       go : (b : Bool) → lt x y ≡ b → plus-units f x + minus-units f y < plus-units f y + minus-units f x → T b
       go true e h = tt
       go false e h = absurd (lt-irrefl _ (lt-of-lt-of-le h (Le-units f y x q s p r .0 (nlt→Le x y r s (subst (λ (b : Bool). T (not b)) (sym e) tt)))))
-
--- ---- the width of an interval
-abbrev pub width : Format → Float → Float → ℕ
-width f lo hi = plus-units f hi + minus-units f lo - (plus-units f lo + minus-units f hi)
 
 -- a value of at most 2 ^ k in size
 pub within-units : (f : Format) (k : ℕ) (x : Float) → T (fits f x) → Within (fin false 1 (pos k)) x

@@ -16,11 +16,9 @@ use lib.Ieee.Order.{round-mono}
 use lib.Ieee.Scale.{finite, overflow}
 use lib.Ieee.Positive.{num, den, den-pos, through}
 use Rattle.float.specs.Laws.Sign.{round-neg, neg-neg}
-use Rattle.float.specs.Laws.Le.{pl, mi, Le, le→Le, neg-Le, plain, round-plain, neg-finite}
-
-pub record Within (B x : Float) : Type 0 where
-  pub real : T (finite x)
-  pub size : num x * den B ≤ num B * den x
+use Rattle.float.specs.Promises.Order.{pl, mi, Le}
+use Rattle.float.specs.Laws.Le.{le→Le, neg-Le, plain, round-plain, neg-finite}
+use Rattle.float.specs.Promises.Order.{Within}
 
 pub record Beyond (B x : Float) : Type 0 where
   pub real : T (finite x)

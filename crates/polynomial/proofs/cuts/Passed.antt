@@ -8,7 +8,7 @@ use lib.Ieee.Compare.{differs-from-itself}
 use Rattle.float.specs.Number.{total-le}
 use Rattle.float.specs.Laws.Total.{total-le-total, eq-comm}
 use Rattle.float.specs.Laws.Tests.{lt-not-eq, lt-before, eq-self}
-use Rattle.polynomial.specs.Insert.{passed}
+use Rattle.polynomial.specs.Promises.Insert.{passed}
 
 -- x does not stand before y
 behind : (x y : Float) → lt x y ≡ false → eq x y ≡ false → isNan y ≡ false → total-le x y ≡ false

@@ -4,10 +4,10 @@ use mathlib.Core.Path.{_≡_, refl, sym, ap, _∙_, subst}
 use mathlib.Core.Bool.{Bool, true, false, not, Bool·beq, cond}
 use lib.Ieee.{Float, eq}
 use Rattle.float.specs.Number.{negative, middle, zero-float}
-use Rattle.float.specs.Laws.Middle.{Span}
+use Rattle.float.specs.Promises.Order.{Span}
 use Rattle.polynomial.specs.Roots.{bisected}
-use Rattle.polynomial.specs.Inside.{turned, goes-on, halved, Narrower, Leaves}
-use Rattle.polynomial.specs.Plain.{Signed}
+use Rattle.polynomial.specs.Promises.Inside.{turned, goes-on, halved, Narrower, Leaves}
+use Rattle.polynomial.specs.Promises.Plain.{Signed}
 use Rattle.polynomial.specs.Laws.Halving.{at-lo, at-hi, at-zero, to-right, to-left}
 use Rattle.polynomial.specs.declared.halving.Turn.{Turn}
 use Rattle.polynomial.specs.declared.halving.Turn.the-variants.{Done, Upper, Lower}

@@ -14,7 +14,7 @@ use Rattle.polynomial.specs.Operation.{pairs, bad-length, bounds-hold, p
 use Rattle.polynomial.specs.Laws.Enclosed.{all-most}
 use Rattle.polynomial.specs.declared.operation.Answer.{Answer}
 use Rattle.polynomial.specs.declared.operation.Answer.the-variants.{Count, BadLength, BadBounds, BadPart, ShortResult}
-use Rattle.polynomial.specs.Laws.Placed.{or-right}
+use Rattle.polynomial.proofs.Placed.{or-right}
 
 pairs-short : (s : List Float) → length (pairs s) + length (pairs s) ≤ length s
 unfolding pairs

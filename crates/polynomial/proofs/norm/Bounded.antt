@@ -8,7 +8,7 @@ use lib.ListN.{length, drop}
 use lib.Ieee.{Float}
 use borrow.Author.Tests.{le-leb}
 use Rattle.polynomial.specs.Curve.{all-hold, inner-holds}
-use Rattle.polynomial.specs.Norm.{inner-answer, size, listed}
+use Rattle.polynomial.specs.Promises.Norm.{inner-answer, size, listed}
 use Rattle.polynomial.specs.Operation.{bounds-hold}
 use Rattle.polynomial.specs.Roots.{roots}
 use Rattle.polynomial.specs.declared.compensated.Compensated.{Compensated}

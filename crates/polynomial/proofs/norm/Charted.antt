@@ -13,7 +13,7 @@ use Rattle.float.specs.Trig.{atan}
 use Rattle.polynomial.specs.Angle.{wrapped-angle}
 use Rattle.polynomial.specs.Cuts.{put}
 use Rattle.polynomial.specs.Curve.{chart-angles}
-use Rattle.polynomial.specs.Norm.{put-all}
+use Rattle.polynomial.specs.Promises.Norm.{put-all}
 use Rattle.polynomial.proofs.roots.Cycle.{put-room}
 use Rattle.polynomial.proofs.roots.Kept.{Front, front-of, front-take, front-rest, put-least}
 

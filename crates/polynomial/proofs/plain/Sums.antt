@@ -7,7 +7,7 @@ use lib.ListN.{length, getD, take}
 use lib.Seq.{slice, slice-cons, slice-empty}
 use lib.Ieee.{Float}
 use Rattle.float.specs.Number.{_⊕_, _⊗_, abs, zero-float}
-use Rattle.polynomial.specs.Plain.{plain, scale, Tidy, AllTidy}
+use Rattle.polynomial.specs.Promises.Plain.{plain, scale, Tidy, AllTidy}
 use Rattle.polynomial.specs.declared.compensated.Compensated.{Compensated}
 
 module _ (p : List Compensated) (n i : ℕ) (d : Compensated) (I : 0 < i) (h : i ≤ n) (k : n ≤ length p) where

@@ -9,8 +9,8 @@ use lib.Dec.{T}
 use lib.ListN.{length, take, length-take}
 use lib.Ieee.{Float, binary64, fits, neg, lt, le, eq}
 use Rattle.float.specs.Number.{_⊗_, abs, zero-float, one-float}
-use Rattle.polynomial.specs.Plain.{plain, scale, least, margin, AllTidy, told, Tells}
-use Rattle.polynomial.specs.Laws.Plain.{plain-positive, plain-negative, plain-away}
+use Rattle.polynomial.specs.Promises.Plain.{plain, scale, least, margin, AllTidy, told, Tells}
+use Rattle.polynomial.proofs.plain.Plain.{plain-positive, plain-negative, plain-away}
 use Rattle.polynomial.specs.declared.compensated.Compensated.{Compensated}
 
 module _ (p : List Compensated) (x : Float) (l : length p ≤ 9) (t : AllTidy p) (f : T (fits binary64 x)) where

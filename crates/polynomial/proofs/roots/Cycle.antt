@@ -7,7 +7,7 @@ use mathlib.Core.List.{List, [], _∷_}
 use lib.Pow.{pow-mono}
 use lib.ListN.{length, getD, take}
 use lib.Ieee.{Float}
-use Rattle.float.specs.Laws.Middle.{Span}
+use Rattle.float.specs.Promises.Order.{Span}
 use Rattle.polynomial.specs.Cuts.{put}
 use Rattle.polynomial.specs.Polynomial.{nothing, derivative}
 use Rattle.polynomial.specs.Roots.{partitions, quotient, roots-at}

@@ -8,12 +8,13 @@ use lib.Dec.{T}
 use lib.ListN.{length}
 use lib.Ieee.{Float, binary64, fits}
 use Rattle.float.specs.Number.{negative}
-use Rattle.float.specs.Laws.Middle.{Span}
+use Rattle.float.specs.Promises.Order.{Span}
 use Rattle.polynomial.specs.Cuts.{cuts, put}
 use Rattle.polynomial.specs.Polynomial.{evaluate, near-zero}
 use Rattle.polynomial.specs.Roots.{touches, crosses, crossing, crossings, bisected}
-use Rattle.polynomial.specs.Inside.{Ready, touched, crossed}
-use Rattle.polynomial.specs.Laws.Cuts.{Fit, cuts-cons, cuts-perm, perm-comm, fit-append, put-most, put-longer}
+use Rattle.polynomial.specs.Promises.Inside.{Ready, touched, crossed}
+use Rattle.polynomial.specs.Promises.Lists.{Fit}
+use Rattle.polynomial.specs.Laws.Cuts.{cuts-cons, cuts-perm, perm-comm, fit-append, put-most, put-longer}
 use Rattle.polynomial.specs.Laws.Halving.{bisected-in}
 use Rattle.polynomial.specs.declared.compensated.Compensated.{Compensated}
 use Rattle.polynomial.specs.declared.roots.Interval.{Interval}

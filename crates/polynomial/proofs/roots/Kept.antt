@@ -12,8 +12,8 @@ use borrow.Author.Tests.{le-leb}
 use Rattle.float.specs.Number.{negative}
 use Rattle.polynomial.specs.Cuts.{put}
 use Rattle.polynomial.specs.Roots.{crosses, bisected}
-use Rattle.polynomial.specs.Inside.{crossed}
-use Rattle.polynomial.specs.Insert.{grown, putAnswer, putRoom}
+use Rattle.polynomial.specs.Promises.Inside.{crossed}
+use Rattle.polynomial.specs.Promises.Insert.{grown, putAnswer, putRoom}
 use Rattle.polynomial.specs.Laws.Cuts.{put-most, put-longer}
 use Rattle.polynomial.specs.Laws.Held.{drop-past}
 use Rattle.polynomial.specs.declared.roots.Interval.{Interval}

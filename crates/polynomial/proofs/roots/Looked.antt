@@ -8,8 +8,8 @@ use lib.Ieee.{Float, eq}
 use Rattle.float.specs.Number.{negative, zero-float}
 use Rattle.polynomial.specs.Cuts.{put}
 use Rattle.polynomial.specs.Polynomial.{evaluate, value-near, near-zero}
-use Rattle.polynomial.specs.Plain.{Tells}
-use Rattle.polynomial.specs.Inside.{Stands, touched}
+use Rattle.polynomial.specs.Promises.Plain.{Tells}
+use Rattle.polynomial.specs.Promises.Inside.{Stands, touched}
 use Rattle.polynomial.specs.declared.compensated.Compensated.{Compensated}
 use Rattle.polynomial.proofs.roots.Kept.{Front, left}
 

@@ -8,11 +8,11 @@ use mathlib.Core.List.{List, [], _∷_, _++_}
 use lib.ListN.{length, getD, take, drop, length-take}
 use lib.Seq.{slice, slice-cons, slice-empty}
 use lib.Ieee.{Float}
-use Rattle.float.specs.Laws.Middle.{Span}
+use Rattle.float.specs.Promises.Order.{Span}
 use Rattle.polynomial.specs.Cuts.{cuts}
 use Rattle.polynomial.specs.Polynomial.{evaluate}
 use Rattle.polynomial.specs.Roots.{touches, crossings}
-use Rattle.polynomial.specs.Inside.{Ready, Stands, touched, crossed}
+use Rattle.polynomial.specs.Promises.Inside.{Ready, Stands, touched, crossed}
 use Rattle.polynomial.specs.declared.compensated.Compensated.{Compensated}
 use Rattle.polynomial.specs.declared.roots.Interval.{Interval}
 use Rattle.polynomial.proofs.roots.Kept.{Front, front-of, front-take, front-rest, front-length}

@@ -6,7 +6,7 @@ use lib.Ieee.{Float, binary64, le, fits}
 use Rattle.float.specs.Number.{abs}
 use Rattle.float.specs.Laws.Le.{le→Le}
 use Rattle.float.specs.Laws.Range.{abs-within}
-use Rattle.float.specs.Laws.Middle.{Span}
+use Rattle.float.specs.Promises.Order.{Span}
 use Rattle.float.specs.Trig.{four-float}
 use Rattle.float.specs.Laws.Tests.{three}
 use Rattle.polynomial.specs.Operation.{bounds-hold}

@@ -13,19 +13,12 @@ use lib.Ieee.{Float, binary64, eq, fits, isNan}
 use lib.Ieee.Bits.{is-true}
 use Rattle.float.specs.Number.{total-le}
 use Rattle.polynomial.specs.Cuts.{ins, sort, rest, dedup, cuts, put}
-use Rattle.polynomial.specs.Laws.Lists.{All, all-append, all-right, all-drop}
+use Rattle.polynomial.specs.Promises.Lists.{All}
+use Rattle.polynomial.specs.Laws.Lists.{all-append, all-right, all-drop}
 use Rattle.float.specs.Laws.Total.{total-le-total, total-le-trans, total-le-refl, total-le-antisym, eq-refl, between-low, eq-sym, eq-cong}
+use Rattle.polynomial.specs.Promises.Lists.{From, Sorted, Fits, Fit}
 
 -- ---- order
-
--- l goes on in order from p
-abbrev pub From : Float → List Float → Type 0
-From p [] = Unit {0}
-From p (y ∷ l) = T (total-le p y) × From y l
-
-abbrev pub Sorted : List Float → Type 0
-Sorted [] = Unit {0}
-Sorted (x ∷ l) = From x l
 
 pub from-sorted : (p : Float) (l : List Float) → From p l → Sorted l
 from-sorted p [] f = tt
@@ -207,12 +200,6 @@ cuts-longer (x ∷ a) b =
     rw (cuts-cons x (a ++ b)) (omega arith)
 
 -- ---- values may change places, if they fit
-
-abbrev Fits : Float → Type 0
-Fits x = T (fits binary64 x)
-
-abbrev pub Fit : List Float → Type 0
-Fit = All Fits
 
 two : (x y : Float) (l : List Float) → T (fits binary64 x) → T (fits binary64 y)
     → cond {A = List Float} (total-le x y) (x ∷ y ∷ l) (y ∷ x ∷ l) ≡ cond {A = List Float} (total-le y x) (y ∷ x ∷ l) (x ∷ y ∷ l)

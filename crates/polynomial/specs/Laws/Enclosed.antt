@@ -15,21 +15,24 @@ use lib.Ieee.Scale.{finite}
 use lib.Ieee.Fits.{div-fits, and-i}
 use Rattle.float.specs.Number.{_⊘_, negative, total-le}
 use Rattle.float.specs.Laws.Interval.{in-of, Le-refl, Le-trans}
-use Rattle.float.specs.Laws.Within.{Within, within→Le, Le→within}
+use Rattle.float.specs.Promises.Order.{Within}
+use Rattle.float.specs.Laws.Within.{within→Le, Le→within}
 use Rattle.float.specs.Laws.Whole.{Le-units, lt-units}
 use Rattle.float.specs.Laws.Total.{eq-comm}
 use Rattle.float.specs.Laws.Tests.{total-le-unequal, finite-number}
-use Rattle.float.specs.Laws.Middle.{Span}
+use Rattle.float.specs.Promises.Order.{Span}
 use Rattle.polynomial.specs.Compensated.{value}
 use Rattle.polynomial.specs.Cuts.{cuts, put}
-use Rattle.polynomial.specs.Inside.{Ready}
+use Rattle.polynomial.specs.Promises.Inside.{Ready}
 use Rattle.polynomial.specs.Polynomial.{nothing, evaluate, near-zero, trim, derivative}
 use Rattle.polynomial.specs.Roots.{partitions, touches, crosses, crossing, crossings, bisected, quotient, by-count, roots-at, roots}
 use Rattle.polynomial.specs.declared.compensated.Compensated.{Compensated}
-use Rattle.polynomial.specs.Laws.Cuts.{cuts-cons, put-most, put-longer, Fit, Above, Strict, strict-cuts, cuts-strict, cuts-snoc, all-cuts}
+use Rattle.polynomial.specs.Promises.Lists.{Fit}
+use Rattle.polynomial.specs.Laws.Cuts.{cuts-cons, put-most, put-longer, Above, Strict, strict-cuts, cuts-strict, cuts-snoc, all-cuts}
 use Rattle.polynomial.specs.Laws.Degree.{trim-short, derivative-length, counted, counted-short, count-low, enough}
 use Rattle.polynomial.specs.Laws.Halving.{Between, bisected-in}
-use Rattle.polynomial.specs.Laws.Lists.{All, all-append}
+use Rattle.polynomial.specs.Promises.Lists.{All}
+use Rattle.polynomial.specs.Laws.Lists.{all-append}
 
 -- ---- every element
 

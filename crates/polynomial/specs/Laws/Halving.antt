@@ -8,10 +8,12 @@ use mathlib.Core.Bool.{Bool, true, false, not, _||_, Bool·beq}
 use lib.Dec.{T, lit≤}
 use lib.Ieee.{Float, binary64, fits, eq}
 use Rattle.float.specs.Number.{negative, middle, zero-float}
-use Rattle.float.specs.Laws.Le.{Le, or-l}
+use Rattle.float.specs.Promises.Order.{Le}
+use Rattle.float.specs.Laws.Le.{or-l}
 use Rattle.float.specs.Laws.Interval.{In, Le-refl, Le-trans}
-use Rattle.float.specs.Laws.Whole.{width}
-use Rattle.float.specs.Laws.Middle.{Span, middle-fits, span-width, middle-in, right-half, left-half, middle-strict, middle-none}
+use Rattle.float.specs.Promises.Order.{width}
+use Rattle.float.specs.Promises.Order.{Span}
+use Rattle.float.specs.Laws.Middle.{middle-fits, span-width, middle-in, right-half, left-half, middle-strict, middle-none}
 use Rattle.polynomial.specs.Roots.{ends, turn, halvings, bisected}
 
 -- ---- the two halves

@@ -13,18 +13,10 @@ use lib.Ieee.{Float, nan, binary64, fits}
 use Rattle.polynomial.specs.declared.cuts.Put.{Put}
 use Rattle.polynomial.specs.declared.cuts.Put.the-variants.{Count, Full}
 use Rattle.polynomial.specs.Cuts.{put, cuts}
-use Rattle.polynomial.specs.Laws.Cuts.{Fit, cuts-snoc, cuts-longer-left}
-use Rattle.polynomial.specs.Insert.{grown, putAnswer, putRoom, pushAnswer, pushRoom, Within}
-
--- the number of cuts of l, or Full where there are fewer places
-abbrev pub cutAnswer : List Float → ℕ → Put
-cutAnswer l places = cond (leb (length (cuts l)) places) (Count (length (cuts l))) Full
-
--- the first n places of r hold the cuts of l, and the others are as in r₀
-pub record Held (l r₀ r : List Float) (n : ℕ) : Type 0 where
-  pub count : n ≡ length (cuts l)
-  pub within : n ≤ length r₀
-  pub list : r ≡ cuts l ++ drop n r₀
+use Rattle.polynomial.specs.Promises.Lists.{Fit}
+use Rattle.polynomial.specs.Laws.Cuts.{cuts-snoc, cuts-longer-left}
+use Rattle.polynomial.specs.Promises.Insert.{grown, putAnswer, putRoom, pushAnswer, pushRoom, Within}
+use Rattle.polynomial.specs.Promises.Held.{cutAnswer, Held, Kept}
 
 -- elements of a list that fit
 pub fit-of : (l : List Float) → ((k : ℕ) → k < length l → T (fits binary64 (getD l k nan))) → Fit l
@@ -72,12 +64,6 @@ module _ (l r₀ r : List Float) (n : ℕ) (v : Float) (f : Fit l) (g : T (fits 
       }
 
 -- ---- a list that grows, whether or not there are places
-
--- p is the number of cuts of l, or Full where r₀ has fewer places; in the first case r holds them
-pub record Kept (l r₀ r : List Float) (p : Put) : Type 0 where
-  pub answer-is : p ≡ cutAnswer l (length r₀)
-  pub same : length r ≡ length r₀
-  pub held : (n : ℕ) → p ≡ Count n → Held l r₀ r n
 
 pub kept-none : (r : List Float) → Kept [] r r (Count 0)
 kept-none r = record {

@@ -7,7 +7,7 @@ use native.Mathlib.Omega.{arith}
 use lib.ListN.{length, take, drop, length-append}
 use lib.Seq.{take-at}
 use lib.Ieee.{Float}
-use Rattle.polynomial.specs.Norm.{inner-answer, size, listed}
+use Rattle.polynomial.specs.Promises.Norm.{inner-answer, size, listed}
 use Rattle.polynomial.specs.Roots.{roots}
 use Rattle.polynomial.specs.Curve.{inner-holds}
 use Rattle.polynomial.specs.declared.compensated.Compensated.{Compensated}

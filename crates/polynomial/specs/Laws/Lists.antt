@@ -7,12 +7,9 @@ use native.Mathlib.Numerals.{add-one}
 use native.Mathlib.Omega.{arith}
 use lib.ListN.{length, getD, set, take, drop, length-drop, drop-of-length-le}
 use lib.Seq.{paste, paste-suc, length-paste-head, drop-cons, getD-at, getD-drop, take-all, take-suc-set, append-snoc}
+use Rattle.polynomial.specs.Promises.Lists.{All}
 
 -- ---- what holds of every element
-
-abbrev pub All : {A : Type 0} → (A → Type 0) → List A → Type 0
-All P [] = Unit {0}
-All P (x ∷ l) = P x × All P l
 
 module _ {A : Type 0} (P : A → Type 0) where
   pub all-append : (l m : List A) → All P l → All P m → All P (l ++ m)

@@ -7,7 +7,7 @@ use mathlib.Core.List.{List, _++_}
 use lib.ListN.{length, take, drop, take-append-drop}
 use lib.Ieee.{Float}
 use Rattle.polynomial.specs.Curve.{squared-norm-roots, squared-norm-holds}
-use Rattle.polynomial.specs.Norm.{squared-norm-answer, size, listed}
+use Rattle.polynomial.specs.Promises.Norm.{squared-norm-answer, size, listed}
 use Rattle.polynomial.specs.declared.curve.Harmonic.{Harmonic}
 use Rattle.polynomial.specs.declared.norm.Inner.{Inner}
 use Rattle.polynomial.specs.declared.norm.Inner.the-variants.{Count, Refused}
@@ -15,8 +15,8 @@ use Rattle.polynomial.specs.Laws.Lists.{tail-part, tail-post}
 use Rattle.polynomial.specs.Laws.Norm.{squared-norm-few}
 use Rattle.polynomial.specs.Laws.Inner.{inner-refused, inner-counted}
 use Rattle.sampling.specs.Bends.{norm-roots}
-use Rattle.sampling.specs.Pushed.{Pushed}
-use Rattle.sampling.specs.Laws.Pushed.{none, behind}
+use Rattle.sampling.specs.Promises.Pushed.{Pushed}
+use Rattle.sampling.proofs.Pushed.{none, behind}
 
 module _ (x y : Harmonic) (norm : Float) (n : ℕ) (w : List Float) (r : Inner) (last : List Float) (h : n + 58 ≤ length w)
     (e : (r ≡ squared-norm-answer x y norm) × (last ≡ listed r (squared-norm-roots x y norm) ++ drop (size r) (take (length w - n) (drop n w)))) where

@@ -7,8 +7,8 @@ use lib.Ieee.Scale.{finite}
 use Rattle.float.specs.Number.{_⊕_, _⊖_, _⊘_, abs, clamp, zero-float}
 use Rattle.float.specs.Trig.{hypot, atan2}
 use Rattle.sampling.specs.Continuum.{crossings, error, listed, roots}
-use Rattle.sampling.specs.Asked.{answer}
-use Rattle.sampling.specs.Polar.{polar, meets, around}
+use Rattle.sampling.specs.Promises.Asked.{answer}
+use Rattle.sampling.specs.Promises.Polar.{polar, meets, around}
 use Rattle.sampling.specs.declared.continuum.Trig.{Trig}
 use Rattle.sampling.specs.declared.continuum.Polar.{Polar}
 use Rattle.sampling.specs.declared.continuum.Crossings.the-variants.{Neither}

@@ -12,7 +12,8 @@ use borrow.Author.Tests.{le-leb, lt-leb}
 use Rattle.float.specs.Number.{middle}
 use Rattle.float.specs.Laws.Middle.{middle-fits}
 use Rattle.polynomial.specs.Cuts.{cuts}
-use Rattle.polynomial.specs.Laws.Held.{Kept, kept-full}
+use Rattle.polynomial.specs.Promises.Held.{Kept}
+use Rattle.polynomial.specs.Laws.Held.{kept-full}
 use Rattle.polynomial.specs.Laws.Lists.{tail-part, tail-post}
 use Rattle.polynomial.specs.declared.curve.Curve.{Curve}
 use Rattle.polynomial.specs.declared.cuts.Put.{Put}
@@ -20,7 +21,7 @@ use Rattle.polynomial.specs.declared.cuts.Put.the-variants.{Count, Full}
 use Rattle.sampling.specs.CriticalSlices.{chart, critical-holds}
 use Rattle.sampling.specs.BendSlices.{bend-slices-hold}
 use Rattle.sampling.specs.J1j2free.{curves, bends, first-half, second-half, halves-hold}
-use Rattle.sampling.specs.Halving.{half-values, halving, filled, listed, start, both}
+use Rattle.sampling.specs.Promises.Halving.{half-values, halving, filled, listed, start, both}
 use Rattle.sampling.specs.Laws.J1j2free.{half-cuts-are}
 use Rattle.sampling.specs.declared.j1j2free.Folded.{Folded}
 use Rattle.sampling.specs.declared.j1j2free.Halving.{Halving}

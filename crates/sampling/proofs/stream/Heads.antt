@@ -11,8 +11,9 @@ use lib.Seq.{drop-drop}
 use lib.Ieee.{Float, nan, binary64, isNan, fits}
 use Rattle.float.specs.Number.{total-le}
 use Rattle.polynomial.specs.Cuts.{sort}
-use Rattle.polynomial.specs.Laws.Cuts.{Sorted, Fit, fit-drop}
-use Rattle.sampling.specs.Stream.{weave, pending, Woven}
+use Rattle.polynomial.specs.Promises.Lists.{Sorted, Fit}
+use Rattle.polynomial.specs.Laws.Cuts.{fit-drop}
+use Rattle.sampling.specs.Promises.Stream.{weave, pending, Woven}
 use Rattle.sampling.specs.Laws.Weave.{weave-fit}
 use Rattle.sampling.proofs.stream.Least.{head, Numbers, take-first, take-second, take-third, all-empty, sorted-drop, numbers-drop, head-drop, no-head}
 

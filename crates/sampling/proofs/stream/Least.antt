@@ -10,8 +10,10 @@ use lib.Seq.{getD-drop}
 use lib.Ieee.{Float, nan, inf, fin, isNan, lt, eq}
 use Rattle.float.specs.Number.{total-le}
 use Rattle.polynomial.specs.Cuts.{sort}
-use Rattle.polynomial.specs.Laws.Cuts.{From, Sorted, Fit, fit-append, from-lower, from-sorted, from-ins, ins-first, sort-perm}
-use Rattle.polynomial.specs.Laws.Lists.{All, all-append, all-drop}
+use Rattle.polynomial.specs.Promises.Lists.{From, Sorted, Fit}
+use Rattle.polynomial.specs.Laws.Cuts.{fit-append, from-lower, from-sorted, from-ins, ins-first, sort-perm}
+use Rattle.polynomial.specs.Promises.Lists.{All}
+use Rattle.polynomial.specs.Laws.Lists.{all-append, all-drop}
 
 abbrev pub head : List Float → Float
 head l = getD l 0 nan

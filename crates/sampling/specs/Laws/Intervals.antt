@@ -9,8 +9,10 @@ use lib.Ieee.Fits.{add-fits, sub-fits, cond-fits}
 use lib.Ieee.Scale.{finite}
 use Rattle.float.specs.Number.{_⊕_, _⊖_, minimum, maximum, zero-float}
 use Rattle.float.specs.Trig.{P}
-use Rattle.float.specs.Laws.Le.{Le, le→Le, Le→le}
-use Rattle.float.specs.Laws.Within.{Within, Le→within}
+use Rattle.float.specs.Promises.Order.{Le}
+use Rattle.float.specs.Laws.Le.{le→Le, Le→le}
+use Rattle.float.specs.Promises.Order.{Within}
+use Rattle.float.specs.Laws.Within.{Le→within}
 use Rattle.float.specs.Laws.Interval.{Le-trans}
 use Rattle.float.specs.Laws.Range.{nlt→Le}
 use Rattle.sampling.specs.Intervals.{lower-end, upper-end, interval}

@@ -11,13 +11,14 @@ use Rattle.polynomial.specs.Angle.{turn}
 use Rattle.polynomial.specs.Cuts.{cuts}
 use Rattle.polynomial.specs.Curve.{inner-holds}
 use Rattle.polynomial.specs.Roots.{roots}
-use Rattle.polynomial.specs.Laws.Cuts.{Fit, fit-append, cuts-left}
+use Rattle.polynomial.specs.Promises.Lists.{Fit}
+use Rattle.polynomial.specs.Laws.Cuts.{fit-append, cuts-left}
 use Rattle.polynomial.specs.declared.compensated.Compensated.{Compensated}
 use Rattle.polynomial.specs.declared.curve.Curve.{Curve}
 use Rattle.sampling.specs.Samples.{inside, turns, all-turns}
 use Rattle.sampling.specs.CriticalSlices.{chart, angles, chart-roots, Polynomials, polynomials, tangency, intersection, meetings, critical}
 use Rattle.sampling.specs.J1j2free.{curves, bends, critical-slices, half-cuts}
-use Rattle.sampling.specs.Halving.{half-values}
+use Rattle.sampling.specs.Promises.Halving.{half-values}
 use Rattle.sampling.specs.declared.critical_slices.Chart.{Chart}
 use Rattle.sampling.specs.declared.j1j2free.Folded.{Folded}
 

@@ -9,8 +9,10 @@ use lib.Ieee.Fits.{add-fits, sub-fits, div-fits}
 use lib.Ieee.Scale.{finite}
 use Rattle.float.specs.Number.{_⊕_, _⊖_, _⊗_, _⊘_, minimum, zero-float, one-float, two-float}
 use Rattle.float.specs.Trig.{P}
-use Rattle.float.specs.Laws.Le.{Le, le→Le, neg-Le, add-mono}
-use Rattle.float.specs.Laws.Within.{Within, held, fits→held, numeral, add-within, sub-within, mul-within, Le→within}
+use Rattle.float.specs.Promises.Order.{Le}
+use Rattle.float.specs.Laws.Le.{le→Le, neg-Le, add-mono}
+use Rattle.float.specs.Promises.Order.{Within}
+use Rattle.float.specs.Laws.Within.{held, fits→held, numeral, add-within, sub-within, mul-within, Le→within}
 use Rattle.float.specs.Laws.Interval.{In, Le-refl, Le-trans}
 use Rattle.float.specs.Laws.Range.{nlt→Le}
 use Rattle.polynomial.specs.Angle.{turn, wrapped-angle}

@@ -8,8 +8,8 @@ use lib.ListN.{length, take, drop, getD, length-append, length-drop}
 use lib.Seq.{length-take-le, drop-cons}
 use lib.Ieee.{Float, nan}
 use Rattle.sampling.specs.Samples.{samples, sample-count, three-samples}
-use Rattle.sampling.specs.Stream.{Steps}
-use Rattle.sampling.specs.Plan.{all-samples, Gives}
+use Rattle.sampling.specs.Promises.Stream.{Steps}
+use Rattle.sampling.specs.Promises.Plan.{all-samples, Gives}
 use Rattle.sampling.specs.Laws.Samples.{samples-length}
 use Rattle.sampling.specs.declared.lists.Lists.{Lists}
 use Rattle.sampling.specs.declared.stream.Cursor.{Cursor}

@@ -12,8 +12,10 @@ use lib.Ieee.Scale.{finite}
 use lib.Ieee.Positive.{num}
 use Rattle.float.specs.Number.{_⊕_, _⊖_, _⊗_, _⊘_, zero-float, one-float, two-float}
 use Rattle.float.specs.Sqrt.{sqrt}
-use Rattle.float.specs.Laws.Le.{Le, Le→le}
-use Rattle.float.specs.Laws.Within.{Within, fits→held, weaken, numeral, add-within, sub-within, mul-within}
+use Rattle.float.specs.Promises.Order.{Le}
+use Rattle.float.specs.Laws.Le.{Le→le}
+use Rattle.float.specs.Promises.Order.{Within}
+use Rattle.float.specs.Laws.Within.{fits→held, weaken, numeral, add-within, sub-within, mul-within}
 use Rattle.float.specs.Laws.Grow.{squares}
 use Rattle.float.specs.Laws.Root.{normalized-within}
 use Rattle.sampling.specs.Pose.{quaternion-length, all-finite, over, try-normalize, from-quat}

@@ -5,14 +5,15 @@ use lib.Ieee.{Float, binary64, neg, sub, le, fits, isNan}
 use lib.Ieee.Fits.{sub-fits}
 use Rattle.float.specs.Number.{_⊖_, _⊗_, one-float}
 use Rattle.float.specs.Trig.{P}
-use Rattle.float.specs.Laws.Within.{Within, held, fits→held, mul-within}
+use Rattle.float.specs.Promises.Order.{Within}
+use Rattle.float.specs.Laws.Within.{held, fits→held, mul-within}
 use Rattle.float.specs.Laws.Interval.{in-wider, sub-in, within-in}
 use Rattle.float.specs.Laws.Tests.{finite-number}
 use Rattle.float.specs.Laws.Extremes.{largest, held-largest}
 use Rattle.polynomial.specs.Angle.{turn}
 use Rattle.polynomial.specs.Laws.Wrapped.{wrapped-fits, wrapped-within}
 use Rattle.sampling.specs.J1j2free.{model-reference}
-use Rattle.sampling.specs.Planned.{Moderate}
+use Rattle.sampling.specs.Promises.Planned.{Moderate}
 use Rattle.sampling.specs.Laws.Limits.{unit-sign}
 use Rattle.sampling.specs.declared.job.Joint.{Joint}
 

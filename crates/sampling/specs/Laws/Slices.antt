@@ -12,10 +12,11 @@ use lib.Ieee.Bits.{is-true}
 use Rattle.float.specs.Number.{total-le}
 use Rattle.float.specs.Laws.Total.{eq-refl}
 use Rattle.polynomial.specs.Cuts.{sort, rest, dedup, cuts, put}
-use Rattle.polynomial.specs.Laws.Cuts.{Fit, fit-append, fit-right, fit-cuts, fit-perm, perm-comm, cuts-perm, cuts-cons, absorb}
+use Rattle.polynomial.specs.Promises.Lists.{Fit}
+use Rattle.polynomial.specs.Laws.Cuts.{fit-append, fit-right, fit-cuts, fit-perm, perm-comm, cuts-perm, cuts-cons, absorb}
 use Rattle.polynomial.specs.Laws.Enclosed.{cuts-short}
 use Rattle.sampling.specs.Slices.{mids, slices, among}
-use Rattle.sampling.specs.Stream.{weave, stream, distinct, start}
+use Rattle.sampling.specs.Promises.Stream.{weave, stream, distinct, start}
 use Rattle.sampling.specs.Laws.Weave.{weave-perm, weave-fit, weave-length, mids-length}
 
 -- ---- from the start: nothing equals a NaN

@@ -11,9 +11,11 @@ use lib.Ieee.Fits.{div-fits, and-i}
 use Rattle.float.specs.Laws.Tests.{three}
 use Rattle.float.specs.Number.{_⊕_, _⊖_, _⊗_, _⊘_, middle, zero-float, one-float, two-float}
 use Rattle.float.specs.Trig.{sin, cos, tan}
-use Rattle.float.specs.Laws.Within.{Within, weaken, numeral, add-within, mul-within, within→Le, Le→within}
+use Rattle.float.specs.Promises.Order.{Within}
+use Rattle.float.specs.Laws.Within.{weaken, numeral, add-within, mul-within, within→Le, Le→within}
 use Rattle.float.specs.Laws.Interval.{in-of, Le-trans}
-use Rattle.float.specs.Laws.Middle.{Span, middle-within, left-half, right-half}
+use Rattle.float.specs.Promises.Order.{Span}
+use Rattle.float.specs.Laws.Middle.{middle-within, left-half, right-half}
 use Rattle.float.specs.Laws.Arctangent.{atan-within}
 use Rattle.polynomial.specs.Angle.{turn}
 use Rattle.polynomial.specs.Curve.{inner-holds, all-hold}
@@ -24,12 +26,13 @@ use Rattle.polynomial.specs.Laws.Enclosed.{all-in, between-number}
 use Rattle.polynomial.specs.Laws.Halving.{Between}
 use Rattle.polynomial.specs.declared.compensated.Compensated.{Compensated}
 use Rattle.polynomial.specs.declared.curve.Curve.{Curve}
-use Rattle.polynomial.specs.Laws.Lists.{All, all-append}
+use Rattle.polynomial.specs.Promises.Lists.{All}
+use Rattle.polynomial.specs.Laws.Lists.{all-append}
 use Rattle.sampling.specs.Samples.{inside, turns, all-turns}
 use Rattle.sampling.specs.CriticalSlices.{chart, angles, chart-roots, Polynomials, polynomials, tangency, intersection, meetings, critical}
-use Rattle.sampling.specs.Halving.{half-values}
+use Rattle.sampling.specs.Promises.Halving.{half-values}
 use Rattle.sampling.specs.J1j2free.{curves, bends, half-cuts, first-half, second-half}
-use Rattle.sampling.specs.Stream.{Woven}
+use Rattle.sampling.specs.Promises.Stream.{Woven}
 use Rattle.sampling.specs.Laws.J1j2free.{half-fit, half-cuts-are}
 use Rattle.sampling.specs.Laws.Limits.{Ends}
 use Rattle.sampling.specs.Laws.Woven.{Small, cuts-woven}

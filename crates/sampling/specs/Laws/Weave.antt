@@ -9,9 +9,9 @@ use lib.ListN.{length, getD}
 use lib.Ieee.{Float, nan}
 use Rattle.float.specs.Number.{middle}
 use Rattle.float.specs.Laws.Middle.{middle-fits}
-use Rattle.polynomial.specs.Laws.Cuts.{Fit}
+use Rattle.polynomial.specs.Promises.Lists.{Fit}
 use Rattle.sampling.specs.Slices.{mids}
-use Rattle.sampling.specs.Stream.{weave}
+use Rattle.sampling.specs.Promises.Stream.{weave}
 
 -- ---- the same values
 

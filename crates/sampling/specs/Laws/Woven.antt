@@ -8,14 +8,16 @@ use lib.Dec.{T}
 use lib.Ieee.{Float, fin, binary64, eq, fits, isNan}
 use Rattle.float.specs.Number.{middle, total-le}
 use Rattle.float.specs.Laws.Total.{total-le-refl}
-use Rattle.float.specs.Laws.Within.{Within}
+use Rattle.float.specs.Promises.Order.{Within}
 use Rattle.float.specs.Laws.Range.{lt→Le}
-use Rattle.float.specs.Laws.Middle.{Span, middle-within}
+use Rattle.float.specs.Promises.Order.{Span}
+use Rattle.float.specs.Laws.Middle.{middle-within}
 use Rattle.polynomial.specs.Cuts.{cuts}
-use Rattle.polynomial.specs.Laws.Cuts.{From, Fit, Above, Strict, from-sorted, fit-cuts, strict-cuts, all-cuts}
+use Rattle.polynomial.specs.Promises.Lists.{From, Fit}
+use Rattle.polynomial.specs.Laws.Cuts.{Above, Strict, from-sorted, fit-cuts, strict-cuts, all-cuts}
 use Rattle.polynomial.specs.Laws.Enclosed.{less}
-use Rattle.polynomial.specs.Laws.Lists.{All}
-use Rattle.sampling.specs.Stream.{weave, Woven}
+use Rattle.polynomial.specs.Promises.Lists.{All}
+use Rattle.sampling.specs.Promises.Stream.{weave, Woven}
 use Rattle.float.specs.Laws.Between.{middle-above, middle-below}
 use Rattle.float.specs.Laws.Tests.{finite-number}
 

@@ -9,21 +9,21 @@ use lib.Seq.{sets}
 use lib.Dec.{eqb, ltb}
 use lib.Ieee.{Float}
 use borrow.Author.Tests.{eqb-true, eq-eqb, ne-eqb, le-leb, lt-leb, lt-ltb, le-ltb}
-use Rattle.sampling.specs.Stream.{start}
-use Rattle.sampling.specs.Plan.{to-come}
-use Rattle.sampling.specs.Planned.{Outcome, came}
+use Rattle.sampling.specs.Promises.Stream.{start}
+use Rattle.sampling.specs.Promises.Plan.{to-come}
+use Rattle.sampling.specs.Promises.Planned.{Outcome, came}
 use Rattle.sampling.specs.declared.plan.Plan.{Plan}
 use Rattle.sheet.specs.Bytes.{part, floats-bytes, same-bytes}
 use Rattle.sheet.specs.Refusals.{Verdict, accepted, refused, need}
 use Rattle.sheet.specs.Sheet.{trailer}
 use Rattle.sheet.specs.Sampling.{angles, late, judged, sheet-size}
 use Rattle.sheet.specs.Check.{count-of, request-of, angles-of, formed, clean, weigh, ruled}
-use Rattle.sheet.specs.Judge.{is-refused, is-short, PlannedFor}
+use Rattle.sheet.specs.Promises.Judge.{is-refused, is-short, PlannedFor}
 use Rattle.float.specs.Laws.Tests.{and-left}
 use Rattle.sheet.specs.Laws.Bytes.{sets-all}
 use Rattle.sheet.specs.Laws.Sheet.{length-trailer}
 use Rattle.sheet.specs.Laws.Judge.{by-outcome, late-is, late-refused, late-short, late-found, found-angles}
-use Rattle.sampling.specs.Planned as planned
+use Rattle.sampling.specs.Promises.Planned as planned
 
 -- ---- 31 and 32
 

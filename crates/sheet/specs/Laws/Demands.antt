@@ -23,7 +23,8 @@ use Rattle.sheet.specs.Demands.{Leaves, Counted, Sound, Complete, Exact,
 use Rattle.sheet.specs.Laws.Bytes.{length-bytes, le-half, length-floats-bytes, same-is, same-itself}
 use Rattle.sheet.specs.Laws.Blank.{length-blank}
 use Rattle.sheet.specs.Laws.Agree.{agree-blank, blank-agree, agree-own, blank-twice}
-use Rattle.sheet.specs.Laws.Passed.{Passed, need-holds, need-accepted, early-passed, passed-early}
+use Rattle.sheet.specs.Promises.Passed.{Passed}
+use Rattle.sheet.specs.Laws.Passed.{need-holds, need-accepted, early-passed, passed-early}
 use Rattle.sheet.specs.Laws.Sheet.{length-trailer}
 use Rattle.sheet.specs.Laws.Sampling.{length-sheet}
 use Rattle.sheet.specs.Laws.Check.{formed-length, ruled-on}

@@ -11,11 +11,12 @@ use lib.Ieee.{Float, nan, inf, fin, neg, le}
 use lib.Ieee.Fits.{and-l, and-r}
 use Rattle.float.specs.Number.{one-float}
 use Rattle.float.specs.Laws.Le.{le→Le, yes-of}
-use Rattle.float.specs.Laws.Within.{Within, Le→within}
+use Rattle.float.specs.Promises.Order.{Within}
+use Rattle.float.specs.Laws.Within.{Le→within}
 use Rattle.polynomial.specs.Angle.{turn}
-use Rattle.sampling.specs.Stream.{start}
-use Rattle.sampling.specs.Plan.{to-come}
-use Rattle.sampling.specs.Planned.{Moderate, Planned, Outcome, refused, short, found, came, outcome}
+use Rattle.sampling.specs.Promises.Stream.{start}
+use Rattle.sampling.specs.Promises.Plan.{to-come}
+use Rattle.sampling.specs.Promises.Planned.{Moderate, Planned, Outcome, refused, short, found, came, outcome}
 use Rattle.sampling.specs.declared.plan.Plan.{Plan}
 use Rattle.sampling.specs.declared.job.Job.{Job}
 use Rattle.sampling.specs.declared.pose.Matrix.{Matrix}
@@ -29,9 +30,10 @@ use Rattle.sheet.specs.Fields.{sign-of, joint-at, job-of, rotation-of, m
 use Rattle.sheet.specs.Tests.{right, head-right, within}
 use Rattle.sheet.specs.Refusals.{Verdict, accepted, need, told, early}
 use Rattle.sheet.specs.Sampling.{angles, cut-count, holds, late, judged}
-use Rattle.sheet.specs.Judge.{is-ready, is-refused, is-short, PlannedFor}
+use Rattle.sheet.specs.Promises.Judge.{is-ready, is-refused, is-short, PlannedFor}
 use Rattle.float.specs.Laws.Tests.{and-left, and-right}
-use Rattle.sheet.specs.Laws.Passed.{Passed, ready-passed, passed-reference, passed-offset}
+use Rattle.sheet.specs.Promises.Passed.{Passed}
+use Rattle.sheet.specs.Laws.Passed.{ready-passed, passed-reference, passed-offset}
 use Rattle.sheet.specs.declared.tests.Early.the-variants as early-case
 use Rattle.sheet.specs.Refusals as Refusals
 

@@ -20,6 +20,7 @@ use Rattle.sheet.specs.Fields.{field, rotation-of}
 use Rattle.sheet.specs.Tests.{all-from, head-right, signs-right, rotation-finite, rotation-nonzero, passes, field-right, fields-right, within, arm-within, references-finite, offsets-within}
 use Rattle.sheet.specs.Refusals.{Verdict, accepted, need, early, told}
 use Rattle.float.specs.Laws.Tests.{and-left, and-right}
+use Rattle.sheet.specs.Promises.Passed.{Passed}
 
 pub need-holds : (b : Bool) (k n : ℕ) (v : Verdict) → need b k v ≡ accepted n → b ≡ true
 unfolding need
@@ -30,16 +31,6 @@ pub need-accepted : (b : Bool) (k n : ℕ) (v : Verdict) → need b k v ≡ acce
 unfolding need
 need-accepted true k n v e = e
 need-accepted false k n v e = let z : _≡_ {A = ℕ} 0 1 = cc in absurd (omega arith)
-
-pub record Passed (r : List ℕ) : Type 0 where
-  pub whole : length r ≡ request-size
-  pub head : head-right r ≡ true
-  pub signs : signs-right r ≡ true
-  pub rotation : rotation-finite (try-normalize (rotation-of r)) ≡ true
-  pub nonzero : rotation-nonzero (try-normalize (rotation-of r)) ≡ true
-  pub arm : arm-within r ≡ true
-  pub references : references-finite r ≡ true
-  pub offsets : offsets-within r ≡ true
 
 -- an accepted request passes all tests
 pub early-passed : (r : List ℕ) (n : ℕ) (v : Verdict) → early r v ≡ accepted n → Passed r

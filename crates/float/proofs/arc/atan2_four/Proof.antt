@@ -2,7 +2,7 @@
 use mathlib.Core.Path.{sym, _∙_}
 use mathlib.Core.Bool.{_&&_}
 use borrow.Author.Needs.{needs}
-use Rattle.float.specs.Four.{beside, all-plain}
+use Rattle.float.specs.Promises.Four.{beside, all-plain}
 use Rattle.float.proofs.arc.atan2_four.Statement.{statement}
 use Rattle.float.proofs.arc.atan2_four.Tie as tie
 

@@ -1,7 +1,7 @@
 -- `float::arc::atan_four` meets its contract: at each return, what the calls and the tests on the way to it say. Assumes nothing.
 use mathlib.Core.Path.{_≡_, ap, _∙_}
 use borrow.Author.Needs.{needs}
-use Rattle.float.specs.Four.{each}
+use Rattle.float.specs.Promises.Four.{each}
 use Rattle.float.specs.Trig.{atan-start, atan-value, halved}
 use Rattle.float.specs.declared.arc.Four.{Four}
 use Rattle.float.proofs.arc.atan_four.Statement.{statement}

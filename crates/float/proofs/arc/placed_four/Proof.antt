@@ -2,7 +2,7 @@
 use mathlib.Core.Path.{_≡_, ap}
 use mathlib.Core.Bool.{true}
 use borrow.Author.Needs.{needs}
-use Rattle.float.specs.Four.{beside, each, plain}
+use Rattle.float.specs.Promises.Four.{beside, each, plain}
 use Rattle.float.specs.declared.arc.Four.{Four}
 use Rattle.float.proofs.arc.Sides.{all-four}
 use Rattle.float.proofs.arc.placed_four.Statement.{statement}

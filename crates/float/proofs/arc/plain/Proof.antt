@@ -1,7 +1,7 @@
 -- `float::arc::plain` meets its contract: at each return, what the calls and the tests on the way to it say. Assumes nothing.
 use mathlib.Core.Path.{refl}
 use lib.Ieee.{ofBits}
-use Rattle.float.specs.Four.{plain}
+use Rattle.float.specs.Promises.Four.{plain}
 use Rattle.float.proofs.arc.plain.Statement.{statement}
 use Rattle.float.proofs.arc.plain.Tie as tie
 

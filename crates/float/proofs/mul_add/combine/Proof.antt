@@ -7,7 +7,7 @@ use native.Mathlib.Omega.{arith}
 use lib.Arith.{digits-lt}
 use borrow.Author.Needs.{needs}
 use borrow.Author.Tests.{ltb-true, ltb-false}
-use Rattle.float.specs.Parts.{Finishes}
+use Rattle.float.specs.Promises.Parts.{Finishes}
 use Rattle.float.specs.Laws.Zero.{zero-bits}
 use Rattle.float.proofs.mul_add.combine.Statement.{statement}
 use Rattle.float.proofs.mul_add.combine.Tie as tie

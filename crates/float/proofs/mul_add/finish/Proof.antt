@@ -6,7 +6,7 @@ use lib.Bits.{bitOr}
 use lib.Ieee.{binary64, units}
 use lib.Ieee.Nearest.{closest}
 use borrow.Author.Needs.{needs}
-use Rattle.float.specs.Jam.{jam}
+use Rattle.float.specs.Promises.Jam.{jam}
 use Rattle.float.proofs.mul_add.Left.{full, less, more, left-short, left-long}
 use Rattle.float.proofs.mul_add.finish.Statement.{statement}
 use Rattle.float.proofs.mul_add.finish.Tie as tie

@@ -7,7 +7,7 @@ use lib.Dec.{T}
 use lib.Ieee.{unlike}
 use lib.Ieee.Scale.{finite}
 use borrow.Author.Needs.{needs}
-use Rattle.float.specs.Parts.{Splits}
+use Rattle.float.specs.Promises.Parts.{Splits}
 use Rattle.float.proofs.mul_add.Aligned.{jam-le}
 use Rattle.float.proofs.mul_add.Special.{at-first, at-second, at-third, some-digits, first-zero, second-zero}
 use Rattle.float.specs.Laws.Zero.{not-finite, is-finite}

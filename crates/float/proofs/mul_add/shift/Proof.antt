@@ -6,7 +6,7 @@ use native.Mathlib.Nat.{le-trans, le-of-eq, lt-of-lt-of-le, lt-of-le-of-lt, mul-
 use native.Mathlib.Omega.{arith}
 use lib.Pow.{pow-add, pow-pos, pow-mono}
 use lib.Count.{leadingZeros, leading-le, leading-top}
-use Rattle.float.specs.Parts.{Shifts}
+use Rattle.float.specs.Promises.Parts.{Shifts}
 use Rattle.float.proofs.mul_add.shift.Statement.{statement}
 use Rattle.float.proofs.mul_add.shift.Tie as tie
 

@@ -6,7 +6,7 @@ use lib.Dec.{T, leb}
 use lib.Bits.{bitAnd, and-mask, mask-lt}
 use lib.Ieee.{binary64, fits, toBits}
 use borrow.Author.Needs.{needs}
-use Rattle.float.specs.Parts.{Splits}
+use Rattle.float.specs.Promises.Parts.{Splits}
 use Rattle.float.specs.Laws.Tests.{finite-number}
 use Rattle.float.proofs.Read.{split-low, split-high}
 use Rattle.float.proofs.mul_add.split.Statement.{statement}

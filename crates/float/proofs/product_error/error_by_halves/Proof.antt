@@ -6,7 +6,7 @@ use lib.Ieee.{Float, binary64, fits, ofBits}
 use borrow.Author.Needs.{needs}
 use Rattle.float.specs.Number.{_⊕_, _⊖_, _⊗_}
 use Rattle.float.specs.ProductError.{product-error}
-use Rattle.float.specs.Halves.{least, in-range, high-half, low-half, halves}
+use Rattle.float.specs.Promises.Halves.{least, in-range, high-half, low-half, halves}
 use Rattle.float.specs.declared.product_error.Halves.{Halves}
 use Rattle.float.proofs.product_error.Bitwise.{dekker-is-fused}
 use Rattle.float.proofs.product_error.Range.{ranged}

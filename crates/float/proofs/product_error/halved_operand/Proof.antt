@@ -3,7 +3,7 @@ use mathlib.Core.Path.{ap}
 use mathlib.Core.Bool.{Bool}
 use lib.Ieee.{ofBits}
 use borrow.Author.Needs.{needs}
-use Rattle.float.specs.Halves.{high-half, low-half, halves}
+use Rattle.float.specs.Promises.Halves.{high-half, low-half, halves}
 use Rattle.float.proofs.product_error.halved_operand.Statement.{statement}
 use Rattle.float.proofs.product_error.halved_operand.Tie as tie
 

@@ -2,7 +2,7 @@
 use mathlib.Core.Path.{_≡_, refl, ap, _∙_}
 use lib.Ieee.{Float, binary64, ofBits}
 use borrow.Author.Needs.{needs}
-use Rattle.float.specs.Halves.{least, in-range}
+use Rattle.float.specs.Promises.Halves.{least, in-range}
 use Rattle.float.proofs.product_error.in_range.Statement.{statement}
 use Rattle.float.proofs.product_error.in_range.Tie as tie
 

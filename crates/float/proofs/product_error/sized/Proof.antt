@@ -1,7 +1,7 @@
 -- `float::product_error::sized` meets its contract: the code's constants are 2 ^ 400 and 0. Assumes nothing.
 use mathlib.Core.Path.{_≡_, refl, sym}
 use lib.Ieee.{binary64, ofBits}
-use Rattle.float.specs.Halves.{most, sized}
+use Rattle.float.specs.Promises.Halves.{most, sized}
 use Rattle.float.specs.Laws.Zero.{zero-bits}
 use Rattle.float.proofs.product_error.sized.Statement.{statement}
 use Rattle.float.proofs.product_error.sized.Tie as tie

@@ -1,7 +1,7 @@
 -- `float::product_error::within` meets its contract. Assumes nothing.
 use mathlib.Core.Path.{sym, _∙_}
 use borrow.Author.Needs.{needs}
-use Rattle.float.specs.Halves.{in-range}
+use Rattle.float.specs.Promises.Halves.{in-range}
 use Rattle.float.specs.Laws.Zero.{zero-bits}
 use Rattle.float.proofs.product_error.within.Statement.{statement}
 use Rattle.float.proofs.product_error.within.Tie as tie

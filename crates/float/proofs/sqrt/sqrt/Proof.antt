@@ -7,7 +7,7 @@ use mathlib.Core.Bool.{Bool, false}
 use lib.Ieee.{Float, binary64}
 use borrow.Author.Needs.{needs}
 use Rattle.float.specs.Sqrt.{sqrt, rootOf}
-use Rattle.float.specs.Parts.{Splits}
+use Rattle.float.specs.Promises.Parts.{Splits}
 use Rattle.float.specs.Laws.Tests.{number-of}
 use Rattle.float.specs.Laws.Zero.{not-finite, is-finite}
 use Rattle.float.proofs.mul_add.Special.{some-digits}

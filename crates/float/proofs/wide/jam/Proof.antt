@@ -5,7 +5,7 @@ use Prim.Native.Nat.{ℕ, _+_, _-_, _*_, _/_, _^_, _≤_, _<_}
 use native.Mathlib.Omega.{arith}
 use lib.Bits.{bitOr}
 use borrow.Author.Needs.{needs}
-use Rattle.float.specs.Jam.{jam}
+use Rattle.float.specs.Promises.Jam.{jam}
 use Rattle.float.proofs.wide.Words.{left, jam-short, jam-long, jam-far}
 use Rattle.float.proofs.wide.jam.Statement.{statement}
 use Rattle.float.proofs.wide.jam.Tie as tie

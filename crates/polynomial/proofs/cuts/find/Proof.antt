@@ -8,7 +8,7 @@ use Prim.Native.Nat.{ℕ, _≤_, _<_, _-_}
 use native.Mathlib.Omega.{arith}
 use lib.ListN.{getD}
 use lib.Ieee.{nan}
-use Rattle.polynomial.specs.Insert.{passed}
+use Rattle.polynomial.specs.Promises.Insert.{passed}
 use Rattle.polynomial.proofs.cuts.find.Statement.{statement}
 use Rattle.polynomial.proofs.cuts.find.Tie as tie
 

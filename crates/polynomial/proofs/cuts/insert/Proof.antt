@@ -10,7 +10,7 @@ use lib.ListN.{getD}
 use lib.Ieee.{Float, nan, eq}
 use Rattle.float.specs.Number.{total-le, negative}
 use Rattle.float.specs.Laws.Tests.{total-le-signs}
-use Rattle.polynomial.specs.Laws.Placed.{replaced, kept, full, inserted}
+use Rattle.polynomial.proofs.Placed.{replaced, kept, full, inserted}
 use borrow.Author.Needs.{needs}
 use Rattle.polynomial.proofs.cuts.insert.Statement.{statement}
 use Rattle.polynomial.proofs.cuts.insert.Tie as tie

@@ -1,7 +1,7 @@
 -- `polynomial::halving::bisect` meets its contract. Assumes nothing.
 use mathlib.Core.Path.{_∙_, subst}
 use borrow.Author.Needs.{needs}
-use Rattle.polynomial.specs.Inside.{Rest}
+use Rattle.polynomial.specs.Promises.Inside.{Rest}
 use Rattle.polynomial.proofs.halving.bisect.Statement.{statement}
 use Rattle.polynomial.proofs.halving.bisect.Tie as tie
 

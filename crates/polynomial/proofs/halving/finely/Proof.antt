@@ -3,11 +3,11 @@ use mathlib.Core.Path.{_≡_, refl, _∙_, subst}
 use lib.Ieee.{binary64}
 use lib.ListN.{take}
 use borrow.Author.Needs.{needs}
-use Rattle.float.specs.Laws.Whole.{width}
-use Rattle.float.specs.Laws.Middle.{Span}
+use Rattle.float.specs.Promises.Order.{width}
+use Rattle.float.specs.Promises.Order.{Span}
 use Rattle.polynomial.specs.Polynomial.{evaluate}
 use Rattle.polynomial.specs.Roots.{bisected}
-use Rattle.polynomial.specs.Inside.{Leaves}
+use Rattle.polynomial.specs.Promises.Inside.{Leaves}
 use Rattle.polynomial.proofs.halving.finely.Statement.{statement}
 use Rattle.polynomial.proofs.halving.finely.Tie as tie
 

@@ -1,6 +1,6 @@
 -- `polynomial::halving::halved` meets its contract: at each return, what the calls and the tests on the way to it say. Assumes nothing.
 use borrow.Author.Needs.{needs}
-use Rattle.polynomial.specs.Inside.{halved}
+use Rattle.polynomial.specs.Promises.Inside.{halved}
 use Rattle.polynomial.proofs.halving.halved.Statement.{statement}
 use Rattle.polynomial.proofs.halving.halved.Tie as tie
 

@@ -1,7 +1,7 @@
 -- `polynomial::halving::narrowed` meets its contract. Assumes nothing.
 use mathlib.Core.Path.{subst}
 use borrow.Author.Needs.{needs}
-use Rattle.polynomial.specs.Inside.{Known}
+use Rattle.polynomial.specs.Promises.Inside.{Known}
 use Rattle.polynomial.proofs.halving.Turns.{one, done, upper, lower}
 use Rattle.polynomial.proofs.halving.narrowed.Statement.{statement}
 use Rattle.polynomial.proofs.halving.narrowed.Tie as tie

@@ -1,7 +1,7 @@
 -- `polynomial::halving::turned` meets its contract: at each return, what the calls and the tests on the way to it say. Assumes nothing.
 use lib.Ieee.{ofBits}
 use borrow.Author.Needs.{needs}
-use Rattle.polynomial.specs.Inside.{turned}
+use Rattle.polynomial.specs.Promises.Inside.{turned}
 use Rattle.polynomial.proofs.halving.turned.Statement.{statement}
 use Rattle.polynomial.proofs.halving.turned.Tie as tie
 

@@ -3,7 +3,7 @@ use Prim.Native.Nat.{_-_}
 use lib.ListN.{take}
 use borrow.Author.Needs.{needs}
 use Rattle.polynomial.specs.Curve.{chart-angles}
-use Rattle.polynomial.specs.Norm.{put-all}
+use Rattle.polynomial.specs.Promises.Norm.{put-all}
 use Rattle.float.specs.Laws.Literals.{two-bits}
 use Rattle.polynomial.proofs.norm.Charted.{Charted, charted-first, charted-room, charted-more, charted-last}
 use Rattle.polynomial.proofs.norm.chart.Statement.{statement}

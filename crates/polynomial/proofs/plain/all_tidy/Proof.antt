@@ -7,7 +7,7 @@ use lib.ListN.{length}
 use lib.Seq.{slice}
 use borrow.Author.Tests.{not-false}
 use borrow.Author.Needs.{needs}
-use Rattle.polynomial.specs.Plain.{AllTidy}
+use Rattle.polynomial.specs.Promises.Plain.{AllTidy}
 use Rattle.polynomial.proofs.plain.Sums.{tidy-none, tidy-more, tidy-all}
 use Rattle.polynomial.proofs.plain.all_tidy.Statement.{statement}
 use Rattle.polynomial.proofs.plain.all_tidy.Tie as tie

@@ -5,7 +5,7 @@ use lib.Dec.{T}
 use lib.Ieee.{ofBits, le}
 use borrow.Author.Needs.{needs}
 use Rattle.float.specs.Number.{_⊗_, abs}
-use Rattle.polynomial.specs.Plain.{lift, largest}
+use Rattle.polynomial.specs.Promises.Plain.{lift, largest}
 use Rattle.polynomial.proofs.plain.is_tidy.Statement.{statement}
 use Rattle.polynomial.proofs.plain.is_tidy.Tie as tie
 

@@ -8,7 +8,7 @@ use lib.Seq.{slice}
 use borrow.Author.Needs.{needs}
 use Rattle.float.specs.Number.{abs}
 use Rattle.float.specs.Laws.Zero.{zero-bits}
-use Rattle.polynomial.specs.Plain.{plain, scale}
+use Rattle.polynomial.specs.Promises.Plain.{plain, scale}
 use Rattle.polynomial.proofs.plain.Sums.{plain-none, plain-more, plain-all, scale-none, scale-more, scale-all}
 use Rattle.polynomial.proofs.plain.Told.{tells}
 use Rattle.polynomial.proofs.plain.plain_sign.Statement.{statement}

@@ -1,6 +1,6 @@
 -- `polynomial::plain::sign_of` meets its contract: at each return, what the tests on the way to it say. Assumes nothing.
 use lib.Ieee.{ofBits}
-use Rattle.polynomial.specs.Plain.{told}
+use Rattle.polynomial.specs.Promises.Plain.{told}
 use Rattle.polynomial.proofs.plain.sign_of.Statement.{statement}
 use Rattle.polynomial.proofs.plain.sign_of.Tie as tie
 

@@ -16,7 +16,7 @@ use borrow.Fn.Kinds.{In}
 use borrow.Fn.PlainCycle.{Measures, is, falls, and}
 use denote.Ref.{now}
 use Rattle.polynomial.specs.Polynomial.{derivative}
-use Rattle.polynomial.specs.Inside.{Ready}
+use Rattle.polynomial.specs.Promises.Inside.{Ready}
 use Rattle.polynomial.specs.declared.compensated.Compensated.{Compensated}
 use Rattle.polynomial.specs.Laws.Degree.{counted, counted-short, found, none-left, two-left, more-left}
 use Rattle.polynomial.specs.Laws.Enclosed.{roots-in, points-ready, points-some}

@@ -4,7 +4,7 @@ use native.Mathlib.Omega.{arith}
 use mathlib.Core.Path.{_≡_}
 use lib.ListN.{length, drop, length-drop}
 use borrow.Author.Needs.{needs}
-use Rattle.sampling.specs.Laws.Asked.{Part, start, next, next-two, finish, at, at-two}
+use Rattle.sampling.proofs.Questions.{Part, start, next, next-two, finish, at, at-two}
 use Rattle.sampling.proofs.asked.answer.Statement.{statement}
 use Rattle.sampling.proofs.asked.answer.Tie as tie
 

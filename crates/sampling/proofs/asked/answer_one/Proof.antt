@@ -1,7 +1,7 @@
 -- `sampling::asked::answer_one` meets its contract: at each return, what the calls and the tests on the way to it say. Assumes nothing.
 use borrow.Author.Needs.{needs}
-use Rattle.sampling.specs.Asked.{answer}
-use Rattle.sampling.specs.Laws.Pushed.{then}
+use Rattle.sampling.specs.Promises.Asked.{answer}
+use Rattle.sampling.proofs.Pushed.{then}
 use Rattle.sampling.proofs.asked.answer_one.Statement.{statement}
 use Rattle.sampling.proofs.asked.answer_one.Tie as tie
 

@@ -1,6 +1,6 @@
 -- `sampling::asked::answer_two` meets its contract: at each return, what the calls and the tests on the way to it say. Assumes nothing.
 use borrow.Author.Needs.{needs}
-use Rattle.sampling.specs.Laws.Pushed.{same, then}
+use Rattle.sampling.proofs.Pushed.{same, then}
 use Rattle.sampling.proofs.asked.answer_two.Statement.{statement}
 use Rattle.sampling.proofs.asked.answer_two.Tie as tie
 

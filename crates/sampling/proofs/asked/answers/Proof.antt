@@ -7,8 +7,8 @@ use Rattle.float.specs.Number.{_⊕_, _⊖_}
 use Rattle.float.specs.declared.arc.Four.{Four}
 use Rattle.polynomial.specs.Angle.{wrapped-angle}
 use Rattle.float.specs.Trig.{atan2, acos, other-side}
-use Rattle.float.specs.Four.{beside}
-use Rattle.sampling.specs.Asked.{answer, answered, listed}
+use Rattle.float.specs.Promises.Four.{beside}
+use Rattle.sampling.specs.Promises.Asked.{answer, answered, listed}
 use Rattle.sampling.specs.declared.asked.Question.{Question}
 use Rattle.sampling.proofs.asked.answers.Statement.{statement}
 use Rattle.sampling.proofs.asked.answers.Tie as tie

@@ -1,8 +1,8 @@
 -- `sampling::asked::ask` meets its contract: at each return, what the calls and the tests on the way to it say. Assumes nothing.
 use native.Mathlib.Omega.{arith}
 use borrow.Author.Needs.{needs}
-use Rattle.sampling.specs.Laws.Asked.{one, dropped}
-use Rattle.sampling.specs.Laws.Pushed.{then}
+use Rattle.sampling.proofs.Questions.{one, dropped}
+use Rattle.sampling.proofs.Pushed.{then}
 use Rattle.sampling.proofs.continuum.Steps.{met-roots, missed-roots}
 use Rattle.sampling.proofs.asked.ask.Statement.{statement}
 use Rattle.sampling.proofs.asked.ask.Tie as tie

@@ -1,6 +1,6 @@
 -- `sampling::asked::question_at` meets its contract: at each return, what the calls and the tests on the way to it say. Assumes nothing.
 use borrow.Author.Needs.{needs}
-use Rattle.sampling.specs.Laws.Asked.{three}
+use Rattle.sampling.proofs.Questions.{three}
 use Rattle.sampling.proofs.asked.question_at.Statement.{statement}
 use Rattle.sampling.proofs.asked.question_at.Tie as tie
 

@@ -1,7 +1,7 @@
 -- `sampling::bend_slices::axes_range` meets its contract: at each return, what the calls and the tests on the way to it say. Assumes nothing.
 use borrow.Author.Needs.{needs}
 use Rattle.sampling.specs.BendSlices.{axes-range}
-use Rattle.sampling.specs.Laws.Pushed.{none, then}
+use Rattle.sampling.proofs.Pushed.{none, then}
 use Rattle.sampling.proofs.bend_slices.axes_range.Statement.{statement}
 use Rattle.sampling.proofs.bend_slices.axes_range.Tie as tie
 

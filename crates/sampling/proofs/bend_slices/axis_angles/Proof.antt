@@ -2,7 +2,7 @@
 use lib.Ieee.{ofBits}
 use borrow.Author.Needs.{needs}
 use Rattle.sampling.specs.BendSlices.{axis-angles}
-use Rattle.sampling.specs.Laws.Pushed.{then}
+use Rattle.sampling.proofs.Pushed.{then}
 use Rattle.sampling.proofs.bend_slices.axis_angles.Statement.{statement}
 use Rattle.sampling.proofs.bend_slices.axis_angles.Tie as tie
 

@@ -1,7 +1,7 @@
 -- `sampling::bend_slices::bend_slice` meets its contract: at each return, what the calls and the tests on the way to it say. Assumes nothing.
 use borrow.Author.Needs.{needs}
 use Rattle.sampling.specs.BendSlices.{bend-slice, bend-slice-holds}
-use Rattle.sampling.specs.Laws.Pushed.{then}
+use Rattle.sampling.proofs.Pushed.{then}
 use Rattle.sampling.proofs.bend_slices.bend_slice.Statement.{statement}
 use Rattle.sampling.proofs.bend_slices.bend_slice.Tie as tie
 

@@ -2,7 +2,7 @@
 use lib.Ieee.{ofBits}
 use borrow.Author.Needs.{needs}
 use Rattle.sampling.specs.BendSlices.{transverse}
-use Rattle.sampling.specs.Laws.Pushed.{none, then}
+use Rattle.sampling.proofs.Pushed.{none, then}
 use Rattle.sampling.proofs.bend_slices.transverse.Statement.{statement}
 use Rattle.sampling.proofs.bend_slices.transverse.Tie as tie
 

@@ -1,7 +1,7 @@
 -- `sampling::bend_slices::transverse_range` meets its contract: at each return, what the calls and the tests on the way to it say. Assumes nothing.
 use borrow.Author.Needs.{needs}
 use Rattle.sampling.specs.BendSlices.{transverse-range}
-use Rattle.sampling.specs.Laws.Pushed.{none, then}
+use Rattle.sampling.proofs.Pushed.{none, then}
 use Rattle.sampling.proofs.bend_slices.transverse_range.Statement.{statement}
 use Rattle.sampling.proofs.bend_slices.transverse_range.Tie as tie
 

@@ -1,7 +1,7 @@
 -- `sampling::bend_slices::transverses` meets its contract: at each return, what the calls and the tests on the way to it say. Assumes nothing.
 use borrow.Author.Needs.{needs}
 use Rattle.sampling.specs.BendSlices.{transverses}
-use Rattle.sampling.specs.Laws.Pushed.{then}
+use Rattle.sampling.proofs.Pushed.{then}
 use Rattle.sampling.proofs.bend_slices.transverses.Statement.{statement}
 use Rattle.sampling.proofs.bend_slices.transverses.Tie as tie
 

@@ -1,7 +1,7 @@
 -- `sampling::bends::all_roots` meets its contract: at each return, what the calls and the tests on the way to it say. Assumes nothing.
 use borrow.Author.Needs.{needs}
 use Rattle.sampling.specs.Bends.{all-roots, all-roots-hold}
-use Rattle.sampling.specs.Laws.Pushed.{then}
+use Rattle.sampling.proofs.Pushed.{then}
 use Rattle.sampling.proofs.bends.all_roots.Statement.{statement}
 use Rattle.sampling.proofs.bends.all_roots.Tie as tie
 

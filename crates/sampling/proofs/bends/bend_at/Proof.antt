@@ -1,7 +1,7 @@
 -- `sampling::bends::bend_at` meets its contract: at each return, what the calls and the tests on the way to it say. Assumes nothing.
 use borrow.Author.Needs.{needs}
 use Rattle.sampling.specs.Bends.{bend-at, bend-at-holds}
-use Rattle.sampling.specs.Laws.Pushed.{none}
+use Rattle.sampling.proofs.Pushed.{none}
 use Rattle.sampling.proofs.bends.bend_at.Statement.{statement}
 use Rattle.sampling.proofs.bends.bend_at.Tie as tie
 

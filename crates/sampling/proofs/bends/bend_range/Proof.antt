@@ -1,7 +1,7 @@
 -- `sampling::bends::bend_range` meets its contract: at each return, what the calls and the tests on the way to it say. Assumes nothing.
 use borrow.Author.Needs.{needs}
 use Rattle.sampling.specs.Bends.{bend-range, bend-range-holds}
-use Rattle.sampling.specs.Laws.Pushed.{none, then}
+use Rattle.sampling.proofs.Pushed.{none, then}
 use Rattle.sampling.proofs.bends.bend_range.Statement.{statement}
 use Rattle.sampling.proofs.bends.bend_range.Tie as tie
 

@@ -3,7 +3,7 @@ use native.Mathlib.Omega.{arith}
 use mathlib.Core.Path.{_∙_}
 use borrow.Author.Needs.{needs}
 use Rattle.sampling.specs.Boundaries.{boundaries}
-use Rattle.sampling.specs.Laws.Pushed.{then}
+use Rattle.sampling.proofs.Pushed.{then}
 use Rattle.sampling.proofs.boundaries.boundaries.Statement.{statement}
 use Rattle.sampling.proofs.boundaries.boundaries.Tie as tie
 

@@ -2,7 +2,7 @@
 use lib.Ieee.{ofBits}
 use borrow.Author.Needs.{needs}
 use Rattle.sampling.specs.Boundaries.{corner-curves}
-use Rattle.sampling.specs.Laws.Pushed.{none, then}
+use Rattle.sampling.proofs.Pushed.{none, then}
 use Rattle.sampling.proofs.boundaries.corner_curves.Statement.{statement}
 use Rattle.sampling.proofs.boundaries.corner_curves.Tie as tie
 

@@ -1,7 +1,7 @@
 -- `sampling::boundaries::fifth_curves` meets its contract: at each return, what the calls and the tests on the way to it say. Assumes nothing.
 use borrow.Author.Needs.{needs}
 use Rattle.sampling.specs.Boundaries.{fifth-curves}
-use Rattle.sampling.specs.Laws.Pushed.{none, then}
+use Rattle.sampling.proofs.Pushed.{none, then}
 use Rattle.sampling.proofs.boundaries.fifth_curves.Statement.{statement}
 use Rattle.sampling.proofs.boundaries.fifth_curves.Tie as tie
 

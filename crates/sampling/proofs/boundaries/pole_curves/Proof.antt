@@ -2,7 +2,7 @@
 use lib.Ieee.{ofBits}
 use borrow.Author.Needs.{needs}
 use Rattle.sampling.specs.Boundaries.{pole-curves}
-use Rattle.sampling.specs.Laws.Pushed.{then}
+use Rattle.sampling.proofs.Pushed.{then}
 use Rattle.sampling.proofs.boundaries.pole_curves.Statement.{statement}
 use Rattle.sampling.proofs.boundaries.pole_curves.Tie as tie
 

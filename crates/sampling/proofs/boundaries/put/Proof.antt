@@ -1,6 +1,6 @@
 -- `sampling::boundaries::put` meets its contract: at each return, what the calls and the tests on the way to it say. Assumes nothing.
 use borrow.Author.Needs.{needs}
-use Rattle.sampling.specs.Laws.Pushed.{one}
+use Rattle.sampling.proofs.Pushed.{one}
 use Rattle.sampling.proofs.boundaries.put.Statement.{statement}
 use Rattle.sampling.proofs.boundaries.put.Tie as tie
 

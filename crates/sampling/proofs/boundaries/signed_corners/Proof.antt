@@ -1,7 +1,7 @@
 -- `sampling::boundaries::signed_corners` meets its contract: at each return, what the calls and the tests on the way to it say. Assumes nothing.
 use borrow.Author.Needs.{needs}
 use Rattle.sampling.specs.Boundaries.{signed-corners}
-use Rattle.sampling.specs.Laws.Pushed.{then}
+use Rattle.sampling.proofs.Pushed.{then}
 use Rattle.sampling.proofs.boundaries.signed_corners.Statement.{statement}
 use Rattle.sampling.proofs.boundaries.signed_corners.Tie as tie
 

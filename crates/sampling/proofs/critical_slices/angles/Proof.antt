@@ -7,8 +7,8 @@ use lib.ListN.{length, take}
 use lib.Seq.{slice}
 use lib.Ieee.{ofBits}
 use Rattle.sampling.specs.CriticalSlices as Of
-use Rattle.sampling.specs.Laws.Grown.{Leads, leads-all, leads-next, leads-end}
-use Rattle.sampling.specs.Laws.CriticalSlices.{angles-next, angles-end}
+use Rattle.sampling.proofs.Grown.{Leads, leads-all, leads-next, leads-end}
+use Rattle.sampling.proofs.CriticalSlices.{angles-next, angles-end}
 use Rattle.sampling.proofs.critical_slices.angles.Statement.{statement}
 use Rattle.sampling.proofs.critical_slices.angles.Tie as tie
 

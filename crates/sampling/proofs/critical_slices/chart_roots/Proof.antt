@@ -2,7 +2,7 @@
 use borrow.Author.Needs.{needs}
 use mathlib.Core.Path.{sym}
 use Rattle.sampling.specs.CriticalSlices.{angles, chart-roots, chart-holds}
-use Rattle.sampling.specs.Laws.Grown.{none}
+use Rattle.sampling.proofs.Grown.{none}
 use Rattle.polynomial.specs.Laws.Inner.{call-refused, call-holds, call-within, call-list}
 use Rattle.sampling.proofs.critical_slices.chart_roots.Statement.{statement}
 use Rattle.sampling.proofs.critical_slices.chart_roots.Tie as tie

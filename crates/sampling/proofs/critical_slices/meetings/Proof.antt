@@ -8,11 +8,11 @@ use lib.ListN.{length}
 use lib.Seq.{slice}
 use mathlib.Core.List.{List}
 use Rattle.polynomial.specs.declared.compensated.Compensated.{Compensated}
-use Rattle.sampling.specs.Grown.{Grown}
+use Rattle.sampling.specs.Promises.Grown.{Grown}
 use Rattle.sampling.specs.CriticalSlices as Of
-use Rattle.sampling.specs.Numerators.{first-three}
-use Rattle.sampling.specs.Laws.Grown.{Leads, leads-all, leads-next, leads-end}
-use Rattle.sampling.specs.Laws.CriticalSlices.{intersection-is, meetings-next, meetings-hold-next, meetings-end, meetings-hold-end, holds-next, holds-end}
+use Rattle.sampling.specs.Promises.Numerators.{first-three}
+use Rattle.sampling.proofs.Grown.{Leads, leads-all, leads-next, leads-end}
+use Rattle.sampling.proofs.CriticalSlices.{intersection-is, meetings-next, meetings-hold-next, meetings-end, meetings-hold-end, holds-next, holds-end}
 use Rattle.sampling.proofs.critical_slices.meetings.Statement.{statement}
 use Rattle.sampling.proofs.critical_slices.meetings.Tie as tie
 

@@ -1,7 +1,7 @@
 -- `sampling::j1j2free::cut` meets its contract: at each return, what the calls and the tests on the way to it say. Assumes nothing.
 use mathlib.Core.Path.{refl}
 use borrow.Author.Needs.{needs}
-use Rattle.sampling.specs.Halving.{cut-answer, both-halves}
+use Rattle.sampling.specs.Promises.Halving.{cut-answer, both-halves}
 use Rattle.sampling.proofs.j1j2free.cut.Statement.{statement}
 use Rattle.sampling.proofs.j1j2free.cut.Tie as tie
 

@@ -3,8 +3,8 @@ use borrow.Author.Needs.{needs}
 use mathlib.Core.Path.{sym, ap, subst, _∙_}
 use native.Mathlib.Omega.{arith}
 use lib.ListN.{length}
-use Rattle.sampling.specs.Stream.{start}
-use Rattle.sampling.specs.Plan.{to-come, Ready}
+use Rattle.sampling.specs.Promises.Stream.{start}
+use Rattle.sampling.specs.Promises.Plan.{to-come, Ready}
 use Rattle.sampling.specs.Laws.Plan.{all-samples-length}
 use Rattle.sampling.specs.declared.plan.Plan.{Plan}
 use Rattle.sampling.proofs.plan.count.Statement.{statement}

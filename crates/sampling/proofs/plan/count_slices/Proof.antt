@@ -6,7 +6,7 @@ use native.Mathlib.Omega.{arith}
 use native.Mathlib.Nat.{add-sub-cancel-left}
 use lib.Seq.{length-take-le}
 use lib.ListN.{length, take, drop}
-use Rattle.sampling.specs.Stream.{distinct, start, Woven}
+use Rattle.sampling.specs.Promises.Stream.{distinct, start, Woven}
 use Rattle.sampling.proofs.plan.count_slices.Statement.{statement}
 use Rattle.sampling.proofs.plan.count_slices.Tie as tie
 

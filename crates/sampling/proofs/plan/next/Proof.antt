@@ -1,7 +1,7 @@
 -- `sampling::plan::next` meets its contract: by what came of the cuts. Assumes nothing.
 use borrow.Author.Needs.{needs}
 use mathlib.Core.Path.{sym, subst}
-use Rattle.sampling.specs.Plan.{to-come, Ready, Gives}
+use Rattle.sampling.specs.Promises.Plan.{to-come, Ready, Gives}
 use Rattle.sampling.specs.declared.plan.Plan.{Plan}
 use Rattle.sampling.proofs.plan.next.Statement.{statement}
 use Rattle.sampling.proofs.plan.next.Tie as tie

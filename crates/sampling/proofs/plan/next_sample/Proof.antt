@@ -6,7 +6,7 @@ use Prim.Native.Nat.{_+_, _≤_}
 use native.Mathlib.Omega.{arith}
 use lib.ListN.{length, drop, drop-of-length-le}
 use lib.Ieee.{Float}
-use Rattle.sampling.specs.Plan.{all-samples}
+use Rattle.sampling.specs.Promises.Plan.{all-samples}
 use Rattle.sampling.specs.Laws.Plan.{all-samples-length, step-here}
 use Rattle.sampling.proofs.plan.next_sample.Statement.{statement}
 use Rattle.sampling.proofs.plan.next_sample.Tie as tie

@@ -6,7 +6,7 @@ use native.Mathlib.Omega.{arith}
 use native.Mathlib.Nat.{add-sub-cancel-left}
 use lib.Seq.{length-take-le}
 use lib.ListN.{take, drop}
-use Rattle.sampling.specs.Stream.{distinct, Steps, Woven}
+use Rattle.sampling.specs.Promises.Stream.{distinct, Steps, Woven}
 use Rattle.sampling.specs.Laws.Plan.{gives}
 use Rattle.sampling.proofs.plan.next_slice.Statement.{statement}
 use Rattle.sampling.proofs.plan.next_slice.Tie as tie

@@ -1,6 +1,6 @@
 -- `sampling::plan::one_plan` meets its contract: by what `cut` says. Assumes nothing.
 use borrow.Author.Needs.{needs}
-use Rattle.sampling.specs.Laws.Planned.{one-drawn}
+use Rattle.sampling.proofs.Planned.{one-drawn}
 use Rattle.sampling.proofs.plan.one_plan.Statement.{statement}
 use Rattle.sampling.proofs.plan.one_plan.Tie as tie
 

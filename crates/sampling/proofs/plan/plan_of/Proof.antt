@@ -4,7 +4,7 @@ use borrow.Author.Tests.{ne-eqb}
 use mathlib.Core.Path.{sym, subst}
 use lib.Dec.{T}
 use lib.Ieee.{binary64, fits}
-use Rattle.sampling.specs.Laws.Planned.{folded-streams, first-planned, second-planned, both-planned}
+use Rattle.sampling.proofs.Planned.{folded-streams, first-planned, second-planned, both-planned}
 use Rattle.sampling.proofs.plan.plan_of.Statement.{statement}
 use Rattle.sampling.proofs.plan.plan_of.Tie as tie
 

@@ -1,6 +1,6 @@
 -- `sampling::plan::two_plan` meets its contract: by what `cut` says. Assumes nothing.
 use borrow.Author.Needs.{needs}
-use Rattle.sampling.specs.Laws.Planned.{both-drawn}
+use Rattle.sampling.proofs.Planned.{both-drawn}
 use Rattle.sampling.proofs.plan.two_plan.Statement.{statement}
 use Rattle.sampling.proofs.plan.two_plan.Tie as tie
 

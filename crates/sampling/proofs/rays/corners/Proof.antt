@@ -1,6 +1,6 @@
 -- `sampling::rays::corners` meets its contract: at each return, what the calls and the tests on the way to it say. Assumes nothing.
 use borrow.Author.Needs.{needs}
-use Rattle.sampling.specs.Laws.Asked.{none, then}
+use Rattle.sampling.proofs.Questions.{none, then}
 use Rattle.sampling.specs.Rays.{corners}
 use Rattle.sampling.proofs.rays.corners.Statement.{statement}
 use Rattle.sampling.proofs.rays.corners.Tie as tie

@@ -1,6 +1,6 @@
 -- `sampling::rays::poles` meets its contract: at each return, what the calls and the tests on the way to it say. Assumes nothing.
 use borrow.Author.Needs.{needs}
-use Rattle.sampling.specs.Laws.Pushed.{then}
+use Rattle.sampling.proofs.Pushed.{then}
 use Rattle.sampling.specs.Rays.{poles}
 use lib.Ieee.{ofBits}
 use Rattle.sampling.proofs.rays.poles.Statement.{statement}

@@ -1,6 +1,6 @@
 -- `sampling::rays::push` meets its contract: at each return, what the calls and the tests on the way to it say. Assumes nothing.
 use borrow.Author.Needs.{needs}
-use Rattle.sampling.specs.Laws.Pushed.{one}
+use Rattle.sampling.proofs.Pushed.{one}
 use Rattle.sampling.proofs.rays.push.Statement.{statement}
 use Rattle.sampling.proofs.rays.push.Tie as tie
 

@@ -1,7 +1,7 @@
 -- `sampling::rays::ray_angles` meets its contract: at each return, what the calls and the tests on the way to it say. Assumes nothing.
 use native.Mathlib.Omega.{arith}
 use borrow.Author.Needs.{needs}
-use Rattle.sampling.specs.Laws.Asked.{worked, asked-count, asked-length}
+use Rattle.sampling.proofs.Questions.{worked, asked-count, asked-length}
 use Rattle.sampling.proofs.rays.ray_angles.Statement.{statement}
 use Rattle.sampling.proofs.rays.ray_angles.Tie as tie
 

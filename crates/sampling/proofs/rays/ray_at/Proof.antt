@@ -1,6 +1,6 @@
 -- `sampling::rays::ray_at` meets its contract: at each return, what the calls and the tests on the way to it say. Assumes nothing.
 use borrow.Author.Needs.{needs}
-use Rattle.sampling.specs.Laws.Asked.{none}
+use Rattle.sampling.proofs.Questions.{none}
 use Rattle.sampling.specs.Rays.{ray-at}
 use Rattle.sampling.proofs.rays.ray_at.Statement.{statement}
 use Rattle.sampling.proofs.rays.ray_at.Tie as tie

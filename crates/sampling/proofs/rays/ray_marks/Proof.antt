@@ -1,6 +1,6 @@
 -- `sampling::rays::ray_marks` meets its contract: at each return, what the calls and the tests on the way to it say. Assumes nothing.
 use borrow.Author.Needs.{needs}
-use Rattle.sampling.specs.Laws.Asked.{none, then}
+use Rattle.sampling.proofs.Questions.{none, then}
 use Rattle.sampling.specs.Rays.{ray-marks}
 use Rattle.sampling.proofs.rays.ray_marks.Statement.{statement}
 use Rattle.sampling.proofs.rays.ray_marks.Tie as tie

@@ -1,6 +1,6 @@
 -- `sampling::rays::sixth_roots` meets its contract: at each return, what the calls and the tests on the way to it say. Assumes nothing.
 use borrow.Author.Needs.{needs}
-use Rattle.sampling.specs.Laws.Asked.{none, then}
+use Rattle.sampling.proofs.Questions.{none, then}
 use Rattle.sampling.specs.Rays.{sixth-roots}
 use Rattle.sampling.proofs.rays.sixth_roots.Statement.{statement}
 use Rattle.sampling.proofs.rays.sixth_roots.Tie as tie

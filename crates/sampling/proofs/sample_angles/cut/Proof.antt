@@ -3,7 +3,7 @@ use mathlib.Core.Path.{refl}
 use lib.Ieee.{ofBits}
 use borrow.Author.Needs.{needs}
 use Rattle.sampling.specs.SampleAngles.{hold, first-cuts, second-cuts, third-cuts, roots, intervals}
-use Rattle.sampling.specs.Laws.Cutting.{all-three}
+use Rattle.sampling.proofs.Cutting.{all-three}
 use Rattle.sampling.proofs.sample_angles.cut.Statement.{statement}
 use Rattle.sampling.proofs.sample_angles.cut.Tie as tie
 

@@ -6,7 +6,7 @@ use lib.ListN.{take}
 use lib.Ieee.{Float}
 use borrow.Author.Needs.{needs}
 use Rattle.sampling.specs.Samples.{interval-values, interval-cuts}
-use Rattle.sampling.specs.Laws.Cutting.{Laid, no-place-behind, laid-first, laid-next, laid-front, replaced, short-first, short-second, short-third, all-three}
+use Rattle.sampling.proofs.Cutting.{Laid, no-place-behind, laid-first, laid-next, laid-front, replaced, short-first, short-second, short-third, all-three}
 use Rattle.sampling.specs.declared.intervals.Range.{Range}
 use Rattle.sampling.proofs.sample_angles.cut_intervals.Statement.{statement}
 use Rattle.sampling.proofs.sample_angles.cut_intervals.Tie as tie

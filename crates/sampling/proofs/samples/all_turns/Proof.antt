@@ -5,8 +5,8 @@ use mathlib.Core.Path.{_≡_, refl, sym, subst₂, _∙_}
 use lib.ListN.{length, take}
 use lib.Seq.{slice}
 use borrow.Author.Needs.{needs}
-use Rattle.sampling.specs.Laws.Grown.{Leads, leads-all, leads-next, leads-end, from-number}
-use Rattle.sampling.specs.Grown.{Grown, counted}
+use Rattle.sampling.proofs.Grown.{Leads, leads-all, leads-next, leads-end, from-number}
+use Rattle.sampling.specs.Promises.Grown.{Grown, counted}
 use Rattle.polynomial.specs.declared.cuts.Put.{Put}
 use Rattle.sampling.specs.Laws.Samples.{turns-next, turns-end}
 use Rattle.sampling.specs.Samples as Of

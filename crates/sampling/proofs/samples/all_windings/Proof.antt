@@ -6,9 +6,9 @@ use mathlib.Core.List.{List}
 use lib.ListN.{take}
 use lib.Ieee.{Float}
 use borrow.Author.Needs.{needs}
-use Rattle.sampling.specs.Grown.{Grown, counted}
+use Rattle.sampling.specs.Promises.Grown.{Grown, counted}
 use Rattle.sampling.specs.Samples.{all-windings}
-use Rattle.sampling.specs.Laws.Grown.{none, then}
+use Rattle.sampling.proofs.Grown.{none, then}
 use Rattle.sampling.specs.Laws.Samples.{windings-more}
 use Rattle.sampling.proofs.samples.all_windings.Statement.{statement}
 use Rattle.sampling.proofs.samples.all_windings.Tie as tie

@@ -1,7 +1,7 @@
 -- `sampling::samples::interval_cuts` meets its contract: at each return, what the calls and the tests on the way to it say. Assumes nothing.
 use borrow.Author.Needs.{needs}
 use Rattle.polynomial.specs.Laws.Held.{kept-none}
-use Rattle.sampling.specs.Laws.Grown.{then, whole-counted}
+use Rattle.sampling.proofs.Grown.{then, whole-counted}
 use Rattle.sampling.specs.Samples.{interval-values}
 use Rattle.sampling.proofs.samples.interval_cuts.Statement.{statement}
 use Rattle.sampling.proofs.samples.interval_cuts.Tie as tie

@@ -1,7 +1,7 @@
 -- `sampling::samples::turns` meets its contract: at each return, what the calls and the tests on the way to it say. Assumes nothing.
 use lib.Ieee.{ofBits}
 use borrow.Author.Needs.{needs}
-use Rattle.sampling.specs.Laws.Grown.{then}
+use Rattle.sampling.proofs.Grown.{then}
 use Rattle.sampling.specs.Samples.{turns}
 use Rattle.sampling.proofs.samples.turns.Statement.{statement}
 use Rattle.sampling.proofs.samples.turns.Tie as tie

@@ -1,6 +1,6 @@
 -- `sampling::samples::windings` meets its contract: at each return, what the calls and the tests on the way to it say. Assumes nothing.
 use borrow.Author.Needs.{needs}
-use Rattle.sampling.specs.Laws.Grown.{none}
+use Rattle.sampling.proofs.Grown.{none}
 use Rattle.sampling.specs.Samples.{windings}
 use Rattle.sampling.proofs.samples.windings.Statement.{statement}
 use Rattle.sampling.proofs.samples.windings.Tie as tie

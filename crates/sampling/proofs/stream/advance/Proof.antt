@@ -13,7 +13,7 @@ use Rattle.float.specs.Number.{total-le}
 use Rattle.float.specs.Laws.Total.{total-le-total, total-le-trans, total-le-refl}
 use Rattle.float.specs.Laws.Tests.{ne-self, number-of}
 use Rattle.polynomial.specs.Laws.Held.{fit-of}
-use Rattle.sampling.specs.Stream.{weave, pending, stream}
+use Rattle.sampling.specs.Promises.Stream.{weave, pending, stream}
 use Rattle.sampling.specs.Laws.Weave.{weave-length}
 use Rattle.sampling.proofs.stream.Least.{head}
 use Rattle.sampling.proofs.stream.Heads.{Heads, number-index, first, second, third, done}

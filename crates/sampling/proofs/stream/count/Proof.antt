@@ -9,7 +9,7 @@ use lib.Ieee.{Float}
 use borrow.Author.Needs.{needs}
 use Rattle.sampling.specs.declared.stream.Cursor.{Cursor}
 use Rattle.sampling.specs.declared.stream.Step.{Step}
-use Rattle.sampling.specs.Stream.{distinct, start, Steps}
+use Rattle.sampling.specs.Promises.Stream.{distinct, start, Steps}
 use Rattle.sampling.specs.Laws.Slices.{distinct-few}
 use Rattle.sampling.proofs.stream.Turn.{turn-less}
 use Rattle.sampling.proofs.stream.count.Statement.{statement}

@@ -9,7 +9,7 @@ use borrow.Author.Needs.{needs}
 use Rattle.polynomial.specs.Cuts.{rest}
 use Rattle.sampling.specs.declared.stream.Cursor.{Cursor}
 use Rattle.sampling.specs.declared.stream.Step.{Step}
-use Rattle.sampling.specs.Stream.{stream, distinct, Steps}
+use Rattle.sampling.specs.Promises.Stream.{stream, distinct, Steps}
 use Rattle.sampling.proofs.stream.Turn.{rest-end, rest-skip, rest-keep, turn-less}
 use Rattle.sampling.proofs.stream.next.Statement.{statement}
 use Rattle.sampling.proofs.stream.next.Tie as tie

@@ -6,7 +6,7 @@ use lib.ListN.{List·getD-eq-default}
 use lib.Ieee.{nan}
 use borrow.Author.Needs.{needs}
 use Rattle.sampling.specs.Laws.Weave.{weave-length, weave-even, weave-odd, weave-past}
-use Rattle.sampling.specs.Stream.{weave}
+use Rattle.sampling.specs.Promises.Stream.{weave}
 use Rattle.sampling.proofs.stream.woven.Statement.{statement}
 use Rattle.sampling.proofs.stream.woven.Tie as tie
 

@@ -2,7 +2,7 @@
 use mathlib.Core.Path.{refl, sym, subst}
 use lib.Dec.{T}
 use borrow.Author.Needs.{needs}
-use Rattle.sampling.specs.Laws.Grown.{one, beyond}
+use Rattle.sampling.proofs.Grown.{one, beyond}
 use Rattle.sampling.proofs.work.push.Statement.{statement}
 use Rattle.sampling.proofs.work.push.Tie as tie
 

@@ -2,7 +2,7 @@
 use mathlib.Core.Path.{refl, sym, subst, _∙_}
 use lib.Dec.{T}
 use borrow.Author.Needs.{needs}
-use Rattle.sampling.specs.Laws.Grown.{one-beyond, one-put, one-full}
+use Rattle.sampling.proofs.Grown.{one-beyond, one-put, one-full}
 use Rattle.sampling.proofs.work.put_in.Statement.{statement}
 use Rattle.sampling.proofs.work.put_in.Tie as tie
 

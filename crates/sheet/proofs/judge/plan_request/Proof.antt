@@ -4,7 +4,7 @@ use mathlib.Core.Path.{subst⁻¹, _≡_}
 use lib.Dec.{eqb}
 use lib.ListN.{length}
 use borrow.Author.Needs.{needs}
-use Rattle.sampling.specs.Planned.{Moderate}
+use Rattle.sampling.specs.Promises.Planned.{Moderate}
 use Rattle.sampling.specs.declared.job.Job.{Job}
 use Rattle.sheet.specs.Laws.Judge.{passed-moderate, planned-for}
 use Rattle.sheet.proofs.judge.plan_request.Statement.{statement}

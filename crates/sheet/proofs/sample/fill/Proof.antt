@@ -1,8 +1,8 @@
 -- `sheet::sample::fill` meets its contract: at each return, what the calls and the tests on the way to it say. Assumes nothing.
 use native.Mathlib.Omega.{arith}
 use borrow.Author.Needs.{needs}
-use Rattle.sampling.specs.Plan.{to-come}
-use Rattle.sampling.specs.Stream.{start}
+use Rattle.sampling.specs.Promises.Plan.{to-come}
+use Rattle.sampling.specs.Promises.Stream.{start}
 use Rattle.sheet.specs.Laws.Sampling.{lay-sheet}
 use Rattle.sheet.proofs.sample.fill.Statement.{statement}
 use Rattle.sheet.proofs.sample.fill.Tie as tie

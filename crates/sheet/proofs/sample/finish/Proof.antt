@@ -3,8 +3,8 @@ use mathlib.Core.Path.{refl, sym, ap, _∙_}
 use lib.ListN.{length}
 use borrow.Author.Needs.{needs}
 use borrow.Author.Tests.{leb-true}
-use Rattle.sampling.specs.Plan.{to-come}
-use Rattle.sampling.specs.Stream.{start}
+use Rattle.sampling.specs.Promises.Plan.{to-come}
+use Rattle.sampling.specs.Promises.Stream.{start}
 use Rattle.sheet.specs.Laws.Judge.{late-refused, late-short, late-found, found-angles}
 use Rattle.sheet.specs.Laws.Sampling.{fit-yes, fit-no, sheet-stands}
 use Rattle.sheet.specs.Refusals.{Verdict, accepted}

@@ -4,8 +4,8 @@ use mathlib.Core.Path.{sym, ap, subst, _∙_}
 use lib.ListN.{length}
 use lib.Seq.{sets}
 use borrow.Author.Needs.{needs}
-use Rattle.sampling.specs.Stream.{start}
-use Rattle.sampling.specs.Plan.{to-come, Ready}
+use Rattle.sampling.specs.Promises.Stream.{start}
+use Rattle.sampling.specs.Promises.Plan.{to-come, Ready}
 use Rattle.sampling.specs.declared.plan.Plan.{Plan}
 use Rattle.sheet.specs.Bytes.{floats-bytes}
 use Rattle.sheet.proofs.sample.put_angles.Statement.{statement}

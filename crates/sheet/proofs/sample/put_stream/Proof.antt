@@ -7,8 +7,8 @@ use lib.ListN.{length}
 use lib.Seq.{sets}
 use lib.Ieee.{Float}
 use borrow.Author.Needs.{needs}
-use Rattle.sampling.specs.Stream.{start}
-use Rattle.sampling.specs.Plan.{to-come, Gives}
+use Rattle.sampling.specs.Promises.Stream.{start}
+use Rattle.sampling.specs.Promises.Plan.{to-come, Gives}
 use Rattle.sampling.specs.declared.stream.Cursor.{Cursor}
 use Rattle.sampling.specs.declared.stream.Step.{Step}
 use Rattle.sheet.specs.Bytes.{floats-bytes}

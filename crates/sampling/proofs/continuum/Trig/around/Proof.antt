@@ -1,6 +1,6 @@
 -- `sampling::continuum::Trig::around` meets its contract: at each return, what the calls and the tests on the way to it say. Assumes nothing.
 use borrow.Author.Needs.{needs}
-use Rattle.sampling.specs.Polar.{around}
+use Rattle.sampling.specs.Promises.Polar.{around}
 use Rattle.sampling.proofs.continuum.Trig.around.Statement.{statement}
 use Rattle.sampling.proofs.continuum.Trig.around.Tie as tie
 

@@ -6,7 +6,7 @@ use lib.Ieee.Scale.{finite}
 use borrow.Author.Needs.{needs}
 use Rattle.float.specs.Number.{_⊕_, _⊖_, abs, zero-float}
 use Rattle.sampling.specs.Continuum.{error}
-use Rattle.sampling.specs.Polar.{meets}
+use Rattle.sampling.specs.Promises.Polar.{meets}
 use Rattle.sampling.proofs.continuum.Trig.meets.Statement.{statement}
 use Rattle.sampling.proofs.continuum.Trig.meets.Tie as tie
 

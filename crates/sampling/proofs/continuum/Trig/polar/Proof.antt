@@ -1,6 +1,6 @@
 -- `sampling::continuum::Trig::polar` meets its contract: at each return, what the calls and the tests on the way to it say. Assumes nothing.
 use borrow.Author.Needs.{needs}
-use Rattle.sampling.specs.Polar.{polar}
+use Rattle.sampling.specs.Promises.Polar.{polar}
 use Rattle.sampling.proofs.continuum.Trig.polar.Statement.{statement}
 use Rattle.sampling.proofs.continuum.Trig.polar.Tie as tie
 

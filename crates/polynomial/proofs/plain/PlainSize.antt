@@ -10,16 +10,18 @@ use lib.Ieee.{Float, nan, inf, fin, binary64, fits, up, down, round, mul, le}
 use lib.Ieee.Fits.{down-pos}
 use lib.Ieee.Scale.{finite}
 use Rattle.float.specs.Number.{_⊗_, abs}
-use Rattle.float.specs.Laws.Le.{Le, le→Le, yes-of, round-plain}
+use Rattle.float.specs.Promises.Order.{Le}
+use Rattle.float.specs.Laws.Le.{le→Le, yes-of, round-plain}
 use Rattle.float.specs.Laws.Within.{Beyond, fits→held, plain-finite, round-beyond, beyond→Le}
 use Rattle.float.specs.Laws.Interval.{Le-trans}
 use Rattle.float.specs.Laws.Range.{abs-within}
 use Rattle.float.specs.Laws.Units.{Is, Le-Is}
-use Rattle.float.specs.Laws.Whole.{plus-units, minus-units, whole-is, power-is}
+use Rattle.float.specs.Promises.Order.{plus-units, minus-units}
+use Rattle.float.specs.Laws.Whole.{whole-is, power-is}
 use Rattle.float.specs.Laws.Close.{Close, Room, Product, W, mul-close, abs-units}
-use Rattle.polynomial.specs.Laws.PlainSteps.{Small}
-use Rattle.polynomial.specs.Laws.PlainProducts.{W-pos}
-use Rattle.polynomial.specs.Plain.{Tidy, largest, lift}
+use Rattle.polynomial.proofs.plain.PlainSteps.{Small}
+use Rattle.polynomial.proofs.plain.PlainProducts.{W-pos}
+use Rattle.polynomial.specs.Promises.Plain.{Tidy, largest, lift}
 use Rattle.polynomial.specs.declared.compensated.Compensated.{Compensated}
 
 -- the units of 2 ^ 500

@@ -6,7 +6,7 @@ use lib.IntN.{pos}
 use lib.Ieee.{Float, fin, binary64, units}
 use lib.Ieee.Exact.{HasValue}
 use lib.Ieee.Nearest.{closest}
-use Rattle.float.specs.Jam.{jam}
+use Rattle.float.specs.Promises.Jam.{jam}
 
 -- x is q * 2 ^ k units, negative where `neg`: q has 53 digits at most, and all of them where k is above 0
 pub record Splits (x : Float) (neg : Bool) (q k : ℕ) : Type 0 where

@@ -4,7 +4,7 @@ use mathlib.Core.Bool.{Bool, true, false}
 use mathlib.Core.List.{List}
 use lib.ListN.{length}
 use lib.Ieee.{Float}
-use Rattle.sampling.specs.Planned.{Planned, Outcome, refused, short, found}
+use Rattle.sampling.specs.Promises.Planned.{Planned, Outcome, refused, short, found}
 use Rattle.sampling.specs.declared.plan.Plan.{Plan}
 use Rattle.sheet.specs.Fields.{job-of, rotation-of, matrix}
 use Rattle.sheet.specs.declared.tests.Early.{Early}

@@ -7,7 +7,7 @@ use lib.Dec.{T}
 use lib.ListN.{length, take, drop}
 use lib.Ieee.{Float, isNan}
 use Rattle.sampling.specs.Samples.{three-samples}
-use Rattle.sampling.specs.Stream.{distinct, Woven}
+use Rattle.sampling.specs.Promises.Stream.{distinct, Woven}
 use Rattle.sampling.specs.declared.lists.Lists.{Lists}
 use Rattle.sampling.specs.declared.plan.Halves.{Halves}
 use Rattle.sampling.specs.declared.plan.Plan.{Plan}

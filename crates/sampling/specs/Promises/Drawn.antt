@@ -7,9 +7,9 @@ use lib.Dec.{T, leb}
 use lib.Ieee.{Float, isNan}
 use Rattle.sampling.specs.J1j2free.{first-half, second-half}
 use Rattle.sampling.specs.Slices.{slices}
-use Rattle.sampling.specs.Stream.{distinct, start, Woven}
-use Rattle.sampling.specs.Plan.{to-come, Ready}
-use Rattle.sampling.specs.Planned.{refused, short, found, came}
+use Rattle.sampling.specs.Promises.Stream.{distinct, start, Woven}
+use Rattle.sampling.specs.Promises.Plan.{to-come, Ready}
+use Rattle.sampling.specs.Promises.Planned.{refused, short, found, came}
 use Rattle.sampling.specs.declared.intervals.Range.the-variants.{Between}
 use Rattle.sampling.specs.declared.j1j2free.Folded.{Folded}
 use Rattle.sampling.specs.declared.plan.Plan.{Plan}

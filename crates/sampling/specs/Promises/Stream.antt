@@ -7,8 +7,8 @@ use lib.Dec.{T}
 use lib.Ieee.{Float, nan, isNan}
 use Rattle.float.specs.Number.{middle}
 use Rattle.polynomial.specs.Cuts.{sort, rest}
-use Rattle.polynomial.specs.Laws.Cuts.{Sorted}
-use Rattle.polynomial.specs.Laws.Lists.{All}
+use Rattle.polynomial.specs.Promises.Lists.{Sorted}
+use Rattle.polynomial.specs.Promises.Lists.{All}
 use Rattle.sampling.specs.declared.stream.Cursor.{Cursor}
 use Rattle.sampling.specs.declared.stream.Step.{Step}
 use Rattle.sampling.specs.declared.stream.Step.the-variants.{Yield, Done}

@@ -10,10 +10,11 @@ use lib.ListN.{length}
 use lib.Ieee.{Float, binary64, fits}
 use Rattle.polynomial.specs.declared.cuts.Put.{Put}
 use Rattle.polynomial.specs.declared.cuts.Put.the-variants.{Count, Full}
-use Rattle.polynomial.specs.Insert.{grown, putAnswer, putRoom, pushAnswer, pushRoom}
+use Rattle.polynomial.specs.Promises.Insert.{grown, putAnswer, putRoom, pushAnswer, pushRoom}
 use Rattle.polynomial.specs.Laws.Cuts.{fit-append}
-use Rattle.polynomial.specs.Laws.Held.{Kept, kept-none, kept-within, kept-push}
-use Rattle.sampling.specs.Grown.{Grown, counted, number}
+use Rattle.polynomial.specs.Promises.Held.{Kept}
+use Rattle.polynomial.specs.Laws.Held.{kept-none, kept-within, kept-push}
+use Rattle.sampling.specs.Promises.Grown.{Grown, counted, number}
 
 pub none : {a : List Float} {s : Put} → Grown [] a s a s
 none {a} {s} = record { fit = tt; same = refl; kept = λ before w f k. subst (λ (z : List Float). Kept z w a s) (sym (append-nil before)) k }

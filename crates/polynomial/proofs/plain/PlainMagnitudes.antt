@@ -10,8 +10,8 @@ use Rattle.float.specs.Laws.Units.{Is}
 use Rattle.float.specs.Laws.Whole.{whole-is}
 use Rattle.float.specs.Laws.Close.{Close, Room, W, abs-units}
 use Rattle.polynomial.specs.Polynomial.{roundoff}
-use Rattle.polynomial.specs.Laws.PlainSteps.{Small, close-to, add-to}
-use Rattle.polynomial.specs.Laws.PlainProducts.{multiplied}
+use Rattle.polynomial.proofs.plain.PlainSteps.{Small, close-to, add-to}
+use Rattle.polynomial.proofs.plain.PlainProducts.{multiplied}
 
 pub abs-close : (x : Float) (e : ℕ) → Close x 0 0 e → Close (abs x) 0 0 e
 abs-close x e c = let a = abs-units (c .r) (c .s) (c .is) in record { r = a .0; s = 0; is = a .1; over = go (a .0) (a .4); under = omega arith }

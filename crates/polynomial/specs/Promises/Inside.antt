@@ -5,8 +5,8 @@ use mathlib.Core.List.{List, [], _∷_}
 use mathlib.Core.Bool.{Bool, not, Bool·beq, cond}
 use lib.Ieee.{Float, binary64, eq}
 use Rattle.float.specs.Number.{negative, middle, zero-float}
-use Rattle.float.specs.Laws.Whole.{width}
-use Rattle.float.specs.Laws.Middle.{Span}
+use Rattle.float.specs.Promises.Order.{width}
+use Rattle.float.specs.Promises.Order.{Span}
 use Rattle.polynomial.specs.Cuts.{put}
 use Rattle.polynomial.specs.Polynomial.{near-zero}
 use Rattle.polynomial.specs.Roots.{crosses, bisected}

@@ -6,8 +6,8 @@ use Prim.Native.Nat.{ℕ, _+_}
 use lib.Dec.{leb}
 use lib.ListN.{length}
 use lib.Ieee.{Float}
-use Rattle.polynomial.specs.Laws.Cuts.{Fit}
-use Rattle.polynomial.specs.Laws.Held.{Kept}
+use Rattle.polynomial.specs.Promises.Lists.{Fit}
+use Rattle.polynomial.specs.Promises.Held.{Kept}
 use Rattle.polynomial.specs.declared.cuts.Put.{Put}
 use Rattle.polynomial.specs.declared.cuts.Put.the-variants.{Count, Full}
 

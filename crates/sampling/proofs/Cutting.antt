@@ -12,9 +12,10 @@ use lib.Ieee.{Float}
 use Rattle.polynomial.specs.declared.cuts.Put.{Put}
 use Rattle.polynomial.specs.declared.cuts.Put.the-variants.{Count, Full}
 use Rattle.polynomial.specs.Cuts.{cuts}
-use Rattle.polynomial.specs.Laws.Held.{Kept, kept-full}
+use Rattle.polynomial.specs.Promises.Held.{Kept}
+use Rattle.polynomial.specs.Laws.Held.{kept-full}
 use Rattle.polynomial.specs.Laws.Lists.{tail-part, tail-post}
-use Rattle.sampling.specs.Cutting.{cutting}
+use Rattle.sampling.specs.Promises.Cutting.{cutting}
 use Rattle.sampling.specs.declared.sample_angles.Cutting.the-variants.{Short, Cuts}
 
 -- the first n places of r hold l, and the others are as in w

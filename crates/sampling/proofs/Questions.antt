@@ -6,10 +6,10 @@ use mathlib.Core.List.{List, [], _∷_, _++_, append-assoc, append-nil}
 use lib.ListN.{length, take, drop, getD, length-append, take-append-drop}
 use lib.Seq.{length-take-le, take-at, take-take, drop-drop, drop-cons}
 use lib.Ieee.{Float, nan}
-use Rattle.sampling.specs.Pushed.{Pushed}
-use Rattle.sampling.specs.Asked.{Asked, answer, answered, listed}
+use Rattle.sampling.specs.Promises.Pushed.{Pushed}
+use Rattle.sampling.specs.Promises.Asked.{Asked, answer, answered, listed}
 use Rattle.sampling.specs.declared.asked.Question.{Question}
-use Rattle.sampling.specs.Laws.Pushed as pushed
+use Rattle.sampling.proofs.Pushed as pushed
 
 pub none : (k n : ℕ) (a : List Float) → Asked k [] n a n a
 none k n a = record { asks = []; count = omega arith; front = sym (append-nil (take n a)); most = omega arith; answers = λ rest. refl }

@@ -11,7 +11,7 @@ use Rattle.float.specs.Number.{_⊗_}
 use Rattle.float.specs.ProductError.{product-error}
 use Rattle.float.specs.Laws.Units.{Is}
 use Rattle.float.specs.Laws.Close.{Close, Room, Product, W, mul-close, error-close}
-use Rattle.polynomial.specs.Laws.PlainSteps.{Small, Apart}
+use Rattle.polynomial.proofs.plain.PlainSteps.{Small, Apart}
 
 pub W-pos : 0 < W
 unfolding W

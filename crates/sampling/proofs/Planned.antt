@@ -13,16 +13,16 @@ use lib.Ieee.Fits.{add-fits}
 use Rattle.float.specs.Number.{_⊖_, _⊘_, middle, two-float}
 use Rattle.float.specs.Laws.Tests.{finite-number}
 use Rattle.sampling.specs.Angles as Of
-use Rattle.sampling.specs.Cutting as Cuts
-use Rattle.sampling.specs.Drawn.{Drawn, Streams, Streamed}
-use Rattle.sampling.specs.Halving as Halves
+use Rattle.sampling.specs.Promises.Cutting as Cuts
+use Rattle.sampling.specs.Promises.Drawn.{Drawn, Streams, Streamed}
+use Rattle.sampling.specs.Promises.Halving as Halves
 use Rattle.sampling.specs.J1j2free as Two
-use Rattle.sampling.specs.Plan.{of-cutting, of-halving}
-use Rattle.sampling.specs.Planned.{Moderate, Outcome, refused, short, found, outcome, Planned}
+use Rattle.sampling.specs.Promises.Plan.{of-cutting, of-halving}
+use Rattle.sampling.specs.Promises.Planned.{Moderate, Outcome, refused, short, found, outcome, Planned}
 use Rattle.sampling.specs.SampleAngles as One
 use Rattle.sampling.specs.Samples.{three-samples}
 use Rattle.sampling.specs.Slices.{slices}
-use Rattle.sampling.specs.Stream.{distinct, start, Woven}
+use Rattle.sampling.specs.Promises.Stream.{distinct, start, Woven}
 use Rattle.sampling.specs.Laws.J1j2free.{half-fit, half-cuts-are}
 use Rattle.sampling.specs.Laws.Limits.{Ends, limits-ends}
 use Rattle.sampling.specs.Laws.Reference.{reference-fits, reference-number}

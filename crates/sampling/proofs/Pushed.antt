@@ -6,7 +6,7 @@ use native.Mathlib.Omega.{arith}
 use native.Mathlib.Numerals.{add-one}
 use lib.ListN.{length, take, drop, set, length-append}
 use lib.Seq.{length-take-le, take-at, drop-at, take-suc-set, drop-set-lt, drop-drop}
-use Rattle.sampling.specs.Pushed.{Pushed}
+use Rattle.sampling.specs.Promises.Pushed.{Pushed}
 
 pub none : {A : Type 0} (k n : ℕ) (a : List A) → Pushed k [] n a n a
 none k n a = record { count = omega arith; front = sym (append-nil (take n a)); rest = refl; most = omega arith }

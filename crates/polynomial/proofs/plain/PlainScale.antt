@@ -7,13 +7,14 @@ use lib.Dec.{T, lit<, lit≤}
 use lib.Ieee.{Float, binary64, add, le}
 use lib.Ieee.Scale.{finite}
 use Rattle.float.specs.Number.{_⊕_, _⊗_, zero-float}
-use Rattle.float.specs.Laws.Le.{Le, le→Le, add-mono}
+use Rattle.float.specs.Promises.Order.{Le}
+use Rattle.float.specs.Laws.Le.{le→Le, add-mono}
 use Rattle.float.specs.Laws.Grow.{mul-plus}
 use Rattle.float.specs.Laws.Units.{Is, Is-shift, Is-Le, Le-Is}
 use Rattle.float.specs.Laws.Close.{Close, Product, W, mul-close, close-add, close-self}
-use Rattle.polynomial.specs.Laws.PlainProducts.{W-pos}
-use Rattle.polynomial.specs.Laws.PlainStep.{zero-is}
-use Rattle.polynomial.specs.Laws.PlainSize.{most, most-two, room}
+use Rattle.polynomial.proofs.plain.PlainProducts.{W-pos}
+use Rattle.polynomial.proofs.plain.PlainStep.{zero-is}
+use Rattle.polynomial.proofs.plain.PlainSize.{most, most-two, room}
 
 -- ---- what is not negative is a count of units
 not-negative : (x : Float) (k : ℕ) → Is binary64 x k 0 0 → Le zero-float x

@@ -8,11 +8,11 @@ use lib.Dec.{T, leb}
 use lib.Ieee.{Float, neg}
 use lib.Ieee.Scale.{finite}
 use Rattle.float.specs.Number.{one-float}
-use Rattle.float.specs.Laws.Within.{Within}
+use Rattle.float.specs.Promises.Order.{Within}
 use Rattle.polynomial.specs.Angle.{turn}
 use Rattle.sampling.specs.Angles.{angles, cut-count, hold}
-use Rattle.sampling.specs.Stream.{start}
-use Rattle.sampling.specs.Plan.{to-come, Ready}
+use Rattle.sampling.specs.Promises.Stream.{start}
+use Rattle.sampling.specs.Promises.Plan.{to-come, Ready}
 use Rattle.sampling.specs.declared.job.Job.{Job}
 use Rattle.sampling.specs.declared.job.Joint.{Joint}
 use Rattle.sampling.specs.declared.pose.Matrix.{Matrix}

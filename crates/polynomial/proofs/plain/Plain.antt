@@ -16,17 +16,18 @@ use Rattle.float.specs.Number.{_⊗_, abs, one-float}
 use Rattle.float.specs.Laws.Le.{le→Le, yes-of}
 use Rattle.float.specs.Laws.Range.{abs-within, lt→Le}
 use Rattle.float.specs.Laws.Units.{Is, Is-neg, Le-Is}
-use Rattle.float.specs.Laws.Whole.{plus-units, minus-units, whole-is, power-is}
+use Rattle.float.specs.Promises.Order.{plus-units, minus-units}
+use Rattle.float.specs.Laws.Whole.{whole-is, power-is}
 use Rattle.float.specs.Laws.Close.{Close, Room, Product, W, close-self, mul-close, abs-units, close-positive, close-negative}
 use Rattle.polynomial.specs.Compensated.{value}
 use Rattle.polynomial.specs.Polynomial.{horner, evaluate, magnitudes, roundoff, value-near, near-zero}
-use Rattle.polynomial.specs.Plain.{plain, scale, least, margin, AllTidy, Signed}
-use Rattle.polynomial.specs.Laws.PlainSteps.{Small, close-to, add-to}
-use Rattle.polynomial.specs.Laws.PlainProducts.{W-pos}
-use Rattle.polynomial.specs.Laws.PlainStep.{Near, zero-is, step}
-use Rattle.polynomial.specs.Laws.PlainSize.{Sized, tidy-sized, most, most-two, room}
-use Rattle.polynomial.specs.Laws.PlainScale.{Grown, quotient, grown}
-use Rattle.polynomial.specs.Laws.PlainMagnitudes.{abs-close, magnitudes-step, bound-close}
+use Rattle.polynomial.specs.Promises.Plain.{plain, scale, least, margin, AllTidy, Signed}
+use Rattle.polynomial.proofs.plain.PlainSteps.{Small, close-to, add-to}
+use Rattle.polynomial.proofs.plain.PlainProducts.{W-pos}
+use Rattle.polynomial.proofs.plain.PlainStep.{Near, zero-is, step}
+use Rattle.polynomial.proofs.plain.PlainSize.{Sized, tidy-sized, most, most-two, room}
+use Rattle.polynomial.proofs.plain.PlainScale.{Grown, quotient, grown}
+use Rattle.polynomial.proofs.plain.PlainMagnitudes.{abs-close, magnitudes-step, bound-close}
 use Rattle.polynomial.specs.declared.compensated.Compensated.{Compensated}
 
 -- ---- the point

@@ -8,8 +8,8 @@ use Rattle.float.specs.Laws.Units.{Is}
 use Rattle.float.specs.Laws.Whole.{whole-is}
 use Rattle.float.specs.Laws.Close.{Close, Room, W, close-self}
 use Rattle.polynomial.specs.Compensated.{from, plus, times}
-use Rattle.polynomial.specs.Laws.PlainSteps.{Small, Apart, Sum, Parts, close-to, add-to, plus-parts, times-parts}
-use Rattle.polynomial.specs.Laws.PlainProducts.{Multiplied, multiplied, products-apart}
+use Rattle.polynomial.proofs.plain.PlainSteps.{Small, Apart, Sum, Parts, close-to, add-to, plus-parts, times-parts}
+use Rattle.polynomial.proofs.plain.PlainProducts.{Multiplied, multiplied, products-apart}
 use Rattle.polynomial.specs.declared.compensated.Compensated.{Compensated}
 
 pub zero-is : Is binary64 zero-float 0 0 0

@@ -17,9 +17,9 @@ use Rattle.polynomial.specs.declared.curve.Curve.{Curve}
 use Rattle.polynomial.specs.declared.cuts.Put.{Put}
 use Rattle.polynomial.specs.declared.curve.Numerators.{Numerators}
 use Rattle.sampling.specs.CriticalSlices.{angles, chart-roots, chart-holds, Polynomials, polynomials, tangency, intersection, meetings, meetings-hold, critical, critical-holds}
-use Rattle.sampling.specs.Grown.{Grown}
-use Rattle.sampling.specs.Laws.Grown.{then}
-use Rattle.sampling.specs.Numerators.{first-three}
+use Rattle.sampling.specs.Promises.Grown.{Grown}
+use Rattle.sampling.proofs.Grown.{then}
+use Rattle.sampling.specs.Promises.Numerators.{first-three}
 use Rattle.sampling.specs.declared.critical_slices.Chart.{Chart}
 
 module _ (origin : Float) (l : List Float) (i n : ℕ) where

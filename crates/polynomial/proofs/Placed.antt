@@ -17,7 +17,7 @@ use Rattle.polynomial.specs.declared.cuts.Put.the-variants.{Count, Full}
 use Rattle.float.specs.Number.{total-le}
 use Rattle.polynomial.specs.Cuts.{put}
 use Rattle.float.specs.Laws.Total.{eq-comm}
-use Rattle.polynomial.specs.Insert.{passed, grown, putAnswer, putRoom, Found}
+use Rattle.polynomial.specs.Promises.Insert.{passed, grown, putAnswer, putRoom, Found}
 
 or-left : (a b : Bool) → a || b ≡ false → a ≡ false
 or-left true b e = e

@@ -1,0 +1,3 @@
+-- Computed examples: `Worked` (fused product and square root by bits), `Constants` (the bits of 01's constants).
+mod Worked
+mod Constants

@@ -1,0 +1,2 @@
+-- What the proofs of several functions share: `Placed` (a list in a lent slice).
+mod Placed
