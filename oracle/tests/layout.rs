@@ -1,29 +1,42 @@
 //! The layout of a crate's `specs/` shows what a reader must believe: a file
 //! beside `Lib.antt` holds definitions, and imports files of definitions alone,
 //! so that nothing of a promise, an example or a law hides in what is believed.
+//! `docs/TRUST.md` lists the files that the operations' contracts reach.
 
+use std::collections::{BTreeMap, BTreeSet};
 use std::fs;
 use std::path::{Path, PathBuf};
 
 /// Folders of `specs/` that hold no definition to be believed.
 const BESIDE: [&str; 3] = ["Promises", "Examples", "Laws"];
 
-fn crates() -> PathBuf {
-    Path::new(env!("CARGO_MANIFEST_DIR")).join("../crates")
+/// The operations: crate, file and function.
+const OPERATIONS: [(&str, &str, &str); 3] = [
+    ("polynomial", "operation", "roots"),
+    ("sheet", "sample", "sample"),
+    ("sheet", "check", "check"),
+];
+
+fn root() -> PathBuf {
+    Path::new(env!("CARGO_MANIFEST_DIR")).join("..")
+}
+
+fn text(path: &Path) -> String {
+    fs::read_to_string(path).unwrap_or_else(|e| panic!("{}: {e}", path.display()))
 }
 
 /// The files of definitions: those in `specs/` itself but for its root and the folders' roots.
 fn definitions() -> Vec<PathBuf> {
     let mut found = Vec::new();
-    for entry in fs::read_dir(crates()).expect("the crates") {
+    for entry in fs::read_dir(root().join("crates")).expect("the crates") {
         let Ok(specs) = fs::read_dir(entry.expect("a crate").path().join("specs")) else {
             continue;
         };
         for file in specs {
             let path = file.expect("a file").path();
             let name = path.file_stem().expect("a name").to_string_lossy().into_owned();
-            let root = name == "Lib" || BESIDE.contains(&name.as_str());
-            if path.extension().is_some_and(|e| e == "antt") && !root {
+            let folder = name == "Lib" || BESIDE.contains(&name.as_str());
+            if path.extension().is_some_and(|e| e == "antt") && !folder {
                 found.push(path);
             }
         }
@@ -35,9 +48,7 @@ fn definitions() -> Vec<PathBuf> {
 /// Whether a line imports from a folder that is not to be believed.
 fn leaves(line: &str) -> bool {
     line.trim_start().starts_with("use ")
-        && BESIDE.iter().any(|folder| {
-            line.contains(&format!("specs.{folder}."))
-        })
+        && BESIDE.iter().any(|folder| line.contains(&format!("specs.{folder}.")))
 }
 
 #[test]
@@ -46,8 +57,7 @@ fn definitions_import_definitions_alone() {
     assert!(files.len() > 30, "only {} files of definitions", files.len());
     let mut wrong = Vec::new();
     for file in &files {
-        let text = fs::read_to_string(file).expect("a text");
-        for line in text.lines().filter(|line| leaves(line)) {
+        for line in text(file).lines().filter(|line| leaves(line)) {
             wrong.push(format!("{}: {line}", file.display()));
         }
     }
@@ -59,4 +69,70 @@ fn an_import_from_a_law_is_seen() {
     assert!(leaves("use Rattle.float.specs.Laws.Within.{Within}"));
     assert!(leaves("use Rattle.sampling.specs.Promises.Plan as Plan"));
     assert!(!leaves("use Rattle.float.specs.Number.{abs}"));
+}
+
+/// The crate and the file's name, for an import of another file of `specs/`; none for the types that
+/// the code declares, and for the logic's own libraries.
+fn imported(line: &str) -> Option<(String, String)> {
+    let rest = line.split("Rattle·").nth(1)?;
+    let name = rest.split(['·', '.']).next()?;
+    let path = rest.split("specs.").last()?;
+    let path = path.split([' ', '{', ';']).next()?.trim_end_matches('.');
+    let file = path.replace('.', "/");
+    let declared = file.starts_with("declared");
+    (!declared).then(|| (name.to_string(), file))
+}
+
+/// The imports that the contract of a public function names.
+fn named(name: &str, file: &str, function: &str) -> Vec<(String, String)> {
+    let text = text(&root().join(format!("crates/{name}/src/{file}.rt")));
+    let at = text.find(&format!("pub fn {function}(")).expect("the operation");
+    let end = text[at..].find("\n{").expect("its body") + at;
+    let contract = &text[at..end];
+    let ghosts = text.lines().filter_map(|line| line.strip_prefix("ghost use "));
+    let cited = |line: &&str| match line.split_once(" as ") {
+        Some((_, short)) => contract.contains(&format!("{}.", short.trim_end_matches(';'))),
+        None => line
+            .split(['{', '}'])
+            .nth(1)
+            .is_some_and(|names| names.split(", ").any(|word| contract.contains(word))),
+    };
+    ghosts.filter(cited).filter_map(imported).collect()
+}
+
+/// The files that the operations' contracts reach, with their lines, by crate.
+fn reached() -> BTreeMap<String, BTreeMap<String, usize>> {
+    let mut waiting: Vec<_> = OPERATIONS.iter().flat_map(|&(c, f, o)| named(c, f, o)).collect();
+    let mut seen = BTreeSet::new();
+    let mut found: BTreeMap<String, BTreeMap<String, usize>> = BTreeMap::new();
+    while let Some((name, file)) = waiting.pop() {
+        if !seen.insert((name.clone(), file.clone())) {
+            continue;
+        }
+        let text = text(&root().join(format!("crates/{name}/specs/{file}.antt")));
+        waiting.extend(text.lines().filter(|line| line.starts_with("use ")).filter_map(imported));
+        found.entry(name).or_default().insert(file, text.lines().count());
+    }
+    found
+}
+
+/// The rows of the table in `docs/TRUST.md`: crate, files, lines, names.
+fn rows() -> Vec<String> {
+    reached()
+        .iter()
+        .map(|(name, files)| {
+            let lines: usize = files.values().sum();
+            let names: Vec<_> = files.keys().map(|file| format!("`{file}`")).collect();
+            format!("| `{name}` | {} | {lines} | {} |", files.len(), names.join(", "))
+        })
+        .collect()
+}
+
+#[test]
+fn trust_lists_what_the_contracts_reach() {
+    let rows = rows();
+    assert!(rows.len() == 4, "{} crates", rows.len());
+    let trust = text(&root().join("docs/TRUST.md"));
+    let missing: Vec<_> = rows.iter().filter(|row| !trust.contains(row.as_str())).cloned().collect();
+    assert!(missing.is_empty(), "docs/TRUST.md should say\n{}", missing.join("\n"));
 }
