@@ -1,5 +1,5 @@
 //! The archive that a supplier links asks for nothing but `memcpy` and `memset`.
-//! It is there after `rt staticlib lemongully`; without it there is nothing to look at.
+//! Runs with the feature `linked`, after `rt staticlib lemongully`.
 
 use std::collections::BTreeSet;
 use std::path::Path;
@@ -8,10 +8,7 @@ use std::process::Command;
 #[test]
 fn the_archive_asks_for_memcpy_and_memset_alone() {
     let archive = Path::new(env!("CARGO_MANIFEST_DIR")).join("../target/staticlib/liblemongully.a");
-    if !archive.exists() {
-        eprintln!("no archive: run `rt staticlib lemongully` first");
-        return;
-    }
+    assert!(archive.exists(), "run `rt staticlib lemongully` first");
     let output = Command::new("nm").arg("-u").arg(&archive).output().expect("nm runs");
     let names: BTreeSet<_> = String::from_utf8_lossy(&output.stdout)
         .lines()
