@@ -75,6 +75,67 @@ fn float_runs(count: u64, seed: u64) -> Vec<Run> {
     FUNCTIONS.iter().map(run).collect()
 }
 
+/// A pair for the remainder: exponents that lie far apart or close together, subnormals, multiples of
+/// the modulus and their neighbours, the modulus 2P; both signs everywhere.
+fn remainder_pair(random: &mut Random) -> [u64; 2] {
+    const SIGN: u64 = 1 << 63;
+    const DIGITS: u64 = (1 << 52) - 1;
+    const TWO_P: u64 = 0x401921FB54442D18;
+    let number = |random: &mut Random, exponent: u64| {
+        (random.bits() & (SIGN | DIGITS)) | (exponent.min(2046) << 52)
+    };
+    let near = |random: &mut Random, m: u64| {
+        let times = (1 + random.below(1 << 20)) as f64;
+        let x = f64::from_bits(m & !SIGN) * times;
+        (x.to_bits() + random.below(3) as u64).wrapping_sub(1) ^ (random.bits() & SIGN)
+    };
+    let m = match random.below(4) {
+        0 => TWO_P | (random.bits() & SIGN),
+        1 => number(random, 0),
+        _ => {
+            let exponent = random.below(2047) as u64;
+            number(random, exponent)
+        }
+    };
+    let place = (m >> 52) & 2047;
+    let x = match random.below(4) {
+        0 => near(random, m),
+        1 => {
+            let exponent = place + random.below(60) as u64;
+            number(random, exponent)
+        }
+        2 => number(random, 0),
+        _ => {
+            let exponent = random.below(2047) as u64;
+            number(random, exponent)
+        }
+    };
+    [x, m]
+}
+
+/// The section `remainder`: `rem_euclid` alone, on pairs that are hard for a remainder.
+fn remainder_runs(count: u64, seed: u64) -> Vec<Run> {
+    let mut random = Random::new(seed, 0);
+    let (mut differences, mut first) = (0, None);
+    for _ in 0..count {
+        let [x, m] = remainder_pair(&mut random);
+        let expected = lemongully_oracle::float::rem_euclid(f64::from_bits(x), f64::from_bits(m));
+        let (expected, found) = (expected.to_bits(), linked::float::rem_euclid(x, m));
+        if expected != found {
+            differences += 1;
+            first.get_or_insert_with(|| {
+                format!("{x:016X} {m:016X}: {expected:016X}, linked {found:016X}")
+            });
+        }
+    }
+    vec![Run {
+        name: "remainder",
+        inputs: count,
+        differences,
+        first,
+    }]
+}
+
 /// The section `polynomial`: the operation Roots, its answer and every place of
 /// the result slice, which holds rubbish beforehand.
 fn polynomial_runs(count: u64, seed: u64) -> Vec<Run> {
@@ -241,6 +302,7 @@ fn section(arguments: &[String]) -> Option<Vec<Run>> {
     };
     match section.as_str() {
         "float" => Some(float_runs(count, seed)),
+        "remainder" => Some(remainder_runs(count, seed)),
         "polynomial" => Some(polynomial_runs(count, seed)),
         "sampling" => Some(sampling_runs(count, seed)),
         "one" => Some(vec![
@@ -259,7 +321,7 @@ fn section(arguments: &[String]) -> Option<Vec<Run>> {
 fn main() -> ExitCode {
     let arguments: Vec<String> = std::env::args().skip(1).collect();
     let Some(runs) = section(&arguments) else {
-        eprintln!("differential float|polynomial|sampling|one|two COUNT [SEED]");
+        eprintln!("differential float|remainder|polynomial|sampling|one|two COUNT [SEED]");
         return ExitCode::FAILURE;
     };
     for run in &runs {
