@@ -5,6 +5,7 @@ ghost use mathlib.Core.Bool.{not};
 ghost use lib.Ieee.{binary64, toBits, ofBits};
 ghost use lib.Ieee.Scale.{finite};
 ghost use Rattle.float.specs.Number as Number;
+use crate::remainder::remainder;
 
 // The bits of x. `f64::to_bits` is not defined at a NaN, whose bits are 7FF8000000000000.
 pub fn bits(x: f64) -> u64
@@ -73,7 +74,7 @@ pub fn total_le(x: f64, y: f64) -> bool
 pub fn rem_euclid(x: f64, m: f64) -> f64
     ensures { λ r. ⌜ r ≡ Number.rem-euclid x m ⌝ }
 {
-    let r = x % m;
+    let r = remainder(x, m);
     if r < 0.0 {
         return r + abs(m);
     }
