@@ -44,14 +44,11 @@ pub fn is_sign_positive(x: f64) -> bool
     f64::to_bits(x) < 0x8000_0000_0000_0000
 }
 
-// The magnitude of x.
+// The magnitude of x, with no branch: 0 - x is +0.0 at either zero.
 pub fn abs(x: f64) -> f64
     ensures { λ r. ⌜ r ≡ Number.abs x ⌝ }
 {
-    if is_sign_positive(x) {
-        return x;
-    }
-    -x
+    if x <= 0.0 { 0.0 - x } else { x }
 }
 
 // Whether x does not come after y in the order of `total_cmp`.

@@ -1,10 +1,10 @@
 -- `rem` where no division is needed: an operand that is not finite, a zero divisor, a dividend smaller than the divisor, or smaller than twice it.
-use mathlib.Core.Path.{_≡_, refl, sym, ap, _∙_, subst}
-use mathlib.Core.Logic.{_⊎_, inl, inr}
-use mathlib.Core.Bool.{Bool, true, false, not, _&&_, cond, true≢false, false≢true}
 use Prim.Native.Nat.{ℕ, zero, suc, _+_, _-_, _*_, _/_, _%_, _^_, _≤_, _<_}
 use native.Mathlib.Nat.{le-trans, le-of-eq, lt-of-lt-of-le, lt-of-le-of-lt, lt-of-not-le, le-of-suc-le-suc, not-le-of-lt, zero-mul, mul-one, mul-pos, mul-le-mul-right, mul-lt-mul-of-pos-right, le-of-mul-le-mul-right, lt-of-mul-lt-mul-right, mod-eq-of-lt, mod-eq-sub-mod}
 use native.Mathlib.Omega.{arith}
+use mathlib.Core.Path.{_≡_, refl, sym, ap, _∙_, subst}
+use mathlib.Core.Logic.{_⊎_, inl, inr}
+use mathlib.Core.Bool.{Bool, true, false, not, _&&_, cond, true≢false, false≢true}
 use lib.IntN.{ℤ, pos}
 use lib.Dec.{T, ltb, eqb}
 use lib.Pow.{pow-pos}
@@ -64,7 +64,8 @@ second-zero nan m g h z = absurd g
 second-zero (inf s) m g h z = absurd g
 second-zero (fin s n e) nan g h z = absurd h
 second-zero (fin s n e) (inf t) g h z = absurd h
-second-zero (fin s n e) (fin t k d) g h z = sym (ap (λ (y : ℕ). cond (eqb y 0) nan (round binary64 s (n * up e * down d % (k * up d * down e)) (down e * down d))) (zero-of t k d z))
+second-zero (fin s n e) (fin t k d) g h z =
+    sym (ap (λ (y : ℕ). cond (eqb y 0) nan (round binary64 s (n * up e * down d % (k * up d * down e)) (down e * down d))) (zero-of t k d z))
 
 -- ---- a finite value has parts
 pub record Known (x : Float) : Type 0 where
@@ -97,7 +98,8 @@ module _ (m n : ℕ) (e d : ℤ) (X M : ℕ) (h : m * up e * 2 ^ 1074 ≡ X * do
   order-lt : m * up e * down d < n * up d * down e → X < M
   order-lt l =
       lt-of-mul-lt-mul-right (down e * down d)
-      (lt-of-le-of-lt (le-of-eq (sym (first-cross m e d X (2 ^ 1074) h))) (lt-of-lt-of-le (mul-lt-mul-of-pos-right l (pow-pos 1074)) (le-of-eq (second-cross n e d M (2 ^ 1074) g))))
+      (lt-of-le-of-lt (le-of-eq (sym (first-cross m e d X (2 ^ 1074) h)))
+      (lt-of-lt-of-le (mul-lt-mul-of-pos-right l (pow-pos 1074)) (le-of-eq (second-cross n e d M (2 ^ 1074) g))))
 
   order-le : n * up d * down e ≤ m * up e * down d → M ≤ X
   order-le l =
@@ -127,7 +129,8 @@ first-less (fin s k e) (fin t n d) F G l =
 -- and else it has no lower place
 pub not-lower : (x m : Float) (s t : Bool) (p a q b : ℕ) → Splits x s p a → Splits m t q b → lt (abs x) (abs m) ≡ false → b ≤ a
 unfolding lt abs
-not-lower x m s t p a q b S R l = le-of-suc-le-suc (lt-of-not-le (λ (g : a < b). not-le-of-lt (lower-less p a q b (S .short) (R .full) g) (go x m (S .value) (R .value) l)))
+not-lower x m s t p a q b S R l =
+    le-of-suc-le-suc (lt-of-not-le (λ (g : a < b). not-le-of-lt (lower-less p a q b (S .short) (R .full) g) (go x m (S .value) (R .value) l)))
   where
     go : (x m : Float) → HasValue x s (p * 2 ^ a) (2 ^ 1074) → HasValue m t (q * 2 ^ b) (2 ^ 1074) → lt (abs x) (abs m) ≡ false → q * 2 ^ b ≤ p * 2 ^ a
     go nan m h g l = absurd h
@@ -137,10 +140,20 @@ not-lower x m s t p a q b S R l = le-of-suc-le-suc (lt-of-not-le (λ (g : a < b)
     go (fin u k e) (fin v n d) h g l = order-le k n e d (p * 2 ^ a) (q * 2 ^ b) (h .1) (g .1) (ltb-false _ _ l)
 
 -- ---- a dividend smaller than twice the divisor, and not than the divisor
-pub plain-fits : (s : Bool) (m : ℕ) (e : ℤ) → T (fits binary64 (fin s m e)) → T (fits binary64 (fin false m e))
+plain-fits : (s : Bool) (m : ℕ) (e : ℤ) → T (fits binary64 (fin s m e)) → T (fits binary64 (fin false m e))
 unfolding fits
 plain-fits s zero e h = h
 plain-fits s (suc m) e h = h
+
+-- a magnitude is what rounding it gives
+pub magnitude-is : (t : Bool) (n : ℕ) (d e : ℤ) → T (fits binary64 (fin t n d)) → fin false n d ≡ round binary64 false (n * up d * down e) (down e * down d)
+magnitude-is t n d e G =
+    let k = known (fin t n d) G tt in
+    let S = k .splits in
+    let N = k .digits * 2 ^ k .place in
+    is-round (fin false n d) false (k .digits) (k .place) (plain-fits t n d G) (refl, S .value .1) (S .short) (S .place)
+    ∙ round-same binary64 false N (2 ^ 1074) (n * up d * down e) (down e * down d) (pow-pos 1074) (mul-pos (down-pos e) (down-pos d))
+    (sym (second-cross n e d N (2 ^ 1074) (S .value .1)))
 
 -- what is below is not above
 not-both : (v w : Float) → T (le v w) → T (lt w v) → ⊥
@@ -169,13 +182,8 @@ module _ (s t : Bool) (m n : ℕ) (e d : ℤ) (G : T (fits binary64 (fin t n d))
   unfolding sub add neg sum
   difference = ap (λ (b : Bool). cond b (round binary64 true (B - A) D) (round binary64 (false && ltb B A) (A - B) D)) h
 
-  -- the divisor's magnitude is what rounding it gives
   divisor : fin false n d ≡ round binary64 false B D
-  divisor =
-      let k = known (fin t n d) G tt in
-      let S = k .splits in
-      is-round (fin false n d) false (k .digits) (k .place) (plain-fits t n d G) (refl, S .value .1) (S .short) (S .place)
-      ∙ round-same binary64 false (k .digits * 2 ^ k .place) (2 ^ 1074) B D (pow-pos 1074) some-D (sym (second-cross n e d (k .digits * 2 ^ k .place) (2 ^ 1074) (S .value .1)))
+  divisor = magnitude-is t n d e G
 
   within : lt (sub binary64 (fin false m e) (fin false n d)) (fin false n d) ≡ true → A - B < B
   within l = lt-of-not-le (λ (g : B ≤ A - B).
@@ -187,7 +195,8 @@ module _ (s t : Bool) (m n : ℕ) (e d : ℤ) (G : T (fits binary64 (fin t n d))
       ap (λ (y : ℕ). round binary64 s y D) (sym (mod-eq-sub-mod (ltb-false A B h) ∙ mod-eq-of-lt (within l)))
       ∙ sym (rem-fin s t m n e d Z)
 
-pub once-positive : (x m : Float) → T (fits binary64 m) → T (finite x) → T (finite m) → eq m (ofBits binary64 0) ≡ false → lt (abs x) (abs m) ≡ false → lt (sub binary64 (abs x) (abs m)) (abs m) ≡ true
+pub once-positive : (x m : Float) → T (fits binary64 m) → T (finite x) → T (finite m) → eq m (ofBits binary64 0) ≡ false → lt (abs x) (abs m) ≡ false
+    → lt (sub binary64 (abs x) (abs m)) (abs m) ≡ true
     → not (negative x) ≡ true → sub binary64 (abs x) (abs m) ≡ rem binary64 x m
 unfolding lt abs
 once-positive nan m G g f z l k p = absurd g
@@ -197,7 +206,8 @@ once-positive (fin s a e) (inf t) G g f z l k p = absurd f
 once-positive (fin true a e) (fin t n d) G g f z l k p = absurd (false≢true p)
 once-positive (fin false a e) (fin t n d) G g f z l k p = difference false t a n e d G (not-zero t n d z) l ∙ once false t a n e d G (not-zero t n d z) l k
 
-pub once-negative : (x m : Float) → T (fits binary64 m) → T (finite x) → T (finite m) → eq m (ofBits binary64 0) ≡ false → lt (abs x) (abs m) ≡ false → lt (sub binary64 (abs x) (abs m)) (abs m) ≡ true
+pub once-negative : (x m : Float) → T (fits binary64 m) → T (finite x) → T (finite m) → eq m (ofBits binary64 0) ≡ false → lt (abs x) (abs m) ≡ false
+    → lt (sub binary64 (abs x) (abs m)) (abs m) ≡ true
     → not (negative x) ≡ false → neg (sub binary64 (abs x) (abs m)) ≡ rem binary64 x m
 unfolding lt abs
 once-negative nan m G g f z l k p = absurd g
@@ -212,7 +222,9 @@ once-negative (fin true a e) (fin t n d) G g f z l k p =
 
 -- ---- the sign of a dividend that is not below a divisor above zero, as the code tests it
 not-none : (a n : ℕ) (e d : ℤ) → (n ≡ 0 → ⊥) → n * up d * down e ≤ a * up e * down d → 0 < a * up e * 1
-not-none a n e d z l = subst (λ (y : ℕ). 0 < y) (sym (mul-one (a * up e))) (left-pos (a * up e) (down d) (lt-of-lt-of-le (mul-pos (mul-pos (positive n z) (up-pos d)) (down-pos e)) l))
+not-none a n e d z l =
+    subst (λ (y : ℕ). 0 < y) (sym (mul-one (a * up e)))
+    (left-pos (a * up e) (down d) (lt-of-lt-of-le (mul-pos (mul-pos (positive n z) (up-pos d)) (down-pos e)) l))
   where
     positive : (n : ℕ) → (n ≡ 0 → ⊥) → 0 < n
     positive n h = omega arith
@@ -221,7 +233,8 @@ below-zero : (s : Bool) (a : ℕ) (e : ℤ) → lt (fin s a e) (fin false 0 (pos
 unfolding lt
 below-zero s a e = refl
 
-pub sign-test : (x m : Float) → T (finite x) → T (finite m) → eq m (ofBits binary64 0) ≡ false → lt (abs x) (abs m) ≡ false → lt x (ofBits binary64 0) ≡ negative x
+pub sign-test : (x m : Float) → T (finite x) → T (finite m) → eq m (ofBits binary64 0) ≡ false → lt (abs x) (abs m) ≡ false
+    → lt x (ofBits binary64 0) ≡ negative x
 unfolding lt abs
 sign-test x m g f z l = ap (λ (y : Float). lt x y) zero-bits ∙ go x m g f z l
   where
@@ -234,7 +247,9 @@ sign-test x m g f z l = ap (λ (y : Float). lt x y) zero-bits ∙ go x m g f z l
       where
         none : (y w : ℕ) → 0 * 1 * y ≤ w
         none y w = omega arith
-    go (fin true a e) (fin t n d) g f z l = below-zero true a e ∙ lt-ltb 0 (a * up e * 1 + 0 * 1 * down e) (more _ _ (not-none a n e d (not-zero t n d z) (ltb-false _ _ l)))
+    go (fin true a e) (fin t n d) g f z l =
+        below-zero true a e
+        ∙ lt-ltb 0 (a * up e * 1 + 0 * 1 * down e) (more _ _ (not-none a n e d (not-zero t n d z) (ltb-false _ _ l)))
       where
         more : (y w : ℕ) → 0 < y → 0 < y + w
         more y w h = omega arith

@@ -1,10 +1,10 @@
 -- `rem` of two finite values by their units: the remainder of two whole numbers; and a whole number of units that is a value rounds to it.
-use mathlib.Core.Path.{_≡_, refl, sym, ap, _∙_, subst}
-use mathlib.Core.Logic.{_⊎_, inl, inr}
-use mathlib.Core.Bool.{Bool, cond}
 use Prim.Native.Nat.{ℕ, _+_, _-_, _*_, _/_, _%_, _^_, _≤_, _<_}
 use native.Mathlib.Nat.{le-trans, le-of-eq, lt-of-lt-of-le, lt-irrefl, zero-mul, mul-pos, mul-assoc, mul-comm, mul-right-comm, add-mul, mul-le-mul-right, mul-lt-mul-of-pos-right, mod-lt, mod-eq-of-lt, div-add-mod', eq-zero-or-pos}
 use native.Mathlib.Omega.{arith}
+use mathlib.Core.Path.{_≡_, refl, sym, ap, _∙_, subst}
+use mathlib.Core.Logic.{_⊎_, inl, inr}
+use mathlib.Core.Bool.{Bool, cond}
 use lib.IntN.{ℤ}
 use lib.Arith.{digits-mod}
 use lib.Dec.{T}
@@ -56,7 +56,8 @@ second-cross n e d M U h = first-cross n d e M U h ∙ ap (λ (x : ℕ). M * x) 
 pub some : (n : ℕ) (d : ℤ) (M : ℕ) → n * up d * 2 ^ 1074 ≡ M * down d → 0 < M → n ≡ 0 → ⊥
 some n d M h P z =
     lt-irrefl 0
-    (subst (λ (y : ℕ). 0 < y) (sym h ∙ ap (λ (y : ℕ). y * up d * 2 ^ 1074) z ∙ ap (λ (y : ℕ). y * 2 ^ 1074) (zero-mul (up d)) ∙ zero-mul (2 ^ 1074)) (mul-pos P (down-pos d)))
+    (subst (λ (y : ℕ). 0 < y) (sym h ∙ ap (λ (y : ℕ). y * up d * 2 ^ 1074) z ∙ ap (λ (y : ℕ). y * 2 ^ 1074) (zero-mul (up d)) ∙ zero-mul (2 ^ 1074))
+    (mul-pos P (down-pos d)))
 
 pub left-pos : (a b : ℕ) → 0 < a * b → 0 < a
 left-pos a b h = go (eq-zero-or-pos a)
@@ -65,12 +66,14 @@ left-pos a b h = go (eq-zero-or-pos a)
     go (inl z) = absurd (lt-irrefl 0 (subst (λ (y : ℕ). 0 < y) (ap (λ (y : ℕ). y * b) z ∙ zero-mul b) h))
     go (inr p) = p
 
-pub rem-fin : (s t : Bool) (m n : ℕ) (e d : ℤ) → (n ≡ 0 → ⊥) → rem binary64 (fin s m e) (fin t n d) ≡ round binary64 s (m * up e * down d % (n * up d * down e)) (down e * down d)
+pub rem-fin : (s t : Bool) (m n : ℕ) (e d : ℤ) → (n ≡ 0 → ⊥)
+    → rem binary64 (fin s m e) (fin t n d) ≡ round binary64 s (m * up e * down d % (n * up d * down e)) (down e * down d)
 unfolding rem
 rem-fin s t m n e d h = ap (λ (b : Bool). cond b nan (round binary64 s (m * up e * down d % (n * up d * down e)) (down e * down d))) (ne-eqb n 0 h)
 
 -- the remainder of two finite values is that of their numbers of units, in units
-pub rem-at : (x y : Float) (s t : Bool) (X M : ℕ) → HasValue x s X (2 ^ 1074) → HasValue y t M (2 ^ 1074) → 0 < M → rem binary64 x y ≡ round binary64 s (X % M) (2 ^ 1074)
+pub rem-at : (x y : Float) (s t : Bool) (X M : ℕ) → HasValue x s X (2 ^ 1074) → HasValue y t M (2 ^ 1074) → 0 < M
+    → rem binary64 x y ≡ round binary64 s (X % M) (2 ^ 1074)
 rem-at nan y s t X M h g P = absurd h
 rem-at (inf a) y s t X M h g P = absurd h
 rem-at (fin a m e) nan s t X M h g P = absurd g
@@ -99,8 +102,10 @@ round-whole s q k a b = round-exact binary64 s (q * 2 ^ k) (2 ^ 1074) q k (pow-p
     top : (k : ℕ) → k ≤ 2045 → 53 + k ≤ 2098
     top k h = omega arith
 
-pub is-round : (x : Float) (s : Bool) (q k : ℕ) → T (fits binary64 x) → HasValue x s (q * 2 ^ k) (2 ^ 1074) → q < 2 ^ 53 → k ≤ 2045 → x ≡ round binary64 s (q * 2 ^ k) (2 ^ 1074)
-is-round x s q k F h a b = unique x (round binary64 s (q * 2 ^ k) (2 ^ 1074)) s (q * 2 ^ k) F (round-fits binary64 s (q * 2 ^ k) (2 ^ 1074)) h (round-whole s q k a b)
+pub is-round : (x : Float) (s : Bool) (q k : ℕ) → T (fits binary64 x) → HasValue x s (q * 2 ^ k) (2 ^ 1074) → q < 2 ^ 53 → k ≤ 2045
+    → x ≡ round binary64 s (q * 2 ^ k) (2 ^ 1074)
+is-round x s q k F h a b =
+    unique x (round binary64 s (q * 2 ^ k) (2 ^ 1074)) s (q * 2 ^ k) F (round-fits binary64 s (q * 2 ^ k) (2 ^ 1074)) h (round-whole s q k a b)
 
 pub keeps : (x : Float) (s : Bool) (q k : ℕ) → T (fits binary64 x) → Splits x s q k → x ≡ round binary64 s (q * 2 ^ k) (2 ^ 1074)
 keeps x s q k F h = is-round x s q k F (h .value) (h .short) (h .place)

@@ -26,7 +26,8 @@ returns c =
     let l = c .before in
     let r = l .before in
     let a = r .before .args in
-    ap (λ (y : Float). add binary64 (r .remainder .result) y) (c .abs .ensures) ∙ by (a .x) (a .m) (r .remainder .result) true (r .remainder .ensures) (l .if1 .taken)
+    ap (λ (y : Float). add binary64 (r .remainder .result) y) (c .abs .ensures)
+    ∙ by (a .x) (a .m) (r .remainder .result) true (r .remainder .ensures) (l .if1 .taken)
 
 returns-2 : tie.Need-returns-2
 returns-2 c =

@@ -1,9 +1,9 @@
 -- `float::remainder::pack` meets its contract: what `write` gives is a value of the format with that many units, and so is what `round` gives.
-use mathlib.Core.Path.{_≡_, sym, ap, _∙_, subst}
-use mathlib.Core.Bool.{Bool}
 use Prim.Native.Nat.{ℕ, _+_, _-_, _*_, _%_, _^_, _≤_, _<_}
 use native.Mathlib.Nat.{le-of-lt, lt-of-le-of-lt, lt-of-lt-of-le, lt-irrefl, mul-assoc, zero-mul, mul-le-mul-left}
 use native.Mathlib.Omega.{arith}
+use mathlib.Core.Path.{_≡_, sym, ap, _∙_, subst}
+use mathlib.Core.Bool.{Bool}
 use lib.Dec.{lit<, lit≤}
 use lib.Pow.{pow-add, pow-mono, shl-lt}
 use lib.Ieee.{binary64, units, round}
@@ -16,7 +16,9 @@ use Rattle.float.proofs.remainder.pack.Tie as tie
 
 -- q * 2 ^ k units, as `units` and as `round` have them
 units-round : (s : Bool) (q k : ℕ) → q < 2 ^ 53 → k ≤ 2045 → units binary64 s q k ≡ round binary64 s (q * 2 ^ k) (2 ^ 1074)
-units-round s q k a b = is-round (units binary64 s q k) s q k (units-fits s q k (le-of-lt a)) (units-val binary64 s q k (lt-of-lt-of-le (shl-lt 53 k a) (pow-mono (top k b)))) a b
+units-round s q k a b =
+    is-round (units binary64 s q k) s q k (units-fits s q k (le-of-lt a))
+    (units-val binary64 s q k (lt-of-lt-of-le (shl-lt 53 k a) (pow-mono (top k b)))) a b
   where
     top : (k : ℕ) → k ≤ 2045 → 53 + k ≤ 2098
     top k h = omega arith
@@ -30,7 +32,8 @@ moved : (s : Bool) (r z k : ℕ) → r * 2 ^ z < 2 ^ 53 → k ≤ 2045 → z ≤
 moved s r z k a b h =
     ap (λ (x : ℕ). units binary64 s x (k - z)) (whole (r * 2 ^ z) a)
     ∙ units-round s (r * 2 ^ z) (k - z) a (few k z b)
-    ∙ ap (λ (x : ℕ). round binary64 s x (2 ^ 1074)) (mul-assoc r (2 ^ z) (2 ^ (k - z)) ∙ ap (λ (x : ℕ). r * x) (sym (pow-add 2 z (k - z)) ∙ ap (λ (x : ℕ). 2 ^ x) (back k z h)))
+    ∙ ap (λ (x : ℕ). round binary64 s x (2 ^ 1074)) (mul-assoc r (2 ^ z) (2 ^ (k - z))
+    ∙ ap (λ (x : ℕ). r * x) (sym (pow-add 2 z (k - z)) ∙ ap (λ (x : ℕ). 2 ^ x) (back k z h)))
   where
     few : (k z : ℕ) → k ≤ 2045 → k - z ≤ 2045
     few k z b = omega arith

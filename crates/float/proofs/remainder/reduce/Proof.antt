@@ -1,8 +1,8 @@
 -- `float::remainder::reduce` meets its contract: what is left to shift, times the remainder so far, has one remainder by q throughout.
-use mathlib.Core.Path.{_≡_, refl, sym, ap, _∙_, subst}
 use Prim.Native.Nat.{ℕ, _+_, _-_, _*_, _/_, _%_, _^_, _≤_, _<_}
 use native.Mathlib.Nat.{lt-of-lt-of-le, lt-trans, mul-assoc, mul-right-comm, add-mul, add-comm, div-add-mod', mod-lt, mod-eq-of-lt, add-mul-mod-self-right}
 use native.Mathlib.Omega.{arith}
+use mathlib.Core.Path.{_≡_, refl, sym, ap, _∙_, subst}
 use lib.Pow.{pow-add, pow-mono, shl-lt}
 use borrow.Author.Needs.{needs}
 use Rattle.float.proofs.remainder.reduce.Statement.{statement}

@@ -1,11 +1,12 @@
 -- `float::remainder::remainder` meets its contract: what needs no division by `Fast`, and the rest in whole numbers by `Reduced`.
-use mathlib.Core.Path.{_≡_, sym, ap, _∙_, subst}
-use mathlib.Core.Bool.{Bool, true, false, not}
 use Prim.Native.Nat.{ℕ, _*_, _^_, _≤_, _<_}
 use native.Mathlib.Nat.{lt-trans, mod-lt}
+use mathlib.Core.Path.{_≡_, sym, ap, _∙_, subst}
+use mathlib.Core.Bool.{Bool, true, false, not}
 use lib.Dec.{T}
 use lib.Ieee.{Float, binary64, round, neg, sub, lt, fits, ofBits}
 use lib.Ieee.Scale.{finite}
+use borrow.Author.Needs.{needs}
 use Rattle.float.specs.Number.{abs, negative}
 use Rattle.float.specs.Laws.Tests.{number-of, nan-of}
 use Rattle.float.specs.Laws.Zero.{not-finite, is-finite}
@@ -28,7 +29,7 @@ tested : (u v x y : Float) (b : Bool) → u ≡ x → v ≡ y → lt u v ≡ b �
 tested u v x y b p q h = sym (λ i. lt (p i) (q i)) ∙ h
 
 module _ (c : tie.Else3) where
-  abbrev mags : tie.After-magnitude2
+  abbrev mags : tie.After-abs2
   mags = c .before
 
   abbrev numbers : tie.Else2
@@ -38,14 +39,16 @@ module _ (c : tie.Else3) where
   s = numbers .before .before
 
   not-less : lt (abs (s .args .x)) (abs (s .args .m)) ≡ false
-  not-less = tested _ _ _ _ false (mags .before .magnitude .ensures) (mags .magnitude2 .ensures) (c .if3 .left)
+  not-less = tested _ _ _ _ false (mags .before .abs .ensures) (mags .abs2 .ensures) (c .if3 .left)
 
 module _ (c : tie.Else4) where
   x-fine : T (finite (s (c .before) .args .x))
   x-fine = is-finite (s (c .before) .args .x) (c .if4 .left)
 
   m-fine : T (finite (s (c .before) .args .m))
-  m-fine = second-fine (s (c .before) .args .x) (s (c .before) .args .m) x-fine (number-of (s (c .before) .args .m) (numbers (c .before) .if2 .left)) (not-less (c .before))
+  m-fine =
+      second-fine (s (c .before) .args .x) (s (c .before) .args .m) x-fine
+      (number-of (s (c .before) .args .m) (numbers (c .before) .if2 .left)) (not-less (c .before))
 
 -- ---- no division
 returns : tie.Need-returns
@@ -58,17 +61,17 @@ returns-2 c =
     let a = c .before .before .args in
     quotient ∙ second-nan (a .x) (a .m) (nan-of (a .m) (c .if2 .taken))
 
-magnitude-requires : tie.Need-magnitude-requires
-magnitude-requires c κs = number-of (c .before .before .args .x) (c .before .if1 .left)
+abs-requires : tie.Need-abs-requires
+abs-requires c κs = search needs
 
-magnitude-requires-2 : tie.Need-magnitude-requires-2
-magnitude-requires-2 c κs = number-of (c .before .before .before .args .m) (c .before .if2 .left)
+abs-requires-2 : tie.Need-abs-requires-2
+abs-requires-2 c κs = search needs
 
 returns-3 : tie.Need-returns-3
 returns-3 c =
     let v = c .before in
     let o = v .before .before .before .before in
-    first-less (o .args .x) (o .args .m) (x-held o) (m-held o) (tested _ _ _ _ true (v .before .magnitude .ensures) (v .magnitude2 .ensures) (c .if3 .taken))
+    first-less (o .args .x) (o .args .m) (x-held o) (m-held o) (tested _ _ _ _ true (v .before .abs .ensures) (v .abs2 .ensures) (c .if3 .taken))
 
 returns-4 : tie.Need-returns-4
 returns-4 c =
@@ -91,11 +94,11 @@ module _ (c : tie.Then6) where
   abbrev a : tie.Start
   a = s (f .before)
 
-  is : sub binary64 (mags (f .before) .before .magnitude .result) (mags (f .before) .magnitude2 .result) ≡ sub binary64 (abs (a .args .x)) (abs (a .args .m))
-  is = λ i. sub binary64 (mags (f .before) .before .magnitude .ensures i) (mags (f .before) .magnitude2 .ensures i)
+  is : sub binary64 (mags (f .before) .before .abs .result) (mags (f .before) .abs2 .result) ≡ sub binary64 (abs (a .args .x)) (abs (a .args .m))
+  is = λ i. sub binary64 (mags (f .before) .before .abs .ensures i) (mags (f .before) .abs2 .ensures i)
 
   small : lt (sub binary64 (abs (a .args .x)) (abs (a .args .m))) (abs (a .args .m)) ≡ true
-  small = tested _ _ _ _ true is (mags (f .before) .magnitude2 .ensures) (c .if6 .taken)
+  small = tested _ _ _ _ true is (mags (f .before) .abs2 .ensures) (c .if6 .taken)
 
   sign : lt (a .args .x) (ofBits binary64 0) ≡ negative (a .args .x)
   sign = sign-test (a .args .x) (a .args .m) (x-fine f) (m-fine f) (e .if5 .left) (not-less (f .before))
@@ -169,8 +172,8 @@ remainder-spec =
     (tie.spec
     returns
     returns-2
-    magnitude-requires
-    magnitude-requires-2
+    abs-requires
+    abs-requires-2
     returns-3
     returns-4
     returns-5

@@ -1,8 +1,8 @@
 -- `float::remainder::step` meets its contract: the quotient that it takes is the right one or one less.
-use mathlib.Core.Path.{_≡_, refl, sym, ap, _∙_, subst}
 use Prim.Native.Nat.{ℕ, _+_, _-_, _*_, _/_, _%_, _^_, _≤_, _<_}
 use native.Mathlib.Nat.{le-of-lt, mul-le-mul-left, mul-le-mul-right, mod-lt, div-add-mod'}
 use native.Mathlib.Omega.{arith}
+use mathlib.Core.Path.{_≡_, refl, sym, ap, _∙_, subst}
 use lib.Arith.{digits-mod}
 use lib.Pow.{pow-pos}
 use Rattle.float.proofs.remainder.step.Statement.{statement}
@@ -69,13 +69,15 @@ mul-quotient c = record { fits = fits (c .args .r) (c .args .q) (c .args .invers
 
 mul-rest : tie.Need-mul-rest
 mul-rest c =
-    let l : c .args .r * c .args .inverse / 2 ^ 53 * c .args .q ≤ c .args .r * 2 ^ 11 = low (c .args .r) (c .args .q) (c .args .inverse) _ (c .pre .0) (c .pre .1) (c .pre .2) refl in
+    let l : c .args .r * c .args .inverse / 2 ^ 53 * c .args .q ≤ c .args .r * 2 ^ 11 =
+    low (c .args .r) (c .args .q) (c .args .inverse) _ (c .pre .0) (c .pre .1) (c .pre .2) refl in
     omega arith
 
 sub-rest : tie.Need-sub-rest
 sub-rest c =
     let l = low (c .args .r) (c .args .q) (c .args .inverse) _ (c .pre .0) (c .pre .1) (c .pre .2) refl in
-    subst (λ (x : ℕ). c .args .r * c .args .inverse / 2 ^ 53 * c .args .q ≤ x) (sym (kept (c .args .r) (c .args .q) (c .args .inverse) _ (c .pre .0) (c .pre .1) (c .pre .2) refl)) l
+    subst (λ (x : ℕ). c .args .r * c .args .inverse / 2 ^ 53 * c .args .q ≤ x)
+    (sym (kept (c .args .r) (c .args .q) (c .args .inverse) _ (c .pre .0) (c .pre .1) (c .pre .2) refl)) l
 
 returns : tie.Need-returns
 returns c = let a = c .before in one (a .args .r) (a .args .q) (a .args .inverse) _ (a .pre .0) (a .pre .1) (a .pre .2) refl (c .if1 .taken)

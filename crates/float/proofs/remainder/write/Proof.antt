@@ -1,10 +1,10 @@
 -- `float::remainder::write` meets its contract, by the pattern that `Pattern` has of `units`.
-use mathlib.Core.Path.{_≡_, sym, ap, _∙_, subst}
-use mathlib.Core.Logic.{⊎-elim}
-use mathlib.Core.Bool.{Bool, true, false, not}
 use Prim.Native.Nat.{ℕ, _+_, _*_, _^_, _≤_, _<_, min}
 use native.Mathlib.Nat.{le-of-lt}
 use native.Mathlib.Omega.{arith}
+use mathlib.Core.Path.{_≡_, sym, ap, _∙_, subst}
+use mathlib.Core.Logic.{⊎-elim}
+use mathlib.Core.Bool.{Bool, true, false, not}
 use lib.Dec.{T}
 use lib.Ieee.{binary64, nanBits, ofBits}
 use borrow.Author.Needs.{needs}
@@ -45,7 +45,8 @@ float-from-bits-result : tie.Need-float-from-bits-result
 float-from-bits-result c =
     let a = c .before .before in
     let n = a .args .k * 2 ^ 52 + a .args .q in
-    subst (λ (x : ℕ). T (not (nanBits binary64 (x + n)))) (sym (sign-is (c .before))) (no-nan (a .args .neg) n (within (a .args .q) (a .args .k) (a .pre .0) (a .pre .1)))
+    subst (λ (x : ℕ). T (not (nanBits binary64 (x + n)))) (sym (sign-is (c .before)))
+    (no-nan (a .args .neg) n (within (a .args .q) (a .args .k) (a .pre .0) (a .pre .1)))
 
 returns : tie.Need-returns
 returns c =
