@@ -169,7 +169,7 @@ fn plain(y: f64, x: f64) -> bool
     (y == y) & ((x > 0.0) | (x < 0.0))
 }
 
-// The angle of such a point.
+// The angle of the point (x, y), where it is made of v, the arctangent of y / x.
 fn placed(y: f64, x: f64, v: f64) -> f64
     requires { ⌜ Of.plain y x ≡ true ⌝ }
     requires { ⌜ v ≡ Trig.atan (y ⊘ x) ⌝ }
@@ -184,7 +184,7 @@ fn placed(y: f64, x: f64, v: f64) -> f64
     v - P
 }
 
-// The angles of four such points.
+// The angles of four points, each made of the arctangent of y / x.
 fn placed_four(y: Four, x: Four) -> Four
     requires { ⌜ Of.all-plain y x ≡ true ⌝ }
     ensures { λ r. ⌜ r ≡ Of.beside Trig.atan2 y x ⌝ }

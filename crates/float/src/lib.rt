@@ -4,7 +4,7 @@ pub mod interface;
 pub mod mul_add;
 pub mod number;
 pub mod product_error;
-pub mod remainder;
+mod remainder;
 pub mod sqrt;
 pub mod trig;
 mod wide;
