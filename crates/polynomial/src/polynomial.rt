@@ -132,10 +132,10 @@ pub(crate) fn all_finite(p: [Compensated; 9], n: usize) -> bool
     true
 }
 
-// The derivative of the first n coefficients, in its first n - 1 places.
+// The derivative of the first n coefficients, in the first n - 1 places, and zeros behind it.
 pub(crate) fn derivative(p: [Compensated; 9], n: usize) -> [Compensated; 9]
     requires { ⌜ (0 < n) × (n ≤ 9) ⌝ }
-    ensures { λ r. ⌜ take (n - 1) r ≡ Of.derivative (take n p) ⌝ }
+    ensures { λ r. ⌜ r ≡ Of.nine (Of.derivative (take n p)) ⌝ }
 {
     let mut d = [Compensated {
         high: 0.0,

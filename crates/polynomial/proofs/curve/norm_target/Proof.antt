@@ -47,8 +47,10 @@ loop-holds c =
     let n = t .before in (
       search needs,
       search needs,
-      target-start (n .before .args .norm) (n .from .result) (t .times .result) (l .from2 .result) (c .before .from3 .result) (c .multiply .result) (n .from .ensures) (t .times .ensures) (l .from2 .ensures) (c .before .from3 .ensures) (c .multiply .ensures),
-      target-behind (n .before .args .norm) (n .from .result) (t .times .result) (l .from2 .result) (c .before .from3 .result) (c .multiply .result) (c .multiply .ensures),
+      target-start (n .before .args .norm) (n .from .result) (t .times .result) (l .from2 .result) (c .before .from3 .result) (c .multiply .result)
+          (n .from .ensures) (t .times .ensures) (l .from2 .ensures) (c .before .from3 .ensures) (c .multiply .ensures),
+      target-behind (n .before .args .norm) (n .from .result) (t .times .result) (l .from2 .result) (c .before .from3 .result) (c .multiply .result)
+          (c .multiply .ensures),
     )
 
 mul-c : tie.Need-mul-c Inv-loop μ-loop
