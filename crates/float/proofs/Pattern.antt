@@ -21,7 +21,7 @@ abbrev pub sign : Bool → ℕ
 sign s = cond s (2 ^ 63) 0
 
 -- ---- the pattern of a finite value, by its number of units n
-pattern-of : (v : Float) (s : Bool) (n : ℕ) → HasValue v s n (2 ^ 1074) → toBits binary64 v ≡ sign s + (size n - 53) * 2 ^ 52 + n / 2 ^ (size n - 53)
+pub pattern-of : (v : Float) (s : Bool) (n : ℕ) → HasValue v s n (2 ^ 1074) → toBits binary64 v ≡ sign s + (size n - 53) * 2 ^ 52 + n / 2 ^ (size n - 53)
 unfolding toBits
 pattern-of nan s n h = absurd h
 pattern-of (inf t) s n h = absurd h
@@ -72,7 +72,7 @@ from-there q k a b h = go (eq-or-lt-of-le least)
     go (inr l) = let x : 2 ^ 52 ≤ q = b (lt-of-lt-of-le (zero-lt-suc 2045) l) in omega arith
 
 -- ---- `units`
-units-fits : (s : Bool) (q k : ℕ) → q ≤ 2 ^ 53 → T (fits binary64 (units binary64 s q k))
+pub units-fits : (s : Bool) (q k : ℕ) → q ≤ 2 ^ 53 → T (fits binary64 (units binary64 s q k))
 unfolding units
 units-fits s q k a = go (ltb (q * 2 ^ k) (2 ^ 2098)) (ltb→lt (q * 2 ^ k) (2 ^ 2098))
   where

@@ -7,6 +7,7 @@ ghost use Rattle.float.specs.Promises.Four as Of;
 use crate::number::abs;
 use crate::number::is_sign_positive;
 use crate::sqrt::sqrt;
+use crate::trig::P;
 
 // a / (1 + sqrt(1 + a * a)): the tangent of half the angle.
 fn halved(a: f64) -> f64
@@ -60,7 +61,7 @@ fn restored(x: f64, v: f64) -> f64
     ensures { λ r. ⌜ r ≡ Trig.atan x ⌝ }
 {
     if abs(x) > 1.0 {
-        return copysign(3.141592653589793 / 2.0 - v, x);
+        return copysign(P / 2.0 - v, x);
     }
     copysign(v, x)
 }
@@ -86,15 +87,15 @@ pub fn atan2(y: f64, x: f64) -> f64
     }
     if x < 0.0 {
         if y >= 0.0 {
-            return atan(y / x) + 3.141592653589793;
+            return atan(y / x) + P;
         }
-        return atan(y / x) - 3.141592653589793;
+        return atan(y / x) - P;
     }
     if y > 0.0 {
-        return 3.141592653589793 / 2.0;
+        return P / 2.0;
     }
     if y < 0.0 {
-        return -(3.141592653589793 / 2.0);
+        return -(P / 2.0);
     }
     0.0
 }
@@ -168,7 +169,7 @@ fn plain(y: f64, x: f64) -> bool
     (y == y) & ((x > 0.0) | (x < 0.0))
 }
 
-// The angle of such a point.
+// The angle of the point (x, y), where it is made of v, the arctangent of y / x.
 fn placed(y: f64, x: f64, v: f64) -> f64
     requires { ⌜ Of.plain y x ≡ true ⌝ }
     requires { ⌜ v ≡ Trig.atan (y ⊘ x) ⌝ }
@@ -178,12 +179,12 @@ fn placed(y: f64, x: f64, v: f64) -> f64
         return v;
     }
     if y >= 0.0 {
-        return v + 3.141592653589793;
+        return v + P;
     }
-    v - 3.141592653589793
+    v - P
 }
 
-// The angles of four such points.
+// The angles of four points, each made of the arctangent of y / x.
 fn placed_four(y: Four, x: Four) -> Four
     requires { ⌜ Of.all-plain y x ≡ true ⌝ }
     ensures { λ r. ⌜ r ≡ Of.beside Trig.atan2 y x ⌝ }

@@ -4,6 +4,7 @@ pub mod interface;
 pub mod mul_add;
 pub mod number;
 pub mod product_error;
+mod remainder;
 pub mod sqrt;
 pub mod trig;
 mod wide;

@@ -5,6 +5,7 @@ ghost use mathlib.Core.Bool.{not};
 ghost use lib.Ieee.{binary64, toBits, ofBits};
 ghost use lib.Ieee.Scale.{finite};
 ghost use Rattle.float.specs.Number as Number;
+use crate::remainder::remainder;
 
 // The bits of x. `f64::to_bits` is not defined at a NaN, whose bits are 7FF8000000000000.
 pub fn bits(x: f64) -> u64
@@ -43,14 +44,11 @@ pub fn is_sign_positive(x: f64) -> bool
     f64::to_bits(x) < 0x8000_0000_0000_0000
 }
 
-// The magnitude of x.
+// The magnitude of x, with no branch: 0 - x is +0.0 at either zero.
 pub fn abs(x: f64) -> f64
     ensures { λ r. ⌜ r ≡ Number.abs x ⌝ }
 {
-    if is_sign_positive(x) {
-        return x;
-    }
-    -x
+    if x <= 0.0 { 0.0 - x } else { x }
 }
 
 // Whether x does not come after y in the order of `total_cmp`.
@@ -73,7 +71,7 @@ pub fn total_le(x: f64, y: f64) -> bool
 pub fn rem_euclid(x: f64, m: f64) -> f64
     ensures { λ r. ⌜ r ≡ Number.rem-euclid x m ⌝ }
 {
-    let r = x % m;
+    let r = remainder(x, m);
     if r < 0.0 {
         return r + abs(m);
     }

@@ -6,11 +6,20 @@ ghost use Rattle.float.specs.ProductError as ProductError;
 ghost use Rattle.float.specs.Promises.Halves as Of;
 use crate::mul_add::mul_add;
 
+// 2^400, 2^-200 and 2^-768: where the halves serve. 2^27 + 1: where they are split.
+const MOST: f64 = 2.5822498780869086e120;
+
+const LEAST: f64 = 6.223015277861142e-61;
+
+const LEAST_HALVED: f64 = 6.441148769597133e-232;
+
+const SPLITTER: f64 = 134217729.0;
+
 // Whether a magnitude is zero or from `low` to 2^400.
 fn sized(low: f64, m: f64) -> bool
     ensures { λ r. ⌜ r ≡ Of.sized low m ⌝ }
 {
-    if m <= 2.5822498780869086e120 {
+    if m <= MOST {
         if m >= low {
             return true;
         }
@@ -19,7 +28,7 @@ fn sized(low: f64, m: f64) -> bool
     false
 }
 
-// Whether the magnitude of x is.
+// Whether the magnitude of x is zero or from `low` to 2^400.
 fn within(low: f64, x: f64) -> bool
     ensures { λ r. ⌜ r ≡ Of.in-range low x ⌝ }
 {
@@ -33,7 +42,7 @@ fn within(low: f64, x: f64) -> bool
 pub fn in_range(x: f64) -> bool
     ensures { λ r. ⌜ r ≡ Of.in-range Of.least x ⌝ }
 {
-    within(6.223015277861142e-61, x)
+    within(LEAST, x)
 }
 
 // An operand with its halves, by Dekker's split at 2^27 + 1, and whether these serve it.
@@ -48,8 +57,8 @@ pub struct Halves {
 pub fn halved_operand(x: f64) -> Halves
     ensures { λ r. ⌜ r ≡ Of.halves x ⌝ }
 {
-    let fine = within(6.441148769597133e-232, x);
-    let c = 134217729.0 * x;
+    let fine = within(LEAST_HALVED, x);
+    let c = SPLITTER * x;
     let high = c - (c - x);
     Halves {
         whole: x,
@@ -65,7 +74,7 @@ pub fn error_by_halves(a: f64, b: Halves) -> f64
     ensures { λ r. ⌜ r ≡ ProductError.product-error a (b .whole) ⌝ }
 {
     let p = a * b.whole;
-    let c = 134217729.0 * a;
+    let c = SPLITTER * a;
     let high = c - (c - a);
     let low = a - high;
     (((high * b.high - p) + high * b.low) + low * b.high) + low * b.low

@@ -139,7 +139,7 @@ fn root(m: u64) -> u64
 }
 
 // The shift that gives q all its 53 digits.
-fn lift(q: u64) -> u64
+pub(crate) fn lift(q: u64) -> u64
     requires { ⌜ (0 < q) × (q < 2 ^ 53) ⌝ }
     ensures { λ r. ⌜ (r ≤ 52) × (2 ^ 52 ≤ q * 2 ^ r) × (q * 2 ^ r < 2 ^ 53) ⌝ }
 {

@@ -5,6 +5,17 @@ use crate::number::abs;
 use crate::number::floor;
 use crate::sqrt::sqrt;
 
+// 01's constants: I is near 2 / pi, H + L is pi / 2 to more digits than a float has, and P is near pi.
+const I: f64 = 0.6366197723675814;
+
+const H: f64 = 1.5707963267341256;
+
+const L: f64 = 6.077100506506192e-11;
+
+pub const P: f64 = 3.141592653589793;
+
+pub const TWO_PI: f64 = 6.283185307179586;
+
 pub struct SinCos {
     pub sine: f64,
     pub cosine: f64,
@@ -76,9 +87,9 @@ pub fn sin_cos(x: f64) -> SinCos
     ensures { λ r. ⌜ r ≡ Trig.sin-cos x ⌝ }
 {
     if abs(x) <= 32.0 {
-        let k = floor(x * 0.6366197723675814 + 0.5);
+        let k = floor(x * I + 0.5);
         let f = std::num::nearest_i64_to_f64(k);
-        let r = (x - f * 1.5707963267341256) - f * 6.077100506506192e-11;
+        let r = (x - f * H) - f * L;
         return turned(quadrant(k), sine(r), cosine(r));
     }
     SinCos {

@@ -1,3 +1,2 @@
 mod Charted
-mod Bounded
 mod Halves

@@ -1,4 +1,5 @@
 -- A number represented by a rounded value and its residual rounding error: `Compensated` of the Rust, step by step. Definitions only.
+-- The residual is kept because the products of two curves that lie near one another nearly cancel: without it a small interval between them would be lost.
 use mathlib.Core.Bool.{Bool, _&&_}
 use lib.Ieee.{Float, eq}
 use Rattle.float.specs.Number.{_⊕_, _⊖_, _⊗_, zero-float}

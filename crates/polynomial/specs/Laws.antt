@@ -2,6 +2,7 @@
 -- Lists: `Cuts` (insertion is adding one more element; the order of arrival does not matter), `Placed` and `Held` (such lists in lent slices), `Lists` (what holds of every element; loops that fill and move).
 -- Roots: `Halving` (a bisection ends inside its interval; more turns change nothing), `Degree` (any count as large as the number of coefficients gives the same roots),
 -- `Enclosed` (roots and partition points lie between the bounds and increase strictly; how many there are), `Bounds` (bounds that hold can be halved).
+-- The operation: `Operation` (an inner call holds where Roots answers a count; what the list is like; what numbers answers have).
 -- Angles: `Wrapped` (a wrapped angle lies within P).
 -- Signs: `Plain` (a plain value that is far from zero has the sign of the compensated one, which is not near zero), from `PlainSteps` (sums and the parts of a result), `PlainProducts`,
 -- `PlainStep` (one step of Horner arithmetic), `PlainSize` (a coefficient in units), `PlainScale` (the sum of magnitudes), `PlainMagnitudes` (the sum with the residuals, and the bound of `near-zero`).
@@ -16,5 +17,6 @@ pub mod Degree
 pub mod Enclosed
 pub mod Wrapped
 pub mod Bounds
+pub mod Operation
 pub mod Inner
 pub mod Norm

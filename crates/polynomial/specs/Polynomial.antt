@@ -81,7 +81,7 @@ value-near p x v = le (abs v) (roundoff ⊗ magnitudes p x)
 unfoldable pub near-zero : List Compensated → Float → Bool
 near-zero p x = value-near p x (evaluate p x)
 
--- the coefficients up to the last that is not zero
+-- The coefficients up to the last that is not zero. Only exact zeros go: a leading coefficient that is merely small can still shape the curve enough to be told from none.
 unfoldable pub kept : Compensated → List Compensated → List Compensated
 kept c [] = cond (is-zero c) [] (c ∷ [])
 kept c (d ∷ ds) = c ∷ d ∷ ds

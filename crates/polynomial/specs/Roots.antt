@@ -37,11 +37,11 @@ bisected f p lo hi = halvings f p (2 ^ 1078) lo hi
 
 -- ---- partition points
 
--- the bounds and what lies between, sorted, each once
+-- The bounds and what lies between, sorted, each once. Between two neighbours the polynomial rises or falls throughout, so that a change of sign there is one simple root.
 abbrev pub partitions : Float → Float → List Float → List Float
 partitions lower upper inner = cuts (lower ∷ (inner ++ (upper ∷ [])))
 
--- the points that are near zero
+-- the points that are near zero: a repeated root is a point where the derivative is zero, and no sign changes there
 unfoldable pub touches : List Compensated → List Float → List Float
 touches p [] = []
 touches p (x ∷ xs) = cond (near-zero p x) (x ∷ touches p xs) (touches p xs)
@@ -68,7 +68,8 @@ quotient a b lower upper =
     let root = neg (value a) ⊘ value b in
     cond (le lower root && le root upper) (root ∷ []) []
 
--- the roots of a trimmed polynomial of n coefficients; the derivative's roots wait
+-- The roots of a trimmed polynomial of n coefficients; the derivative's roots wait. Of two roots only an equal one goes: near ones are not merged,
+-- since the angles between them may be valid, however narrow the interval is beside a step of sampling.
 unfoldable pub by-count : ℕ → List Compensated → Float → Float → (Unit {0} → List Float) → List Float
 by-count zero p lower upper inner = []
 by-count (suc zero) p lower upper inner = []

@@ -16,14 +16,14 @@ pub struct Compensated {
 
 impl Compensated {
     // A float with a residual of zero.
-    pub fn from(high: f64) -> Self
+    pub(crate) fn from(high: f64) -> Self
         ensures { λ r. ⌜ r ≡ Of.from high ⌝ }
     {
         Self { high, low: 0.0 }
     }
 
     // Adds both components and retains the rounding error.
-    pub fn plus(self, other: Compensated) -> Self
+    pub(crate) fn plus(self, other: Compensated) -> Self
         ensures { λ r. ⌜ r ≡ Of.plus self other ⌝ }
     {
         let sum = self.high + other.high;
@@ -40,7 +40,7 @@ impl Compensated {
     }
 
     // Multiplies both components and retains the rounding error.
-    pub fn times(self, other: Compensated) -> Self
+    pub(crate) fn times(self, other: Compensated) -> Self
         ensures { λ r. ⌜ r ≡ Of.times self other ⌝ }
     {
         let product = self.high * other.high;
@@ -56,7 +56,7 @@ impl Compensated {
     }
 
     // The product with a float, where Dekker's halves serve both it and the high part.
-    pub fn times_by_halves(self, x: Halves) -> Self
+    pub(crate) fn times_by_halves(self, x: Halves) -> Self
         requires { ⌜ (x ≡ halves (x .whole)) × (in-range least (self .high) ≡ true) × (x .fine ≡ true) ⌝ }
         ensures { λ r. ⌜ r ≡ Of.times self (Of.from (x .whole)) ⌝ }
     {
@@ -73,7 +73,7 @@ impl Compensated {
     }
 
     // The product with a float whose halves are at hand.
-    pub fn times_by(self, x: Halves) -> Self
+    pub(crate) fn times_by(self, x: Halves) -> Self
         requires { ⌜ x ≡ halves (x .whole) ⌝ }
         ensures { λ r. ⌜ r ≡ Of.times self (Of.from (x .whole)) ⌝ }
     {
@@ -86,14 +86,14 @@ impl Compensated {
     }
 
     // Both components rounded to one float.
-    pub fn value(self) -> f64
+    pub(crate) fn value(self) -> f64
         ensures { λ r. ⌜ r ≡ Of.value self ⌝ }
     {
         self.high + self.low
     }
 
     // Whether both components are zero.
-    pub fn is_zero(self) -> bool
+    pub(crate) fn is_zero(self) -> bool
         ensures { λ r. ⌜ r ≡ Of.is-zero self ⌝ }
     {
         self.high == 0.0 && self.low == 0.0

@@ -1,6 +1,5 @@
 // Curves of J1 and J2, from src/singularity/j1j2free.rs.
 ghost use mathlib.Core.Path.{_≡_};
-ghost use lib.ListN.{take};
 ghost use Rattle.polynomial.specs.Curve as Of;
 ghost use Rattle.polynomial.specs.Polynomial.{nine};
 use crate::arithmetic::add;
@@ -89,9 +88,9 @@ impl Curve {
     }
 }
 
-// (1 + u^2)^2 * norm^2, in the first five places.
+// (1 + u^2)^2 * norm^2, in the first five places, and zeros behind it.
 fn norm_target(norm: f64) -> [Compensated; 9]
-    ensures { λ r. ⌜ take 5 r ≡ Of.target norm ⌝ }
+    ensures { λ r. ⌜ r ≡ nine (Of.target norm) ⌝ }
 {
     let n = Compensated::from(norm);
     let squared = n.times(n);
@@ -111,9 +110,10 @@ fn norm_target(norm: f64) -> [Compensated; 9]
     r
 }
 
-// x(u)^2 + y(u)^2 less the target, in the chart around the origin, in the first five places.
+// x(u)^2 + y(u)^2 less the target, in the chart around the origin, in the first five
+// places, and zeros behind it.
 pub(crate) fn norm_polynomial(x: Harmonic, y: Harmonic, norm: f64, origin: f64) -> [Compensated; 9]
-    ensures { λ r. ⌜ take 5 r ≡ Of.norm-polynomial x y norm origin ⌝ }
+    ensures { λ r. ⌜ r ≡ nine (Of.norm-polynomial x y norm origin) ⌝ }
 {
     let p = numerator(x, origin);
     let q = numerator(y, origin);

@@ -50,7 +50,7 @@ fn turned(lo: f64, hi: f64, m: f64, v: f64, positive: bool) -> Turn
     Turn::Lower
 }
 
-// What that turn leaves.
+// What a turn at the middle m of lo and hi, where the value is v, leaves.
 fn halved(lo: f64, hi: f64, m: f64, v: f64, positive: bool) -> Left
     ensures { λ r. ⌜ r ≡ Inside.halved lo hi m v positive ⌝ }
 {

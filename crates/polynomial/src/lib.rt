@@ -6,6 +6,7 @@ pub mod compensated;
 pub mod curve;
 pub mod cuts;
 pub mod halving;
+pub mod inner;
 pub mod interface;
 pub mod norm;
 pub mod operation;

@@ -4,9 +4,13 @@ ghost use mathlib.Core.List.{_++_};
 ghost use Prim.Native.Nat.{_+_, _≤_};
 ghost use lib.ListN.{length, take, drop};
 ghost use Rattle.polynomial.specs.Operation as Operation;
+ghost use Rattle.polynomial.specs.Polynomial as Of;
 ghost use Rattle.polynomial.specs.Roots as Roots;
 use crate::compensated::Compensated;
 use float::number::abs;
+
+// 2^400.
+const LARGEST_PART: f64 = 2.5822498780869086e120;
 
 // The number of roots, or why there is none. `number` of specs/Operation.antt gives 01's number.
 pub enum Answer {
@@ -18,7 +22,7 @@ pub enum Answer {
 }
 
 // Whether the bounds are numbers within ±4, in order.
-pub fn bounds_hold(lower: f64, upper: f64) -> bool
+pub(crate) fn bounds_hold(lower: f64, upper: f64) -> bool
     ensures { λ r. ⌜ r ≡ Operation.bounds-hold lower upper ⌝ }
 {
     if abs(lower) <= 4.0 {
@@ -31,13 +35,13 @@ pub fn bounds_hold(lower: f64, upper: f64) -> bool
 }
 
 // Whether a part is finite, and at most 2^400 in magnitude.
-pub fn part_holds(x: f64) -> bool
+pub(crate) fn part_holds(x: f64) -> bool
     ensures { λ r. ⌜ r ≡ Operation.part-holds x ⌝ }
 {
-    abs(x) <= 2.5822498780869086e120
+    abs(x) <= LARGEST_PART
 }
 
-// Whether every part is.
+// Whether every part is finite, and at most 2^400 in magnitude.
 fn parts_hold(s: &[f64]) -> bool
     ensures { λ r. ⌜ r ≡ Operation.parts-hold (now (s .entry)) ⌝ }
 {
@@ -52,10 +56,10 @@ fn parts_hold(s: &[f64]) -> bool
     true
 }
 
-// The pairs of s, in the first n places of an array.
+// The pairs of s, in the first n places of an array, and zeros behind them.
 fn gather(s: &[f64], n: usize) -> [Compensated; 9]
     requires { ⌜ (n ≤ 9) × (length (now s) ≡ n + n) ⌝ }
-    ensures { λ r. ⌜ take n r ≡ Operation.pairs (now (s .entry)) ⌝ }
+    ensures { λ r. ⌜ r ≡ Of.nine (Operation.pairs (now (s .entry))) ⌝ }
 {
     let mut q = [Compensated {
         high: 0.0,

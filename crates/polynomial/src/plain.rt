@@ -8,18 +8,28 @@ ghost use Rattle.polynomial.specs.Promises.Plain.{both, Tidy, AllTidy, T
 use crate::compensated::Compensated;
 use float::number::abs;
 
+// 2^500, 2^52 and 2^-1010. MARGIN is 2^-43: how far from zero a plain value has to be, as a part of
+// the scale.
+const LARGEST: f64 = 3.273390607896142e150;
+
+const LIFT: f64 = 4503599627370496.0;
+
+const LEAST: f64 = 9.113902524445497e-305;
+
+const MARGIN: f64 = 1.1368683772161603e-13;
+
 // Whether a coefficient's residual is small beside its rounded value, and this is not large.
 fn is_tidy(high: f64, low: f64) -> bool
     ensures { λ r. ⌜ (r ≡ true → Tidy (both high low)) ⌝ }
 {
     let size = abs(high);
-    if size <= 3.273390607896142e150 {
-        return abs(low) * 4503599627370496.0 <= size;
+    if size <= LARGEST {
+        return abs(low) * LIFT <= size;
     }
     false
 }
 
-// Whether each of the first n coefficients is so.
+// Whether each of the first n coefficients has a small residual and is not large.
 pub(crate) fn all_tidy(p: [Compensated; 9], n: usize) -> bool
     requires { ⌜ n ≤ 9 ⌝ }
     ensures { λ r. ⌜ (r ≡ true → AllTidy (take n p)) ⌝ }
@@ -41,9 +51,8 @@ fn sign_of(size: f64, v: f64, scale: f64) -> f64
     ensures { λ r. ⌜ r ≡ told size v scale ⌝ }
 {
     if size <= 1.0 {
-        if scale >= 9.113902524445497e-305 {
-            // 2^-43 of the scale
-            let margin = 1.1368683772161603e-13 * scale;
+        if scale >= LEAST {
+            let margin = MARGIN * scale;
             if v > margin {
                 return 1.0;
             }

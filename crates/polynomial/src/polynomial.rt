@@ -11,6 +11,9 @@ use float::number::is_finite;
 use float::product_error::halved_operand;
 use float::product_error::in_range;
 
+// 128 * 2^-52 * 2^-52.
+const ROUNDOFF: f64 = 6.310887241768095e-30;
+
 // The value at x of the first n coefficients, by compensated Horner arithmetic.
 pub(crate) fn evaluate(p: [Compensated; 9], n: usize, x: f64) -> f64
     requires { ⌜ n ≤ 9 ⌝ }
@@ -91,8 +94,7 @@ pub(crate) fn value_near(p: [Compensated; 9], n: usize, x: f64, v: f64) -> bool
     requires { ⌜ n ≤ 9 ⌝ }
     ensures { λ r. ⌜ r ≡ Of.value-near (take n p) x v ⌝ }
 {
-    // 128 * 2^-52 * 2^-52
-    abs(v) <= 6.310887241768095e-30 * magnitudes(p, n, x)
+    abs(v) <= ROUNDOFF * magnitudes(p, n, x)
 }
 
 // How many of the first n coefficients are left without the zeros at the end.
@@ -130,10 +132,10 @@ pub(crate) fn all_finite(p: [Compensated; 9], n: usize) -> bool
     true
 }
 
-// The derivative of the first n coefficients, in its first n - 1 places.
+// The derivative of the first n coefficients, in the first n - 1 places, and zeros behind it.
 pub(crate) fn derivative(p: [Compensated; 9], n: usize) -> [Compensated; 9]
     requires { ⌜ (0 < n) × (n ≤ 9) ⌝ }
-    ensures { λ r. ⌜ take (n - 1) r ≡ Of.derivative (take n p) ⌝ }
+    ensures { λ r. ⌜ r ≡ Of.nine (Of.derivative (take n p)) ⌝ }
 {
     let mut d = [Compensated {
         high: 0.0,

@@ -23,7 +23,7 @@ use float::number::abs;
 use float::number::is_finite;
 use float::trig::sin_cos;
 use polynomial::curve::Harmonic;
-use polynomial::norm::Inner;
+use polynomial::inner::Inner;
 use polynomial::norm::squared_norm_roots;
 
 // How many numbers stand in the slice now, and whether no inner call of the root finder was refused.

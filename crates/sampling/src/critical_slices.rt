@@ -18,8 +18,8 @@ use polynomial::compensated::Compensated;
 use polynomial::curve::Curve;
 use polynomial::curve::Numerators;
 use polynomial::cuts::Put;
-use polynomial::norm::Inner;
-use polynomial::norm::inner_roots;
+use polynomial::inner::Inner;
+use polynomial::inner::inner_roots;
 
 // The chart u = tan((q1 - origin) / 2): its origin and its bounds.
 pub struct Chart {

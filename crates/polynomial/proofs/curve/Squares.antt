@@ -1,18 +1,18 @@
--- The target of a squared norm: the denominator's square, and what is multiplied so far. Assumes nothing.
+-- The target of a squared norm: the denominator's square, and what is multiplied so far.
 use Prim.Native.Nat.{ℕ, suc, _+_, _≤_, _<_}
 use native.Mathlib.Numerals.{add-one}
 use native.Mathlib.Omega.{arith}
 use mathlib.Core.Path.{_≡_, sym, ap, ap₂, _∙_}
 use mathlib.Core.List.{List, [], _∷_, _++_, append-nil}
-use lib.ListN.{length, getD, set, take, drop}
+use lib.ListN.{length, getD, set, take, drop, replicate}
 use lib.Seq.{slice, slice-cons, slice-empty, take-set-lt, drop-set-lt}
 use lib.Ieee.{Float, binary64, ofBits}
 use Rattle.float.specs.Laws.Zero.{zero-bits}
 use Rattle.polynomial.specs.Compensated.{from, times}
-use Rattle.polynomial.specs.Polynomial.{nine, multiply}
+use Rattle.polynomial.specs.Polynomial.{nothing, nine, multiply}
 use Rattle.polynomial.specs.Curve.{times-each, target}
 use Rattle.polynomial.specs.Laws.Lists.{store-more}
-use Rattle.polynomial.specs.Laws.Nine.{multiply-front}
+use Rattle.polynomial.specs.Laws.Nine.{multiply-front, multiply-behind}
 use Rattle.float.specs.Laws.Literals.{one-bits}
 use Rattle.polynomial.specs.declared.compensated.Compensated.{Compensated}
 
@@ -29,6 +29,9 @@ module _ (norm : Float) (n squared first last : Compensated) (square : List Comp
       → target norm ≡ times-each (take 5 square) squared
   unfolding target
   target-start e0 e1 e2 e3 e4 = sym (simp (multiply-front square written written 3 3 e4 (omega arith) (omega arith), e1, e0, e2, e3, one-bits, zero-bits))
+
+  pub target-behind : square ≡ nine (multiply written written) → drop 5 square ≡ replicate 4 nothing
+  target-behind e = multiply-behind square written written 3 3 e (omega arith) (omega arith)
 
 module _ (r : List Compensated) (n i : ℕ) (factor : Compensated) where
   pub times-more : (z v : Compensated) → i < n → n ≤ length r → v ≡ times (getD r i z) factor

@@ -11,19 +11,20 @@ use Rattle.float.specs.Number.{middle, zero-float, one-float}
 use Rattle.float.specs.Trig.{P}
 use Rattle.polynomial.specs.Cuts.{cuts, put}
 use Rattle.polynomial.specs.Curve.{inner-holds, norm-polynomial, chart-angles, half-roots, half-holds, squared-norm-roots, squared-norm-holds}
-use Rattle.polynomial.specs.Promises.Norm.{squared-norm-answer, size, listed, put-all}
+use Rattle.polynomial.specs.Promises.Inner.{size, listed}
+use Rattle.polynomial.specs.Promises.Norm.{squared-norm-answer, put-all}
 use Rattle.polynomial.specs.Roots.{roots}
 use Rattle.polynomial.specs.declared.compensated.Compensated.{Compensated}
 use Rattle.polynomial.specs.declared.curve.Harmonic.{Harmonic}
-use Rattle.polynomial.specs.declared.norm.Inner.{Inner}
-use Rattle.polynomial.specs.declared.norm.Inner.the-variants.{Count, Refused}
+use Rattle.polynomial.specs.declared.inner.Inner.{Inner}
+use Rattle.polynomial.specs.declared.inner.Inner.the-variants.{Count, Refused}
 use Rattle.polynomial.specs.Promises.Lists.{Fit}
 use Rattle.polynomial.specs.Laws.Cuts.{cuts-snoc, put-most, put-longer, fit-append}
 use Rattle.polynomial.specs.Laws.Norm.{angles-length, inner-few}
 use Rattle.polynomial.specs.Laws.Wrapped.{wrapped-fits}
 use Rattle.polynomial.specs.Laws.Inner.{inner-refused, inner-counted, call-list}
 use Rattle.polynomial.proofs.roots.Kept.{Front, front-take, front-rest}
-use Rattle.polynomial.proofs.norm.Bounded.{Answered}
+use Rattle.polynomial.proofs.inner.Bounded.{Answered}
 
 -- ---- values put one after the other
 

@@ -1,14 +1,28 @@
--- The pairs that are stored, and those of what is left. Assumes nothing.
-use Prim.Native.Nat.{ℕ, suc, _+_, _≤_, _<_}
+-- The pairs that are stored, and those of what is left.
+use Prim.Native.Nat.{ℕ, zero, suc, _+_, _≤_, _<_}
 use native.Mathlib.Omega.{arith}
-use mathlib.Core.Path.{_≡_, ap, ap₂, _∙_}
-use mathlib.Core.List.{List, _∷_, _++_, append-nil}
+use mathlib.Core.Path.{_≡_, refl, ap, ap₂, _∙_}
+use mathlib.Core.List.{List, [], _∷_, _++_, append-nil}
 use lib.ListN.{length, getD, take, drop, set, drop-of-length-le}
 use lib.Seq.{drop-cons}
 use lib.Ieee.{Float}
+use Rattle.polynomial.specs.Polynomial.{nine}
 use Rattle.polynomial.specs.Operation.{pairs}
+use Rattle.polynomial.specs.Laws.Nine.{front}
 use Rattle.polynomial.specs.Laws.Lists.{store-more}
 use Rattle.polynomial.specs.declared.compensated.Compensated.{Compensated}
+
+-- half as many as there are floats
+many : (n : ℕ) (s : List Float) → length s ≡ n + n → length (pairs s) ≡ n
+unfolding pairs
+many zero [] h = refl
+many zero (x ∷ l) h = absurd (omega arith)
+many (suc n) [] h = absurd (omega arith)
+many (suc n) (x ∷ []) h = absurd (omega arith)
+many (suc n) (x ∷ (y ∷ l)) h = ap suc (many n l (omega arith))
+
+pub pairs-front : (r : List Compensated) (s : List Float) (n : ℕ) → length s ≡ n + n → r ≡ nine (pairs s) → take n r ≡ pairs s
+pairs-front r s n h = front r (pairs s) n (many n s h)
 
 module _ (s : List Float) (q : List Compensated) (n i : ℕ) (h : length s ≡ n + n) where
   pub gather-more : (d : Float) → i < n → n ≤ length q

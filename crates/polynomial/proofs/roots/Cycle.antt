@@ -1,4 +1,4 @@
--- What the cycle of `roots` and `partitions` rests on beside the laws of its definitions: the lists that stand at the front of the lent places, what stands behind them, and that there is room. Assumes nothing.
+-- What the cycle of `roots` and `partitions` rests on beside the laws of its definitions: the lists that stand at the front of the lent places, what stands behind them, and that there is room.
 use Prim.Native.Nat.{ℕ, zero, suc, _+_, _-_, _*_, _^_, _≤_, _<_, zero-le, suc-le-suc}
 use native.Mathlib.Nat.{le-refl, le-trans, le-of-suc-le-suc, pow-suc, not-suc-le-zero}
 use native.Mathlib.Omega.{arith}
@@ -6,16 +6,21 @@ use mathlib.Core.Path.{_≡_, ap, sym, _∙_}
 use mathlib.Core.List.{List, [], _∷_}
 use lib.Pow.{pow-mono}
 use lib.ListN.{length, getD, take}
+use lib.Seq.{length-take-le}
 use lib.Ieee.{Float}
 use Rattle.float.specs.Promises.Order.{Span}
 use Rattle.polynomial.specs.Cuts.{put}
-use Rattle.polynomial.specs.Polynomial.{nothing, derivative}
+use Rattle.polynomial.specs.Polynomial.{nothing, nine, derivative}
 use Rattle.polynomial.specs.Roots.{partitions, quotient, roots-at}
 use Rattle.polynomial.specs.declared.compensated.Compensated.{Compensated}
 use Rattle.polynomial.specs.Laws.Cuts.{put-most}
 use Rattle.polynomial.specs.Laws.Degree.{derivative-length}
+use Rattle.polynomial.specs.Laws.Nine.{front}
 use Rattle.polynomial.specs.Laws.Enclosed.{roots-in, roots-strict, roots-most, points-put, points-short}
 use Rattle.polynomial.proofs.roots.Kept.{Front, front-of, front-take, front-rest, put-least}
+
+pub derivative-front : (r p : List Compensated) (n : ℕ) → n ≤ length p → r ≡ nine (derivative (take n p)) → take (n - 1) r ≡ derivative (take n p)
+derivative-front r p n h = front r (derivative (take n p)) (n - 1) (derivative-length (take n p) ∙ ap (λ (j : ℕ). j - 1) (length-take-le n p h))
 
 -- a line's two coefficients, by the array that holds them
 pub line-of : (P : List Compensated) (m : ℕ) (d : Compensated) (lower upper : Float) → m ≡ 2 → 2 ≤ length P

@@ -7,12 +7,12 @@ use native.Mathlib.Omega.{arith}
 use lib.ListN.{length, take, drop, length-append}
 use lib.Seq.{take-at}
 use lib.Ieee.{Float}
-use Rattle.polynomial.specs.Promises.Norm.{inner-answer, size, listed}
+use Rattle.polynomial.specs.Promises.Inner.{inner-answer, size, listed}
 use Rattle.polynomial.specs.Roots.{roots}
 use Rattle.polynomial.specs.Curve.{inner-holds}
 use Rattle.polynomial.specs.declared.compensated.Compensated.{Compensated}
-use Rattle.polynomial.specs.declared.norm.Inner.{Inner}
-use Rattle.polynomial.specs.declared.norm.Inner.the-variants.{Count, Refused}
+use Rattle.polynomial.specs.declared.inner.Inner.{Inner}
+use Rattle.polynomial.specs.declared.inner.Inner.the-variants.{Count, Refused}
 
 -- ---- an answer by its test b
 

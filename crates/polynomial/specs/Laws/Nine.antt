@@ -1,20 +1,25 @@
--- Nine places with a polynomial's coefficients and zeros behind them: the coefficients read back. Assumes nothing.
+-- Nine places with a polynomial's coefficients and zeros behind them: the coefficients read back.
 use Prim.Native.Nat.{ℕ, zero, suc, _+_, _-_, _≤_, max}
 use native.Mathlib.Omega.{arith}
 use mathlib.Core.Path.{_≡_, refl, ap, ap₂, _∙_}
 use mathlib.Core.List.{List, [], _∷_}
-use lib.ListN.{length, take, replicate}
-use lib.Seq.{take-at, length-take-le}
+use lib.ListN.{length, take, drop, replicate}
+use lib.Seq.{take-at, drop-at, length-take-le}
 use lib.Ieee.{Float, neg}
 use Rattle.float.specs.Number.{one-float}
 use Rattle.polynomial.specs.Polynomial.{nothing, nine, add, coefficients, multiply, determinant}
-use Rattle.polynomial.specs.Curve.{numerator}
+use Rattle.polynomial.specs.Curve.{numerator, times-each, target, norm-polynomial}
 use Rattle.polynomial.specs.declared.compensated.Compensated.{Compensated}
 use Rattle.polynomial.specs.declared.curve.Harmonic.{Harmonic}
 
-front : (r l : List Compensated) (k : ℕ) → length l ≡ k → r ≡ nine l → take k r ≡ l
+-- the coefficients, and the zeros behind them
+pub front : (r l : List Compensated) (k : ℕ) → length l ≡ k → r ≡ nine l → take k r ≡ l
 unfolding nine
 front r l k h e = ap (take k) e ∙ take-at l (replicate (9 - length l) nothing) k h
+
+behind : (r l : List Compensated) (k : ℕ) → length l ≡ k → r ≡ nine l → drop k r ≡ replicate (9 - k) nothing
+unfolding nine
+behind r l k h e = ap (drop k) e ∙ drop-at l (replicate (9 - length l) nothing) k h ∙ ap (λ (j : ℕ). replicate (9 - j) nothing) h
 
 length-add : (a b : List Compensated) (scale : Float) → length (add a b scale) ≡ max (length a) (length b)
 unfolding add
@@ -52,6 +57,13 @@ module _ (r a b : List Compensated) (n : ℕ) where
         let l = length-multiply (take n a) (take m b) in
         front r (multiply (take n a) (take m b)) (n + m - 1) (omega arith) e
 
+    pub multiply-behind : r ≡ nine (multiply (take n a) (take m b)) → n ≤ length a → m ≤ length b → drop (n + m - 1) r ≡ replicate (9 - (n + m - 1)) nothing
+    multiply-behind e h k =
+        let x = length-take-le n a h in
+        let y = length-take-le m b k in
+        let l = length-multiply (take n a) (take m b) in
+        behind r (multiply (take n a) (take m b)) (n + m - 1) (omega arith) e
+
     pub determinant-front : (c d : List Compensated) → r ≡ nine (determinant (take n a) (take m b) (take n c) (take m d)) → n ≤ length a → m ≤ length b → n ≤ length c → m ≤ length d
         → take (n + m - 1) r ≡ determinant (take n a) (take m b) (take n c) (take m d)
     determinant-front c d e h k p q =
@@ -65,3 +77,15 @@ module _ (r a b : List Compensated) (n : ℕ) where
 pub numerator-front : (r : List Compensated) (h : Harmonic) (origin : Float) → r ≡ nine (numerator h origin) → take 3 r ≡ numerator h origin
 unfolding numerator
 numerator-front r h origin = front r (numerator h origin) 3 refl
+
+pub target-front : (r : List Compensated) (norm : Float) → r ≡ nine (target norm) → take 5 r ≡ target norm
+unfolding coefficients multiply times-each target
+target-front r norm = front r (target norm) 5 refl
+
+module _ (x y : Harmonic) (norm origin : Float) where
+  pub length-norm : length (norm-polynomial x y norm origin) ≡ 5
+  unfolding numerator coefficients multiply add times-each target norm-polynomial
+  length-norm = refl
+
+  pub norm-front : (r : List Compensated) → r ≡ nine (norm-polynomial x y norm origin) → take 5 r ≡ norm-polynomial x y norm origin
+  norm-front r = front r (norm-polynomial x y norm origin) 5 length-norm

@@ -7,11 +7,11 @@ use lib.ListN.{length, length-append}
 use lib.Ieee.{Float, neg}
 use Rattle.float.specs.Number.{middle, zero-float, one-float}
 use Rattle.float.specs.Trig.{P}
-use Rattle.polynomial.specs.Polynomial.{add, coefficients, multiply}
 use Rattle.polynomial.specs.Roots.{roots}
-use Rattle.polynomial.specs.Curve.{numerator, times-each, target, norm-polynomial, chart-angles, half-roots, squared-norm-roots}
+use Rattle.polynomial.specs.Curve.{norm-polynomial, chart-angles, half-roots, squared-norm-roots}
 use Rattle.polynomial.specs.declared.curve.Harmonic.{Harmonic}
 use Rattle.polynomial.specs.Laws.Enclosed.{cuts-short, all-most}
+use Rattle.polynomial.specs.Laws.Nine.{length-norm}
 
 pub angles-length : (o : Float) (us : List Float) → length (chart-angles o us) ≡ length us
 unfolding chart-angles
@@ -19,13 +19,9 @@ angles-length o [] = refl
 angles-length o (u ∷ us) = let e = angles-length o us in omega arith
 
 module _ (x y : Harmonic) (norm : Float) where
-  five : (origin : Float) → length (norm-polynomial x y norm origin) ≡ 5
-  unfolding numerator coefficients multiply add times-each target norm-polynomial
-  five origin = refl
-
   -- the roots of an inner call
   pub inner-few : (origin lower upper : Float) → length (roots (norm-polynomial x y norm origin) lower upper) ≤ 29
-  inner-few origin lower upper = let e = five origin in all-most lower upper 5 (norm-polynomial x y norm origin) (omega arith)
+  inner-few origin lower upper = let e = length-norm x y norm origin in all-most lower upper 5 (norm-polynomial x y norm origin) (omega arith)
 
   pub half-roots-few : (lower upper : Float) → length (half-roots x y norm lower upper) ≤ 29
   unfolding half-roots

@@ -7,10 +7,11 @@ use mathlib.Core.List.{List, _++_}
 use lib.ListN.{length, take, drop, take-append-drop}
 use lib.Ieee.{Float}
 use Rattle.polynomial.specs.Curve.{squared-norm-roots, squared-norm-holds}
-use Rattle.polynomial.specs.Promises.Norm.{squared-norm-answer, size, listed}
+use Rattle.polynomial.specs.Promises.Inner.{size, listed}
+use Rattle.polynomial.specs.Promises.Norm.{squared-norm-answer}
 use Rattle.polynomial.specs.declared.curve.Harmonic.{Harmonic}
-use Rattle.polynomial.specs.declared.norm.Inner.{Inner}
-use Rattle.polynomial.specs.declared.norm.Inner.the-variants.{Count, Refused}
+use Rattle.polynomial.specs.declared.inner.Inner.{Inner}
+use Rattle.polynomial.specs.declared.inner.Inner.the-variants.{Count, Refused}
 use Rattle.polynomial.specs.Laws.Lists.{tail-part, tail-post}
 use Rattle.polynomial.specs.Laws.Norm.{squared-norm-few}
 use Rattle.polynomial.specs.Laws.Inner.{inner-refused, inner-counted}

@@ -1,7 +1,7 @@
--- `polynomial::curve::norm_polynomial` meets its contract. Assumes nothing.
+-- `polynomial::curve::norm_polynomial` meets its contract.
 use native.Mathlib.Omega.{arith}
 use borrow.Author.Needs.{needs}
-use Rattle.polynomial.specs.Laws.Nine.{add-front, multiply-front, numerator-front}
+use Rattle.polynomial.specs.Laws.Nine.{add-front, multiply-front, numerator-front, target-front}
 use Rattle.polynomial.specs.Curve.{norm-polynomial}
 use Rattle.float.specs.Laws.Literals.{one-bits}
 use Rattle.polynomial.proofs.curve.norm_polynomial.Statement.{statement}
@@ -38,8 +38,8 @@ returns c =
     let q = x .before in
     let p = q .before in
     simp (
-      add-front (c .add2 .result) (s .add .result) (t .norm-target .result) 5 _ (c .add2 .ensures) (omega (arith, s .add .ok .1 .0 .1)) (omega (arith, t .norm-target .ok .1 .0 .1)),
-      t .norm-target .ensures,
+      c .add2 .ensures,
+      target-front _ _ (t .norm-target .ensures),
       add-front (s .add .result) (x .multiply .result) (y .multiply2 .result) 5 _ (s .add .ensures) (omega (arith, x .multiply .ok .1 .0 .1)) (omega (arith, y .multiply2 .ok .1 .0 .1)),
       multiply-front (y .multiply2 .result) (q .numerator2 .result) (q .numerator2 .result) 3 3 (y .multiply2 .ensures) (omega (arith, q .numerator2 .ok .1 .0 .1)) (omega (arith, q .numerator2 .ok .1 .0 .1)),
       multiply-front (x .multiply .result) (p .numerator .result) (p .numerator .result) 3 3 (x .multiply .ensures) (omega (arith, p .numerator .ok .1 .0 .1)) (omega (arith, p .numerator .ok .1 .0 .1)),

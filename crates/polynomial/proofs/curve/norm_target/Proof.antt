@@ -1,18 +1,20 @@
--- `polynomial::curve::norm_target` meets its contract. The loop's invariant: what is multiplied so far, and then the product of the coefficients from i on with the squared norm.
+-- `polynomial::curve::norm_target` meets its contract. The loop's invariant: what is multiplied so far, then the product of the coefficients from i on with the squared norm, and zeros.
 use Prim.Native.Nat.{_-_, _≤_}
 use native.Mathlib.Omega.{arith}
 use mathlib.Core.Path.{_≡_, sym, _∙_}
 use mathlib.Core.List.{_++_}
-use lib.ListN.{length, take, length-set}
-use lib.Seq.{slice}
+use lib.ListN.{length, take, drop, replicate, length-set}
+use lib.Seq.{slice, drop-set-lt}
 use borrow.Author.Needs.{needs}
+use Rattle.polynomial.specs.Polynomial.{nothing}
 use Rattle.polynomial.specs.Curve.{times-each, target}
-use Rattle.polynomial.proofs.curve.Squares.{target-start, times-more, times-end}
+use Rattle.polynomial.proofs.arithmetic.Filled.{nine-of}
+use Rattle.polynomial.proofs.curve.Squares.{target-start, target-behind, times-more, times-end}
 use Rattle.polynomial.proofs.curve.norm_target.Statement.{statement}
 use Rattle.polynomial.proofs.curve.norm_target.Tie as tie
 
 abbrev Inv-loop : tie.InvT-loop
-Inv-loop norm squared r₀ i₀ r i = (i ≤ 5) × (length r ≡ 9) × (target norm ≡ take i r ++ times-each (slice i 5 r) squared)
+Inv-loop norm squared r₀ i₀ r i = (i ≤ 5) × (length r ≡ 9) × (target norm ≡ take i r ++ times-each (slice i 5 r) squared) × (drop 5 r ≡ replicate 4 nothing)
 
 abbrev μ-loop : tie.MeasureT-loop
 μ-loop norm squared r₀ i₀ r i = 5 - i
@@ -45,7 +47,10 @@ loop-holds c =
     let n = t .before in (
       search needs,
       search needs,
-      target-start (n .before .args .norm) (n .from .result) (t .times .result) (l .from2 .result) (c .before .from3 .result) (c .multiply .result) (n .from .ensures) (t .times .ensures) (l .from2 .ensures) (c .before .from3 .ensures) (c .multiply .ensures),
+      target-start (n .before .args .norm) (n .from .result) (t .times .result) (l .from2 .result) (c .before .from3 .result) (c .multiply .result)
+          (n .from .ensures) (t .times .ensures) (l .from2 .ensures) (c .before .from3 .ensures) (c .multiply .ensures),
+      target-behind (n .before .args .norm) (n .from .result) (t .times .result) (l .from2 .result) (c .before .from3 .result) (c .multiply .result)
+          (c .multiply .ensures),
     )
 
 mul-c : tie.Need-mul-c Inv-loop μ-loop
@@ -76,13 +81,16 @@ loop-again c =
       search needs,
       simp length-set (l .loop .inv .1),
       l .loop .inv .2 ∙ times-more (l .loop .r) 5 (l .loop .i) (s .times .result) _ (c .times2 .result) (search needs) (omega arith) (c .times2 .ensures),
+      drop-set-lt 5 (l .loop .r) (l .loop .i) (c .times2 .result) (omega arith) ∙ l .loop .inv .3,
     )
 
 returns : tie.Need-returns Inv-loop μ-loop
 returns c =
     let l = c .before in
     let s = l .before .before .before .before in
-    sym (l .loop .inv .2 ∙ times-end (l .loop .r) 5 (l .loop .i) (s .times .result) (search needs) (search needs))
+    nine-of (l .loop .r) (target (s .before .before .args .norm)) 5 (l .loop .inv .1) (omega arith)
+    (sym (l .loop .inv .2 ∙ times-end (l .loop .r) 5 (l .loop .i) (s .times .result) (search needs) (search needs)))
+    (l .loop .inv .3)
 
 pub norm-target-spec : {M : Type 1} → statement M
 norm-target-spec =

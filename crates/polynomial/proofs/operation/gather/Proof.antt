@@ -1,25 +1,27 @@
--- `polynomial::operation::gather` meets its contract. The loop's invariant: the pairs that are stored, and those of what is left.
+-- `polynomial::operation::gather` meets its contract. The loop's invariant: the pairs that are stored, with zeros behind them, and those of what is left.
 use Prim.Native.Nat.{_+_, _-_, _≤_}
 use native.Mathlib.Omega.{arith}
 use mathlib.Core.Path.{_≡_, refl, sym, _∙_}
 use mathlib.Core.List.{_++_}
-use lib.ListN.{length, take, drop, length-set}
+use lib.ListN.{length, take, drop, replicate, length-set}
 use lib.Ieee.{nan}
 use borrow.Author.Needs.{needs}
 use denote.Ref.{now}
+use Rattle.polynomial.specs.Polynomial.{nothing}
 use Rattle.polynomial.specs.Operation.{pairs}
+use Rattle.polynomial.proofs.arithmetic.Filled.{zeros-start, zeros-more, nine-of}
 use Rattle.polynomial.proofs.operation.Pairs.{gather-more, gather-end}
 use Rattle.polynomial.proofs.operation.gather.Statement.{statement}
 use Rattle.polynomial.proofs.operation.gather.Tie as tie
 
 abbrev Inv-loop : tie.InvT-loop
-Inv-loop s n q₀ i₀ q i = (i ≤ n) × (length q ≡ 9) × (pairs s ≡ take i q ++ pairs (drop (i + i) s))
+Inv-loop s n q₀ i₀ q i = (i ≤ n) × (length q ≡ 9) × (drop i q ≡ replicate (9 - i) nothing) × (pairs s ≡ take i q ++ pairs (drop (i + i) s))
 
 abbrev μ-loop : tie.MeasureT-loop
 μ-loop s n q₀ i₀ q i = n - i
 
 loop-holds : tie.Need-loop-holds Inv-loop μ-loop
-loop-holds c = (search needs, refl, refl)
+loop-holds c = (search needs, refl, zeros-start 9, refl)
 
 add-at : tie.Need-add-at Inv-loop μ-loop
 add-at c = search needs
@@ -54,14 +56,21 @@ loop-less c = search needs
 loop-again : tie.Need-loop-again Inv-loop μ-loop
 loop-again c =
     let l = c .before .before .before in
-    let a = l .before .args in
-    (search needs, simp length-set (l .loop .inv .1), l .loop .inv .2 ∙ gather-more (now (a .s)) (l .loop .q) (a .n) (l .loop .i) (search needs) nan (search needs) (omega arith))
+    let a = l .before .args in (
+      search needs,
+      simp length-set (l .loop .inv .1),
+      zeros-more (l .loop .q) (l .loop .i) _ (omega arith) (l .loop .inv .2),
+      l .loop .inv .3 ∙ gather-more (now (a .s)) (l .loop .q) (a .n) (l .loop .i) (search needs) nan (search needs) (omega arith),
+    )
 
 returns : tie.Need-returns Inv-loop μ-loop
 returns c =
     let l = c .before in
     let a = l .before .args in
-    sym (l .loop .inv .2 ∙ gather-end (now (a .s)) (l .loop .q) (a .n) (l .loop .i) (search needs) (search needs) (search needs))
+    let e : l .loop .i ≡ a .n = omega arith in
+    nine-of (l .loop .q) (pairs (now (a .s))) (a .n) (l .loop .inv .1) (search needs)
+    (sym (l .loop .inv .3 ∙ gather-end (now (a .s)) (l .loop .q) (a .n) (l .loop .i) (search needs) (search needs) (search needs)))
+    (rw (sym e) (l .loop .inv .2))
 
 pub gather-spec : {M : Type 1} → statement M
 gather-spec =

@@ -1,4 +1,4 @@
--- `polynomial::operation::roots` meets its contract: what the tests say, then that the finder's list is the definition's and has room. Assumes nothing.
+-- `polynomial::operation::roots` meets its contract: what the tests say, then that the finder's list is the definition's and has room.
 use Prim.Native.Nat.{ℕ, _/_, _%_, _^_, _≤_}
 use native.Mathlib.Omega.{arith}
 use mathlib.Core.Path.{_≡_, refl, sym, ap, _∙_}
@@ -17,6 +17,7 @@ use Rattle.polynomial.specs.Laws.Degree.{roots-enough}
 use Rattle.polynomial.specs.Laws.Enclosed.{roots-most}
 use Rattle.polynomial.specs.Roots as Roots
 use Rattle.polynomial.proofs.roots.Kept.{front-take}
+use Rattle.polynomial.proofs.operation.Pairs.{pairs-front}
 use Rattle.polynomial.proofs.operation.Answers.{odd-length, too-long, bad-bounds, bad-part, short-result, counted}
 use Rattle.polynomial.proofs.operation.roots.Statement.{statement}
 use Rattle.polynomial.proofs.operation.roots.Tie as tie
@@ -65,7 +66,8 @@ module _ (c : tie.After-roots) where
   few-coefficients = simp length-take (omega arith)
 
   all : Roots.roots-at n (take n q) (lower u) (upper u) ≡ found
-  all = roots-enough (lower u) (upper u) n (take n q) few-coefficients ∙ ap (λ (l : List Compensated). Roots.roots l (lower u) (upper u)) (c .before .before .gather .ensures)
+  all = roots-enough (lower u) (upper u) n (take n q) few-coefficients ∙ ap (λ (l : List Compensated). Roots.roots l (lower u) (upper u))
+      (pairs-front q (s u) n (omega (arith, even u)) (c .before .before .gather .ensures))
 
   count : c .roots .result ≡ length found
   count = c .roots .ensures .0 ∙ ap length all

@@ -1,26 +1,35 @@
--- `polynomial::polynomial::derivative` meets its contract. The loop's invariant: what is stored, and then the coefficients from i on times their powers.
-use Prim.Native.Nat.{_-_, _≤_, _<_, _^_}
+-- `polynomial::polynomial::derivative` meets its contract. The loop's invariant: what is stored, with zeros behind it, and then the coefficients from i on times their powers.
+use Prim.Native.Nat.{ℕ, _+_, _-_, _≤_, _<_, _^_}
 use native.Mathlib.Omega.{arith}
-use mathlib.Core.Path.{_≡_, refl, sym, _∙_}
-use mathlib.Core.List.{_++_}
-use lib.ListN.{length, take, length-set}
+use mathlib.Core.Path.{_≡_, refl, sym, subst, _∙_}
+use mathlib.Core.List.{List, _++_}
+use lib.ListN.{length, take, drop, set, replicate, length-set}
 use lib.Seq.{slice}
 use lib.Dec.{le→leb}
 use lib.Ieee.{inFloat}
 use borrow.Author.Needs.{needs}
-use Rattle.polynomial.specs.Polynomial.{powered, derivative}
+use Rattle.polynomial.specs.Polynomial.{nothing, powered, derivative}
+use Rattle.polynomial.specs.declared.compensated.Compensated.{Compensated}
+use Rattle.polynomial.proofs.arithmetic.Filled.{zeros-start, zeros-more, nine-of}
 use Rattle.polynomial.proofs.polynomial.Powers.{derivative-start, derivative-more, derivative-end}
 use Rattle.polynomial.proofs.polynomial.derivative.Statement.{statement}
 use Rattle.polynomial.proofs.polynomial.derivative.Tie as tie
 
 abbrev Inv-loop : tie.InvT-loop
-Inv-loop n p d₀ i₀ d i = (0 < i) × (i ≤ n) × (length p ≡ 9) × (length d ≡ 9) × (derivative (take n p) ≡ take (i - 1) d ++ powered i (slice i n p))
+Inv-loop n p d₀ i₀ d i =
+    (0 < i) × (i ≤ n) × (length p ≡ 9) × (length d ≡ 9) × (drop (i - 1) d ≡ replicate (9 - (i - 1)) nothing) × (derivative (take n p) ≡ take (i - 1) d ++ powered i (slice i n p))
+
+zeros-next : (d : List Compensated) (i : ℕ) (v : Compensated) → 0 < i → i ≤ 9 → drop (i - 1) d ≡ replicate (9 - (i - 1)) nothing
+    → drop (i + 1 - 1) (set d (i - 1) v) ≡ replicate (9 - (i + 1 - 1)) nothing
+zeros-next d i v h k e =
+    let b : i - 1 + 1 ≡ i + 1 - 1 = omega arith in
+    subst (λ (j : ℕ). drop j (set d (i - 1) v) ≡ replicate (9 - j) nothing) b (zeros-more d (i - 1) v (omega arith) e)
 
 abbrev μ-loop : tie.MeasureT-loop
 μ-loop n p d₀ i₀ d i = n - i
 
 loop-holds : tie.Need-loop-holds Inv-loop μ-loop
-loop-holds c = (search needs, search needs, search needs, refl, derivative-start (take (c .args .n) (c .args .t1)))
+loop-holds c = (search needs, search needs, search needs, refl, zeros-start 9, derivative-start (take (c .args .n) (c .args .t1)))
 
 mul-c : tie.Need-mul-c Inv-loop μ-loop
 mul-c c = search needs
@@ -61,14 +70,19 @@ loop-again c =
       search needs,
       l .loop .inv .2,
       simp length-set (l .loop .inv .3),
-      l .loop .inv .4 ∙ derivative-more (a .t1) (l .loop .d) (a .n) (l .loop .i) _ (c .before .from .result) (c .times .result) (search needs) (search needs) (omega arith) (omega arith) (c .before .from .ensures) (c .times .ensures),
+      zeros-next (l .loop .d) (l .loop .i) (c .times .result) (search needs) (omega arith) (l .loop .inv .4),
+      l .loop .inv .5
+          ∙ derivative-more (a .t1) (l .loop .d) (a .n) (l .loop .i) _ (c .before .from .result) (c .times .result) (search needs) (search needs) (omega arith) (omega arith) (c .before .from .ensures) (c .times .ensures),
     )
 
 returns : tie.Need-returns Inv-loop μ-loop
 returns c =
     let l = c .before in
     let a = l .before .args in
-    sym (l .loop .inv .4 ∙ derivative-end (a .t1) (l .loop .d) (a .n) (l .loop .i) (search needs) (search needs))
+    let e : l .loop .i ≡ a .n = omega arith in
+    nine-of (l .loop .d) (derivative (take (a .n) (a .t1))) (a .n - 1) (l .loop .inv .3) (omega arith)
+    (sym (l .loop .inv .5 ∙ derivative-end (a .t1) (l .loop .d) (a .n) (l .loop .i) (search needs) (search needs)))
+    (rw (sym e) (l .loop .inv .4))
 
 pub derivative-spec : {M : Type 1} → statement M
 derivative-spec =

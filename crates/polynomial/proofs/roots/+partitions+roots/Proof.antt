@@ -1,4 +1,4 @@
--- `polynomial::roots`' `partitions` and `roots`, which call each other, meet their contracts. The measures are twice the number of coefficients, and one more for `roots`. Assumes nothing.
+-- `polynomial::roots`' `partitions` and `roots`, which call each other, meet their contracts. The measures are twice the number of coefficients, and one more for `roots`.
 use Prim.Native.Nat.{ℕ, _+_, _-_, _^_, _<_, _≤_}
 use native.Mathlib.Omega.{arith}
 use native.Mathlib.Nat.{le-refl, le-of-eq}
@@ -22,7 +22,7 @@ use Rattle.polynomial.specs.Laws.Degree.{counted, counted-short, found, 
 use Rattle.polynomial.specs.Laws.Enclosed.{roots-in, points-ready, points-some}
 use Rattle.polynomial.specs.Roots as Of
 use Rattle.polynomial.proofs.roots.Kept.{Front, front-same, front-take}
-use Rattle.polynomial.proofs.roots.Cycle.{line-of, bounded, put-room, inner-room, points-room}
+use Rattle.polynomial.proofs.roots.Cycle.{derivative-front, line-of, bounded, put-room, inner-room, points-room}
 use Rattle.polynomial.proofs.roots.+partitions+roots.{statement}
 use Rattle.polynomial.proofs.roots.+partitions+roots.Tie.{close}
 use Rattle.polynomial.proofs.roots.partitions.Reads as partitions
@@ -99,7 +99,10 @@ module _ (t : ℕ) where
   called c =
       let s = c .before .before .before .before in
       let a = s .args in
-      let e = ap (λ (q : List Compensated). Of.roots-at (a .n - 1) q (a .lower) (a .upper)) (c .before .before .derivative .ensures) in
+      let nine : length (a .p) ≡ 9 = search needs in
+      let e =
+      ap (λ (q : List Compensated). Of.roots-at (a .n - 1) q (a .lower) (a .upper))
+      (derivative-front (c .before .before .derivative .result) (a .p) (a .n) (omega arith) (c .before .before .derivative .ensures)) in
       let n = c .roots .ensures .0 ∙ ap length e in
       let l = c .roots .kept .1 .1 .1 .1 .0 in
       let r = inner-room (a .n) (a .p) (a .lower) (a .upper) (s .pre .1 .0) (length (now (a .points))) (c .roots .result) (s .pre .1 .2) n in

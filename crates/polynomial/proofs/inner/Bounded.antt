@@ -8,13 +8,13 @@ use lib.ListN.{length, drop}
 use lib.Ieee.{Float}
 use borrow.Author.Tests.{le-leb}
 use Rattle.polynomial.specs.Curve.{all-hold, inner-holds}
-use Rattle.polynomial.specs.Promises.Norm.{inner-answer, size, listed}
+use Rattle.polynomial.specs.Promises.Inner.{inner-answer, size, listed}
 use Rattle.polynomial.specs.Operation.{bounds-hold}
 use Rattle.polynomial.specs.Roots.{roots}
 use Rattle.polynomial.specs.declared.compensated.Compensated.{Compensated}
 use Rattle.polynomial.specs.Laws.Enclosed.{all-most}
-use Rattle.polynomial.specs.declared.norm.Inner.{Inner}
-use Rattle.polynomial.specs.declared.norm.Inner.the-variants.{Count, Refused}
+use Rattle.polynomial.specs.declared.inner.Inner.{Inner}
+use Rattle.polynomial.specs.declared.inner.Inner.the-variants.{Count, Refused}
 use Rattle.polynomial.proofs.roots.Kept.{Front}
 
 -- the two clauses of the result r, where `before` stood in the lent slice and `last` stands there now

@@ -1,4 +1,4 @@
--- `polynomial::norm::inner_roots` meets its contract.
+-- `polynomial::inner::inner_roots` meets its contract.
 use Prim.Native.Nat.{_^_, _≤_}
 use native.Mathlib.Nat.{le-trans}
 use native.Mathlib.Omega.{arith}
@@ -11,9 +11,9 @@ use Rattle.polynomial.specs.Laws.Degree.{roots-enough}
 use Rattle.polynomial.specs.Laws.Bounds.{bounds-span}
 use Rattle.polynomial.proofs.roots.Cycle.{take-short}
 use Rattle.polynomial.proofs.roots.Kept.{front-same}
-use Rattle.polynomial.proofs.norm.Bounded.{bad-bounds, bad-parts, counted}
-use Rattle.polynomial.proofs.norm.inner_roots.Statement.{statement}
-use Rattle.polynomial.proofs.norm.inner_roots.Tie as tie
+use Rattle.polynomial.proofs.inner.Bounded.{bad-bounds, bad-parts, counted}
+use Rattle.polynomial.proofs.inner.inner_roots.Statement.{statement}
+use Rattle.polynomial.proofs.inner.inner_roots.Tie as tie
 
 bounds-hold-requires : tie.Need-bounds-hold-requires
 bounds-hold-requires c κs = search needs

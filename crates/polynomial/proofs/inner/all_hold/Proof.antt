@@ -1,4 +1,4 @@
--- `polynomial::norm::all_hold` meets its contract. The loop's invariant: what is left decides.
+-- `polynomial::inner::all_hold` meets its contract. The loop's invariant: what is left decides.
 use Prim.Native.Nat.{_-_, _≤_}
 use native.Mathlib.Omega.{arith}
 use mathlib.Core.Path.{_≡_, refl, sym, _∙_}
@@ -9,8 +9,8 @@ use borrow.Author.Needs.{needs}
 use Rattle.polynomial.specs.Operation.{part-holds}
 use Rattle.polynomial.specs.Curve.{all-hold}
 use Rattle.polynomial.proofs.polynomial.Every.{Every, every-on, every-end, bad-high, bad-low}
-use Rattle.polynomial.proofs.norm.all_hold.Statement.{statement}
-use Rattle.polynomial.proofs.norm.all_hold.Tie as tie
+use Rattle.polynomial.proofs.inner.all_hold.Statement.{statement}
+use Rattle.polynomial.proofs.inner.all_hold.Tie as tie
 
 every : Every part-holds all-hold
 unfolding all-hold
