@@ -2,7 +2,7 @@
 use mathlib.Core.Path.{_≡_, sym, ap, subst, _∙_}
 use mathlib.Core.Bool.{Bool, true, false, _&&_}
 use mathlib.Core.List.{List, [], _∷_, _++_}
-use Prim.Native.Nat.{ℕ, _+_, _≤_, _<_}
+use Prim.Native.Nat.{ℕ, suc, _+_, _≤_, _<_}
 use native.Mathlib.Numerals.{add-one}
 use lib.ListN.{length, take, getD}
 use lib.Seq.{slice, slice-cons, slice-empty}
@@ -16,7 +16,9 @@ use Rattle.polynomial.specs.declared.compensated.Compensated.{Compensated}
 use Rattle.polynomial.specs.declared.curve.Curve.{Curve}
 use Rattle.polynomial.specs.declared.cuts.Put.{Put}
 use Rattle.polynomial.specs.declared.curve.Numerators.{Numerators}
-use Rattle.sampling.specs.CriticalSlices.{angles, chart-roots, chart-holds, Polynomials, polynomials, tangency, intersection, meetings, meetings-hold, critical, critical-holds}
+use Rattle.sampling.specs.CriticalSlices.{angles, chart-roots, chart-holds, Polynomials, polynomials, tangency, intersection, critical, critical-holds}
+use Rattle.sampling.specs.Promises.Meetings.{meetings, meetings-hold}
+use Rattle.sampling.specs.Laws.CriticalSlices.{critical-nil, critical-cons, critical-holds-nil, critical-holds-cons}
 use Rattle.sampling.specs.Promises.Grown.{Grown}
 use Rattle.sampling.proofs.Grown.{then}
 use Rattle.sampling.specs.Promises.Numerators.{first-three}
@@ -79,14 +81,12 @@ module _ (c : Chart) (l : List Curve) (i n : ℕ) (d : Curve) (h : i < n) (b : n
   pub critical-next :
       critical c (slice i n l)
       ≡ (chart-roots c (tangency (polynomials (getD l i d) (c .origin))) ++ meetings c (polynomials (getD l i d) (c .origin)) (slice (i + 1) n l)) ++ critical c (slice (i + 1) n l)
-  unfolding critical
-  critical-next = rw (add-one, slice-cons i n l d h b)
+  critical-next = rw (add-one, slice-cons i n l d h b) (critical-cons c (getD l i d) (slice (suc i) n l))
 
   pub critical-holds-next :
       critical-holds c (slice i n l)
       ≡ ((chart-holds c (tangency (polynomials (getD l i d) (c .origin))) && meetings-hold c (polynomials (getD l i d) (c .origin)) (slice (i + 1) n l)) && critical-holds c (slice (i + 1) n l))
-  unfolding critical-holds
-  critical-holds-next = rw (add-one, slice-cons i n l d h b)
+  critical-holds-next = rw (add-one, slice-cons i n l d h b) (critical-holds-cons c (getD l i d) (slice (suc i) n l))
 
 -- one more part of what has to hold
 pub holds-next : (h g x y z w : Bool) → (h && z) ≡ w → z ≡ (x && y) → g ≡ x → ((h && g) && y) ≡ w
@@ -107,9 +107,7 @@ module _ (c : Chart) (l : List Curve) (i n : ℕ) (e : i ≡ n) where
   meetings-hold-end k = rw (e, slice-empty n l)
 
   pub critical-end : critical c (slice i n l) ≡ []
-  unfolding critical
-  critical-end = rw (e, slice-empty n l)
+  critical-end = rw (e, slice-empty n l) (critical-nil c)
 
   pub critical-holds-end : critical-holds c (slice i n l) ≡ true
-  unfolding critical-holds
-  critical-holds-end = rw (e, slice-empty n l)
+  critical-holds-end = rw (e, slice-empty n l) (critical-holds-nil c)

@@ -1,4 +1,5 @@
 -- The slices of narrow bends: `bend_slices` of j1j2free.rs (01, module 6). Beside the list stands whether no inner call of the root finder on the way is refused; a refused call gives no angle. Definitions only.
+-- Near a pole the cosine of joint 5 differs from ±1 by less than the rounding of the matrix, so its curve loses the bend. The slices are found again from sines, across the arm: where joint 5's end meets an end of joint 4, 6 or 2, and where the component across is largest.
 use mathlib.Core.Bool.{Bool, true, _&&_, cond}
 use mathlib.Core.List.{List, [], _∷_, _++_}
 use lib.Ieee.{Float, neg, lt, le}
@@ -23,18 +24,17 @@ use Rattle.sampling.specs.Pose as Pose
 unfoldable pub transverse : Float → Float → Float → List Float
 transverse radius azimuth component =
     let offset = asin (clamp (component ⊘ radius)) in
-    cond (lt zero-float radius)
-    (cond (le (abs component) (radius ⊗ (one-float ⊕ root-roundoff)))
+    cond (lt zero-float radius && le (abs component) (radius ⊗ (one-float ⊕ root-roundoff)))
     (wrapped-angle (azimuth ⊖ offset) ∷ [] ++ wrapped-angle (azimuth ⊖ P ⊕ offset) ∷ [])
-    [])
     []
 
--- joint 4 at both ends of its limits; before them, at the extrema
+-- joint 4 at both ends of its limits
 unfoldable pub transverse-range : Float → Float → Float → Range → List Float
 transverse-range radius azimuth extreme Nothing = []
 transverse-range radius azimuth extreme (Between lower upper) =
     transverse radius azimuth (extreme ⊗ sin-cos lower .sine) ++ transverse radius azimuth (extreme ⊗ sin-cos upper .sine)
 
+-- the largest component in either direction, then joint 4's limits
 unfoldable pub transverses : Vector → Float → Range → List Float
 transverses z s5 range4 =
     let norm = Pose.vector-length z in
@@ -42,12 +42,12 @@ transverses z s5 range4 =
     let azimuth = atan2 (z .y) (z .x) in
     (transverse radius azimuth (neg norm ⊗ s5) ++ transverse radius azimuth (norm ⊗ s5)) ++ transverse-range radius azimuth (norm ⊗ s5) range4
 
--- the arm's axis, by joints 5 and 6
+-- where joints 5 and 6 are known, the arm's axis in the target's columns
 unfoldable pub arm-axis : Matrix → SinCos → SinCos → Vector
 arm-axis m q5 q6 =
     Pose.plus (Pose.plus (Pose.times (m .x) (neg (q5 .sine) ⊗ q6 .cosine)) (Pose.times (m .y) (q5 .sine ⊗ q6 .sine))) (Pose.times (m .z) (q5 .cosine))
 
--- both directions of joint 1
+-- joint 1 toward that axis or away from it
 unfoldable pub axis-angles : Vector → List Float
 axis-angles v = let angle = atan2 (v .y) (v .x) in angle ∷ [] ++ wrapped-angle (angle ⊕ P) ∷ []
 

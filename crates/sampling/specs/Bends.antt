@@ -21,15 +21,14 @@ use Rattle.sampling.specs.declared.intervals.Range.the-variants.{Nothing
 unfoldable pub norm-roots : Harmonic → Harmonic → Float → List Float
 norm-roots x y norm = cond (squared-norm-holds x y norm) (squared-norm-roots x y norm) []
 
--- constant, cosine and sine coefficients of a first harmonic
 unfoldable pub harmonic : Trig → Harmonic
 harmonic t = record { constant = t .constant; cosine = t .cosine; sine = t .sine }
 
--- above 0 and below 1.0e-4: close to a pole, where a cosine can round to ±1 although the bend is not zero
+-- Above 0 and below 1.0e-4: so close to a pole that the cosine can round to ±1 although the bend is not zero.
 unfoldable pub narrow : Float → Bool
-narrow sine = cond (lt zero-float sine) (lt sine (round binary64 false 1 10000)) false
+narrow sine = lt zero-float sine && lt sine (round binary64 false 1 10000)
 
--- where the cosine of joint 5 is that of the angle and, for a narrow sine, where the vector of joint 4 has that length
+-- Where the cosine of joint 5 is that of the angle and, for a narrow sine, where the vector of joint 4, whose length it is, has that length: its square is small, and compensated arithmetic keeps it.
 unfoldable pub bend-roots : Trig → Ray → Float → List Float
 bend-roots cos5 q4 angle =
     let sine = abs (sin-cos angle .sine) in
@@ -40,7 +39,7 @@ bend-roots-hold q4 angle =
     let sine = abs (sin-cos angle .sine) in
     cond (narrow sine) (squared-norm-holds (harmonic (q4 .x)) (harmonic (q4 .y)) sine) true
 
--- an angle counts if it is finite
+-- limits that admit no angle have a centre that is not finite
 unfoldable pub bend-at : Trig → Ray → Float → List Float
 bend-at cos5 q4 angle = cond (finite angle) (bend-roots cos5 q4 angle) []
 
@@ -55,14 +54,14 @@ unfoldable pub bend-range-holds : Ray → Range → Bool
 bend-range-holds q4 Nothing = true
 bend-range-holds q4 (Between lower upper) = bend-at-holds q4 lower && bend-at-holds q4 upper
 
--- the reference and, with limits, their centre and ends
+-- with limits, their centre and ends after the reference
 unfoldable pub bend-marks : Trig → Ray → Marks → List Float
 bend-marks cos5 q4 m = bend-at cos5 q4 (m .reference) ++ cond (m .limited) (bend-at cos5 q4 (m .center) ++ bend-range cos5 q4 (m .range)) []
 
 unfoldable pub bend-marks-hold : Ray → Marks → Bool
 bend-marks-hold q4 m = cond (m .limited) (bend-at-holds q4 (m .reference) && (bend-at-holds q4 (m .center) && bend-range-holds q4 (m .range))) (bend-at-holds q4 (m .reference))
 
--- All of them: the free joint's reference, the poles, joints 4, 5 and 6, the centre of the free joint's limits.
+-- All of them: the free joint's reference, the poles, joints 4, 5 and 6, the centre of the free joint's limits. Only joint 5 asks the root finder.
 unfoldable pub all-roots : Wrist → Float → Marks → Marks → Sixth → Float → List Float
 all-roots w near m4 m5 m6 center = ((((near ∷ [] ++ poles (w .cos5)) ++ ray-marks (w .q4) m4) ++ bend-marks (w .cos5) (w .q4) m5) ++ sixth-roots w m4 m6) ++ center ∷ []
 

@@ -1,5 +1,5 @@
 -- The boundary curves of two free joints, in the order in which the Rust pushes them: `boundaries` of j1j2free.rs (01, module 6). Definitions only.
-use mathlib.Core.Bool.{Bool, cond}
+use mathlib.Core.Bool.{Bool, not, _||_, cond}
 use mathlib.Core.List.{List, [], _∷_, _++_}
 use lib.Ieee.{Float, neg, le}
 use Rattle.float.specs.Number.{_⊕_, _⊗_, zero-float, one-float}
@@ -44,11 +44,11 @@ curve a b c =
       c2 = c .sine;
     }
 
--- joint 2 at an angle
+-- Joint 2 at an angle: what is allowed enters or leaves joint 2's interval only through its ends. The opposite direction is on the curve too; its cuts do no harm.
 unfoldable pub second-curve : Float → Float → Curve
 second-curve q3 angle = curve (level (neg (sin-cos (angle ⊕ q3) .sine))) (level (sin-cos (angle ⊕ q3) .cosine)) (level zero-float)
 
--- the cosine of joint 5
+-- joint 5 at an angle with this cosine
 unfoldable pub bend-curve : Vector → Float → Curve
 bend-curve z cosine = curve (level (z .z)) (along z) (level (neg cosine))
 
@@ -68,7 +68,7 @@ sixth-curve m angle =
     (plus (times (along (m .y)) (sin-cos angle .cosine)) (times (along (m .x)) (sin-cos angle .sine)))
     (level zero-float)
 
--- at a pole, the sum (sign 1) or the difference (sign −1) of an angle of joint 4 and one of joint 6
+-- At a pole, the sum (sign 1) or the difference (sign −1) of an angle of joint 4 and one of joint 6. Under a vertical target axis a pole lasts along an interval of joint 1; the curves of joints 4 and 6 vanish there and cannot bound it.
 unfoldable pub corner-curve : Matrix → Float → Float → Float → Curve
 corner-curve m sign q4 q6 =
     let s = sin-cos (q4 ⊕ sign ⊗ q6) .sine in
@@ -78,18 +78,17 @@ corner-curve m sign q4 q6 =
     (level (m .y .z ⊗ c ⊕ sign ⊗ m .x .z ⊗ s))
     (plus (times (across (m .x)) (sign ⊗ c)) (times (across (m .y)) (neg s)))
 
--- The limits of a wrist joint where they are present and leave a part of the turn out: a tolerance of P or more gives no boundary.
+-- The limits of a wrist joint where they are present and leave a part of the turn out: a tolerance of P or more bounds nothing.
 unfoldable pub wrist-limits : Bool → Joint → Range
 wrist-limits limited j =
-    cond limited
-    (cond (le P (centered limited j .tolerance)) Nothing (limits-of (centered limited j) (j .sign) (j .offset)))
-    Nothing
+    cond (not limited || le P (centered limited j .tolerance)) Nothing (limits-of (centered limited j) (j .sign) (j .offset))
 
 -- both ends of a joint's interval
 unfoldable pub second-curves : Float → Range → List Curve
 second-curves q3 Nothing = []
 second-curves q3 (Between lower upper) = second-curve q3 lower ∷ [] ++ second-curve q3 upper ∷ []
 
+-- The poles count without limits too: joints 4 and 6 change their representation there, and their phase is left to the samples of joint 2.
 unfoldable pub pole-curves : Vector → List Curve
 pole-curves z = bend-curve z (neg one-float) ∷ [] ++ bend-curve z one-float ∷ []
 

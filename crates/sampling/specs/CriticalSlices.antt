@@ -1,6 +1,7 @@
 -- The cuts of joint 1 at the intersections and the vertical tangencies of curves: `critical_slices` of j1j2free.rs (01, module 6). Beside each list stands whether no inner call of the root finder on the way is refused; a refused call gives no angle. Definitions only.
+-- Between two neighbouring cuts the curves keep their order, so what joint 2 may do does not change: one value of joint 1 stands for all of them.
 use mathlib.Core.Bool.{Bool, true, _&&_, cond}
-use mathlib.Core.List.{List, [], _∷_, _++_}
+use mathlib.Core.List.{List, [], _∷_, _++_, map, flatMap}
 use lib.Ieee.{Float, neg}
 use Rattle.float.specs.Number.{_⊕_, _⊖_, _⊗_, _⊘_, middle, one-float, two-float}
 use Rattle.float.specs.Trig.{tan, atan}
@@ -11,13 +12,13 @@ use Rattle.polynomial.specs.declared.compensated.Compensated.{Compensated}
 use Rattle.polynomial.specs.declared.curve.Curve.{Curve}
 use Rattle.sampling.specs.declared.critical_slices.Chart.{Chart}
 
--- the chart u = tan((q1 - origin) / 2) of a part of joint 1's interval: its origin and its bounds
+-- The chart u = tan((q1 - origin) / 2) of a half of joint 1's interval: its origin and its bounds. Of a half, so that u stays within ±1: a whole turn has the tangent's pole in it, and coefficients that large u spoils.
 unfoldable pub chart : Float → Float → Chart
 chart lower upper =
     let origin = middle lower upper in
     record { origin = origin; lower = tan ((lower ⊖ origin) ⊘ two-float); upper = tan ((upper ⊖ origin) ⊘ two-float) }
 
--- the angles of roots in the chart
+-- The angles of roots in the chart. Rounding may carry one past an end of its half; it stays a cut, since without it that crossing would be lost.
 unfoldable pub angles : Float → List Float → List Float
 angles origin [] = []
 angles origin (u ∷ us) = (origin ⊕ two-float ⊗ atan u) ∷ angles origin us
@@ -42,11 +43,11 @@ polynomials k origin = record { a = numerator (harmonic-a k) origin; b = numerat
 unfoldable pub squares : List Compensated → List Compensated → List Compensated → List Compensated
 squares p q r = add (add (multiply p p) (multiply q q) one-float) (multiply r r) (neg one-float)
 
--- a repeated root t is a vertical tangency
+-- Where a curve's two values of t fall together it has a vertical tangency: a range of t begins or ends there. A curve that vanishes for all t counts too.
 unfoldable pub tangency : Polynomials → List Compensated
 tangency k = squares (k .a) (k .b) (k .c)
 
--- two curves with a common t
+-- where two curves have a common t: cos(t) and sin(t) by Cramer's rule, and their squares' sum is 1
 unfoldable pub intersection : Polynomials → Polynomials → List Compensated
 intersection k l =
     let denominator = determinant (k .a) (l .b) (l .a) (k .b) in
@@ -54,20 +55,20 @@ intersection k l =
     let sine-numerator = determinant (k .c) (l .a) (l .c) (k .a) in
     squares cosine-numerator sine-numerator denominator
 
--- a curve with each later one
-unfoldable pub meetings : Chart → Polynomials → List Curve → List Float
-meetings c k [] = []
-meetings c k (l ∷ later) = chart-roots c (intersection k (polynomials l (c .origin))) ++ meetings c k later
+-- The polynomials that the root finder is asked about, in order: each curve's tangency, then its intersection with each later one, so that no pair comes twice.
+unfoldable pub calls : Float → List Curve → List (List Compensated)
+calls origin [] = []
+calls origin (k ∷ later) =
+    tangency (polynomials k origin) ∷ (map (λ l. intersection (polynomials k origin) (polynomials l origin)) later ++ calls origin later)
 
-unfoldable pub meetings-hold : Chart → Polynomials → List Curve → Bool
-meetings-hold c k [] = true
-meetings-hold c k (l ∷ later) = chart-holds c (intersection k (polynomials l (c .origin))) && meetings-hold c k later
-
--- each curve alone, then with each later one: no pair twice
+-- the angles of all calls
 unfoldable pub critical : Chart → List Curve → List Float
-critical c [] = []
-critical c (k ∷ later) = (chart-roots c (tangency (polynomials k (c .origin))) ++ meetings c (polynomials k (c .origin)) later) ++ critical c later
+critical c curves = flatMap (chart-roots c) (calls (c .origin) curves)
+
+-- whether no call is refused
+unfoldable pub charts-hold : Chart → List (List Compensated) → Bool
+charts-hold c [] = true
+charts-hold c (p ∷ ps) = chart-holds c p && charts-hold c ps
 
 unfoldable pub critical-holds : Chart → List Curve → Bool
-critical-holds c [] = true
-critical-holds c (k ∷ later) = (chart-holds c (tangency (polynomials k (c .origin))) && meetings-hold c (polynomials k (c .origin)) later) && critical-holds c later
+critical-holds c curves = charts-hold c (calls (c .origin) curves)

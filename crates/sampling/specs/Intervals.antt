@@ -1,5 +1,5 @@
 -- Allowed displacements from a reference, bounded to the nearest full turn: `wrist_limit_intervals` of the Rust (01, module 4). A limit interval is either none or a pair of angles. Definitions only.
-use mathlib.Core.Bool.{cond}
+use mathlib.Core.Bool.{_&&_, cond}
 use lib.Ieee.{Float, le, neg}
 use lib.Ieee.Scale.{finite}
 use Rattle.float.specs.Number.{_⊕_, _⊖_, _⊗_, minimum, maximum, zero-float}
@@ -18,19 +18,11 @@ seen c reference sign =
     (record { center = wrapped-angle (sign ⊗ (wrapped-angle (c .center) ⊖ reference)); tolerance = c .tolerance })
 
 -- the copy of the range that is shifted by a turn, cut off at -P and P
-abbrev pub lower-end : Center → Float → Float
-lower-end c shift = maximum (c .center ⊕ shift ⊖ c .tolerance) (neg P)
-
-abbrev pub upper-end : Center → Float → Float
-upper-end c shift = minimum (c .center ⊕ shift ⊕ c .tolerance) P
-
 unfoldable pub interval : Center → Float → Range
 interval c shift =
-    cond (finite (c .center))
-    (cond (le zero-float (c .tolerance))
-    (cond (le (lower-end c shift) (upper-end c shift)) (Between (lower-end c shift) (upper-end c shift)) Nothing)
-    Nothing)
-    Nothing
+    let lower = maximum (c .center ⊕ shift ⊖ c .tolerance) (neg P) in
+    let upper = minimum (c .center ⊕ shift ⊕ c .tolerance) P in
+    cond (finite (c .center) && le zero-float (c .tolerance) && le lower upper) (Between lower upper) Nothing
 
 -- a circular range may cross the ±P cut, so its neighbouring copies are included
 unfoldable pub wrist-limit-intervals : Center → Float → Float → Intervals

@@ -18,6 +18,7 @@ pub mod Slices
 pub mod Woven
 pub mod Plan
 pub mod J1j2free
+pub mod CriticalSlices
 pub mod FewCuts
 pub mod SmallCuts
 pub mod Reference

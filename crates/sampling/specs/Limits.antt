@@ -1,5 +1,5 @@
 -- A joint of a job, and the continuous interval of its model angle: `limits` of j1j2free.rs (01, module 4). Definitions only.
-use mathlib.Core.Bool.{Bool, cond}
+use mathlib.Core.Bool.{Bool, not, _||_, cond}
 use lib.Ieee.{Float, lt, isNan}
 use lib.Ieee.Scale.{finite}
 use Rattle.float.specs.Number.{_⊕_, _⊖_, _⊗_, minimum, zero-float}
@@ -15,16 +15,13 @@ use Rattle.sampling.specs.declared.job.Joint.{Joint}
 unfoldable pub centered : Bool → Joint → Center
 centered limited j = cond limited (compute-center (j .from) (j .to)) (record { center = j .reference; tolerance = P })
 
--- none where the tolerance is a NaN or below zero, or the centre is not finite; the offset is not wrapped
+-- The interval of the model angle around a centre: none for limits that admit no angle, a whole turn at most. The offset is not wrapped.
 unfoldable pub limits-of : Center → Float → Float → Range
 limits-of c sign offset =
-    cond (isNan (c .tolerance)) Nothing
-    (cond (lt (c .tolerance) zero-float) Nothing
-    (cond (finite (c .center))
-    (let center = wrapped-angle (wrapped-angle (c .center) ⊗ sign ⊖ offset) in
+    let center = wrapped-angle (wrapped-angle (c .center) ⊗ sign ⊖ offset) in
     let half-width = minimum (c .tolerance) P in
-    Between (center ⊖ half-width) (center ⊕ half-width))
-    Nothing))
+    cond (isNan (c .tolerance) || lt (c .tolerance) zero-float || not (finite (c .center))) Nothing
+    (Between (center ⊖ half-width) (center ⊕ half-width))
 
 unfoldable pub limits : Bool → Joint → Range
 limits limited j = limits-of (centered limited j) (j .sign) (j .offset)

@@ -1,5 +1,5 @@
 -- The angles of a wrist joint that bound the free joint's samples: its reference and, with limits, their centre and ends; from `sample_angles` of continuum.rs (01, module 5). Definitions only.
-use mathlib.Core.Bool.{Bool, true, false, cond}
+use mathlib.Core.Bool.{Bool, true, false, _&&_, cond}
 use lib.Ieee.{Float, le, lt}
 use lib.Ieee.Scale.{finite}
 use Rattle.float.specs.Number.{_⊕_, _⊖_, _⊗_, zero-float}
@@ -15,15 +15,12 @@ use Rattle.sampling.specs.declared.marks.Marks.{Marks}
 unfoldable pub model-angle : Float → Float → Float → Float
 model-angle sign offset angle = wrapped-angle (wrapped-angle angle ⊗ sign ⊖ wrapped-angle offset)
 
--- the ends of limits whose tolerance is finite, at least 0 and below P
+-- The ends of limits: none where the tolerance leaves no angle out (P or more, infinity included) or admits none (a NaN). They are not wrapped: only their sines and cosines count.
 unfoldable pub ends : Float → Float → Range
 ends center tolerance =
-    cond (finite tolerance)
-    (cond (le zero-float tolerance)
-    (cond (lt tolerance P) (Between (center ⊖ tolerance) (center ⊕ tolerance)) Nothing)
-    Nothing)
-    Nothing
+    cond (finite tolerance && le zero-float tolerance && lt tolerance P) (Between (center ⊖ tolerance) (center ⊕ tolerance)) Nothing
 
+-- The reference and the centre bound no range, yet the wrist that is nearest to them is wanted: where the free joint puts the wrist there is a sample too.
 unfoldable pub marks : Bool → Joint → Marks
 marks limited j =
     let reference = model-angle (j .sign) (j .offset) (j .reference) in

@@ -1,5 +1,5 @@
 -- The pose: `try_normalize_dquat` of the Rust, and the rotation matrix, dot product and length by 01's formulas (module 4). Definitions only.
-use mathlib.Core.Bool.{Bool, false, cond}
+use mathlib.Core.Bool.{Bool, not, _&&_, _||_, cond}
 use lib.Ieee.{Float, binary64, le, neg}
 use lib.Ieee.Scale.{finite}
 use Rattle.float.specs.Number.{_⊕_, _⊖_, _⊗_, _⊘_, zero-float, one-float}
@@ -15,18 +15,17 @@ unfoldable pub quaternion-length : Quaternion → Float
 quaternion-length q = sqrt binary64 (q .x ⊗ q .x ⊕ q .y ⊗ q .y ⊕ q .z ⊗ q .z ⊕ q .w ⊗ q .w)
 
 abbrev pub all-finite : Quaternion → Bool
-all-finite q = cond (finite (q .x)) (cond (finite (q .y)) (cond (finite (q .z)) (finite (q .w)) false) false) false
+all-finite q = finite (q .x) && finite (q .y) && finite (q .z) && finite (q .w)
 
 abbrev pub over : Quaternion → Float → Quaternion
 over q l = record { x = q .x ⊘ l; y = q .y ⊘ l; z = q .z ⊘ l; w = q .w ⊘ l }
 
+-- finite parts may have a length that overflows, or one of zero
 unfoldable pub try-normalize : Quaternion → Normalized
 try-normalize q =
-    cond (all-finite q)
-    (cond (finite (quaternion-length q))
-    (cond (le (quaternion-length q) zero-float) Zero (Unit (over q (quaternion-length q))))
-    NotFinite)
-    NotFinite
+    cond (not (all-finite q) || not (finite (quaternion-length q))) NotFinite
+    (cond (le (quaternion-length q) zero-float) Zero
+    (Unit (over q (quaternion-length q))))
 
 -- `DMat3::from_quat`, of the normalized parts, with X = x + x and so on: columns (1 − (yY + zZ), xY + wZ, xZ − wY), (xY − wZ, 1 − (xX + zZ), yZ + wX), (xZ + wY, yZ − wX, 1 − (xX + yY))
 unfoldable pub from-quat : Quaternion → Matrix

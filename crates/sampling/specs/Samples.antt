@@ -1,5 +1,5 @@
 -- From the boundary angles of one free joint to its samples: the end of `sample_angles` of continuum.rs (01, module 5). Cuts: each interval's list after its dedup. Definitions only.
-use mathlib.Core.Bool.{cond}
+use mathlib.Core.Bool.{_&&_, cond}
 use mathlib.Core.List.{List, [], _∷_, _++_}
 use Prim.Native.Nat.{ℕ, zero, suc, _*_}
 use lib.Ieee.{Float, neg, le}
@@ -14,9 +14,9 @@ use Rattle.sampling.specs.declared.intervals.Range.the-variants.{Nothing
 
 -- an angle where it lies in the interval, ends included
 unfoldable pub inside : Float → Float → Float → List Float
-inside lower upper angle = cond (le lower angle) (cond (le angle upper) (angle ∷ []) []) []
+inside lower upper angle = cond (le lower angle && le angle upper) (angle ∷ []) []
 
--- an angle, a turn below, as it is and a turn above
+-- An angle, a turn below, as it is and a turn above: roots are wrapped, and an interval around a reference reaches up to half a turn beyond.
 unfoldable pub turns : Float → Float → Float → List Float
 turns lower upper angle =
     (inside lower upper (angle ⊕ neg one-float ⊗ turn) ++ inside lower upper (angle ⊕ zero-float ⊗ turn)) ++ inside lower upper (angle ⊕ one-float ⊗ turn)
@@ -25,7 +25,7 @@ unfoldable pub all-turns : Float → Float → List Float → List Float
 all-turns lower upper [] = []
 all-turns lower upper (angle ∷ angles) = turns lower upper angle ++ all-turns lower upper angles
 
--- a root counts if it is finite
+-- a root that is not finite bounds nothing
 unfoldable pub windings : Float → Float → Float → List Float
 windings lower upper root = cond (finite root) (turns lower upper root) []
 
@@ -33,7 +33,7 @@ unfoldable pub all-windings : Float → Float → List Float → List Float
 all-windings lower upper [] = []
 all-windings lower upper (root ∷ roots) = windings lower upper root ++ all-windings lower upper roots
 
--- the ends of a displacement interval around the reference, and the roots between them
+-- The ends of a displacement interval around the reference, and the roots between them. Roots that differ are all kept, however near: a narrow range may lie between them.
 unfoldable pub interval-values : Float → List Float → Range → List Float
 interval-values near roots Nothing = []
 interval-values near roots (Between lower upper) =
@@ -42,11 +42,11 @@ interval-values near roots (Between lower upper) =
 unfoldable pub interval-cuts : Float → List Float → Range → List Float
 interval-cuts near roots range = cuts (interval-values near roots range)
 
--- How far inside a pair of neighbouring cuts the outer samples lie.
+-- How far inside a pair of neighbouring cuts the outer samples lie: past what rounding does to a cut, but in the outer quarters of what lies between.
 unfoldable pub inset : Float → Float → Float
 inset lower upper = minimum (root-roundoff ⊗ (one-float ⊕ maximum (abs lower) (abs upper))) ((upper ⊖ lower) ⊘ four-float)
 
--- three samples between two neighbours
+-- Three samples between two neighbours. At a cut two ranges may touch; the samples beside it keep a range that rounding closes at the cut itself.
 unfoldable pub between : Float → Float → List Float
 between lower upper = (lower ⊕ inset lower upper) ∷ (middle lower upper ∷ ((upper ⊖ inset lower upper) ∷ []))
 
@@ -55,7 +55,7 @@ all-between [] = []
 all-between (a ∷ []) = []
 all-between (a ∷ (b ∷ l)) = between a b ++ all-between (b ∷ l)
 
--- The cuts, then the samples between neighbours.
+-- the cuts, then the samples between neighbours, not sorted
 unfoldable pub samples : List Float → List Float
 samples l = l ++ all-between l
 

@@ -8,7 +8,7 @@ ghost use Rattle.sampling.specs.Continuum as Continuum;
 ghost use Rattle.sampling.specs.Promises.Pushed.{Pushed};
 ghost use Rattle.sampling.specs.Promises.Asked as Of;
 use crate::continuum::Trig;
-use crate::rays::push;
+use crate::push::push;
 use float::arc::Four;
 use float::arc::acos;
 use float::arc::atan2;

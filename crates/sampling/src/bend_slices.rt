@@ -8,11 +8,12 @@ ghost use Rattle.sampling.specs.BendSlices as Of;
 use crate::bends::Counted;
 use crate::bends::norm_roots;
 use crate::boundaries::across;
+use crate::continuum::ROOT_ROUNDOFF;
 use crate::intervals::Range;
 use crate::pose::Matrix;
 use crate::pose::Vector;
 use crate::pose::vector_length;
-use crate::rays::push;
+use crate::push::push;
 use float::arc::asin;
 use float::arc::atan2;
 use float::number::abs;
@@ -28,13 +29,10 @@ fn transverse(radius: f64, azimuth: f64, component: f64, out: &mut [f64], n: usi
     requires { ⌜ n + 2 ≤ length (now out) ⌝ }
     ensures { λ r. ⌜ Pushed 2 (Of.transverse radius azimuth component) n (now (out .entry)) r (now (out .exit)) ⌝ }
 {
-    if 0.0 < radius {
-        if abs(component) <= radius * (1.0 + 1.4210854715202004e-14) {
-            let offset = asin(clamp(component / radius));
-            let m = push(wrapped_angle(azimuth - offset), out, n);
-            return push(wrapped_angle(azimuth - 3.141592653589793 + offset), out, m);
-        }
-        return n;
+    if (0.0 < radius) & (abs(component) <= radius * (1.0 + ROOT_ROUNDOFF)) {
+        let offset = asin(clamp(component / radius));
+        let m = push(wrapped_angle(azimuth - offset), out, n);
+        return push(wrapped_angle(azimuth - 3.141592653589793 + offset), out, m);
     }
     n
 }

@@ -12,8 +12,8 @@ use crate::continuum::Trig;
 use crate::intervals::Range;
 use crate::marks::Marks;
 use crate::marks::Sixth;
+use crate::push::push;
 use crate::rays::poles;
-use crate::rays::push;
 use crate::rays::ray_angles;
 use crate::rays::roots_by;
 use crate::rays::sixth_angles;
@@ -64,10 +64,7 @@ fn harmonic(t: Trig) -> Harmonic
 fn narrow(sine: f64) -> bool
     ensures { λ r. ⌜ r ≡ Of.narrow sine ⌝ }
 {
-    if 0.0 < sine {
-        return sine < 1.0e-4;
-    }
-    false
+    (0.0 < sine) & (sine < 1.0e-4)
 }
 
 // Where joint 5 is bent by an angle; narrow ranges near the poles are kept.

@@ -7,8 +7,8 @@ ghost use Rattle.sampling.specs.Promises.Pushed.{Pushed};
 ghost use Rattle.sampling.specs.Boundaries as Of;
 use crate::intervals::Range;
 use crate::job::Joint;
-use crate::job::centered;
-use crate::job::limits_of;
+use crate::limits::centered;
+use crate::limits::limits_of;
 use crate::pose::Matrix;
 use crate::pose::Vector;
 use float::trig::sin_cos;
@@ -161,14 +161,11 @@ fn corner_curve(m: Matrix, sign: f64, q4: f64, q6: f64) -> Curve
 pub(crate) fn wrist_limits(limited: bool, j: Joint) -> Range
     ensures { λ r. ⌜ r ≡ Of.wrist-limits limited j ⌝ }
 {
-    if limited {
-        let c = centered(limited, j);
-        if 3.141592653589793 <= c.tolerance {
-            return Range::Nothing;
-        }
-        return limits_of(c, j.sign, j.offset);
+    let c = centered(limited, j);
+    if !limited | (3.141592653589793 <= c.tolerance) {
+        return Range::Nothing;
     }
-    Range::Nothing
+    limits_of(c, j.sign, j.offset)
 }
 
 fn empty() -> Curves

@@ -22,33 +22,27 @@ fn arc(a: f64, b: f64) -> f64
 pub fn compute_center(a: f64, b: f64) -> Center
     ensures { λ r. ⌜ r ≡ Constraints.compute-center a b ⌝ }
 {
-    if is_finite(a) {
-        if is_finite(b) {
-            if a == b {
-                return Center {
-                    center: 0.0,
-                    tolerance: 1.0 / 0.0,
-                };
-            }
-            if a < b {
-                return Center {
-                    center: (a + b) / 2.0,
-                    tolerance: (b - a) / 2.0,
-                };
-            }
-            let span = arc(a, b);
-            return Center {
-                center: a + span / 2.0,
-                tolerance: span / 2.0,
-            };
-        }
+    if !is_finite(a) | !is_finite(b) {
         return Center {
             center: 0.0 / 0.0,
             tolerance: 0.0 / 0.0,
         };
     }
+    if a == b {
+        return Center {
+            center: 0.0,
+            tolerance: 1.0 / 0.0,
+        };
+    }
+    if a < b {
+        return Center {
+            center: (a + b) / 2.0,
+            tolerance: (b - a) / 2.0,
+        };
+    }
+    let span = arc(a, b);
     Center {
-        center: 0.0 / 0.0,
-        tolerance: 0.0 / 0.0,
+        center: a + span / 2.0,
+        tolerance: span / 2.0,
     }
 }

@@ -14,6 +14,9 @@ use float::trig::hypot;
 use float::trig::sin_cos;
 use polynomial::angle::wrapped_angle;
 
+// 64 ε.
+pub(crate) const ROOT_ROUNDOFF: f64 = 1.4210854715202004e-14;
+
 // A first-harmonic polynomial of the free model angle.
 pub struct Trig {
     pub cosine: f64,
@@ -49,7 +52,7 @@ pub enum Crossings {
 
 impl Trig {
     // Multiplies every coefficient by the given factor.
-    pub fn scaled(self, factor: f64) -> Self
+    pub(crate) fn scaled(self, factor: f64) -> Self
         ensures { λ r. ⌜ r ≡ Of.scaled self factor ⌝ }
     {
         Self {
@@ -60,7 +63,7 @@ impl Trig {
     }
 
     // Adds two polynomials coefficient by coefficient.
-    pub fn plus(self, other: Trig) -> Self
+    pub(crate) fn plus(self, other: Trig) -> Self
         ensures { λ r. ⌜ r ≡ Of.plus self other ⌝ }
     {
         Self {
@@ -74,8 +77,7 @@ impl Trig {
     fn error(self, target: f64) -> f64
         ensures { λ r. ⌜ r ≡ Of.error self target ⌝ }
     {
-        1.4210854715202004e-14
-            * (abs(self.cosine) + abs(self.sine) + abs(self.constant) + abs(target))
+        ROOT_ROUNDOFF * (abs(self.cosine) + abs(self.sine) + abs(self.constant) + abs(target))
     }
 
     // Worked out once where a polynomial has many targets.
@@ -122,7 +124,7 @@ impl Trig {
 
 impl TrigVector {
     // Projects the vector polynomial onto a fixed vector.
-    pub fn dot(self, vector: Vector) -> Trig
+    pub(crate) fn dot(self, vector: Vector) -> Trig
         ensures { λ r. ⌜ r ≡ Of.dot self vector ⌝ }
     {
         let cosine = dot(self.cosine, vector);
@@ -137,7 +139,7 @@ impl TrigVector {
 }
 
 // The polynomial that is zero where the vector (x, y) lies on the boundary line of an angle.
-pub fn line(x: Trig, y: Trig, angle: f64) -> Trig
+pub(crate) fn line(x: Trig, y: Trig, angle: f64) -> Trig
     ensures { λ r. ⌜ r ≡ Of.line x y angle ⌝ }
 {
     let a = sin_cos(angle);

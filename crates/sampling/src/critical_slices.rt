@@ -6,6 +6,7 @@ ghost use lib.ListN.{length, take};
 ghost use lib.Seq.{slice};
 ghost use Rattle.sampling.specs.Promises.Grown.{Grown};
 ghost use Rattle.sampling.specs.CriticalSlices as Of;
+ghost use Rattle.sampling.specs.Promises.Meetings as Met;
 ghost use Rattle.sampling.specs.Promises.Numerators.{first-three};
 use crate::work::push;
 use float::arc::atan;
@@ -132,7 +133,7 @@ fn meetings(
     n: usize,
 ) -> Grew
     requires { ⌜ (first ≤ n) × (n ≤ 18) ⌝ }
-    ensures { λ r. ⌜ (r .holds ≡ Of.meetings-hold c (first-three k) (slice first n at)) × Grown (Of.meetings c (first-three k) (slice first n at)) (now (work .entry)) cuts (now (work .exit)) (r .cuts) ⌝ }
+    ensures { λ r. ⌜ (r .holds ≡ Met.meetings-hold c (first-three k) (slice first n at)) × Grown (Met.meetings c (first-three k) (slice first n at)) (now (work .entry)) cuts (now (work .exit)) (r .cuts) ⌝ }
 {
     let mut state = cuts;
     let mut holds = true;

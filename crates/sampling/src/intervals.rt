@@ -41,16 +41,10 @@ fn seen(c: Center, reference: f64, sign: f64) -> Center
 fn interval(c: Center, shift: f64) -> Range
     ensures { λ r. ⌜ r ≡ Of.interval c shift ⌝ }
 {
-    if is_finite(c.center) {
-        if 0.0 <= c.tolerance {
-            let lower = maximum(c.center + shift - c.tolerance, -3.141592653589793);
-            let upper = minimum(c.center + shift + c.tolerance, 3.141592653589793);
-            if lower <= upper {
-                return Range::Between(lower, upper);
-            }
-            return Range::Nothing;
-        }
-        return Range::Nothing;
+    let lower = maximum(c.center + shift - c.tolerance, -3.141592653589793);
+    let upper = minimum(c.center + shift + c.tolerance, 3.141592653589793);
+    if is_finite(c.center) & (0.0 <= c.tolerance) & (lower <= upper) {
+        return Range::Between(lower, upper);
     }
     Range::Nothing
 }

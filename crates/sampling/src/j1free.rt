@@ -8,7 +8,7 @@ use crate::pose::Vector;
 use float::trig::sin_cos;
 
 // The columns of the arm's rotation as functions of joint 1.
-pub fn arm_axes(arm: Arm) -> Axes
+pub(crate) fn arm_axes(arm: Arm) -> Axes
     ensures { λ r. ⌜ r ≡ Of.arm-axes arm ⌝ }
 {
     let a = sin_cos(arm.q2 + arm.q3);

@@ -20,7 +20,7 @@ use crate::critical_slices::critical;
 use crate::intervals::Range;
 use crate::job::Job;
 use crate::job::Joint;
-use crate::job::limits;
+use crate::limits::limits;
 use crate::pose::Matrix;
 use crate::samples::all_turns;
 use crate::work::push;

@@ -38,7 +38,7 @@ fn z_axis(radial: Vector, third: SinCos) -> TrigVector
 }
 
 // The columns of the arm's rotation as functions of joint 2.
-pub fn arm_axes(arm: Arm) -> Axes
+pub(crate) fn arm_axes(arm: Arm) -> Axes
     ensures { λ r. ⌜ r ≡ Of.arm-axes arm ⌝ }
 {
     let first = sin_cos(arm.q1);

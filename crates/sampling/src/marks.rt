@@ -23,7 +23,7 @@ pub enum Sixth {
 }
 
 // An angle of a joint as a model angle. The offset is wrapped here.
-pub fn model_angle(sign: f64, offset: f64, angle: f64) -> f64
+pub(crate) fn model_angle(sign: f64, offset: f64, angle: f64) -> f64
     ensures { λ r. ⌜ r ≡ Of.model-angle sign offset angle ⌝ }
 {
     let turned = wrapped_angle(angle) * sign;
@@ -31,23 +31,17 @@ pub fn model_angle(sign: f64, offset: f64, angle: f64) -> f64
 }
 
 // The ends of limits, where there are any.
-pub fn ends(center: f64, tolerance: f64) -> Range
+fn ends(center: f64, tolerance: f64) -> Range
     ensures { λ r. ⌜ r ≡ Of.ends center tolerance ⌝ }
 {
-    if is_finite(tolerance) {
-        if 0.0 <= tolerance {
-            if tolerance < 3.141592653589793 {
-                return Range::Between(center - tolerance, center + tolerance);
-            }
-            return Range::Nothing;
-        }
-        return Range::Nothing;
+    if is_finite(tolerance) & (0.0 <= tolerance) & (tolerance < 3.141592653589793) {
+        return Range::Between(center - tolerance, center + tolerance);
     }
     Range::Nothing
 }
 
 // What counts of a joint.
-pub fn marks_of(limited: bool, j: Joint) -> Marks
+pub(crate) fn marks_of(limited: bool, j: Joint) -> Marks
     ensures { λ r. ⌜ r ≡ Of.marks limited j ⌝ }
 {
     let reference = model_angle(j.sign, j.offset, j.reference);

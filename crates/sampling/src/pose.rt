@@ -18,13 +18,13 @@ pub struct Vector {
 }
 
 impl Vector {
-    pub fn new(x: f64, y: f64, z: f64) -> Self
+    pub(crate) fn new(x: f64, y: f64, z: f64) -> Self
         ensures { λ r. ⌜ r ≡ Pose.vector x y z ⌝ }
     {
         Self { x, y, z }
     }
 
-    pub fn times(self, factor: f64) -> Self
+    pub(crate) fn times(self, factor: f64) -> Self
         ensures { λ r. ⌜ r ≡ Pose.times self factor ⌝ }
     {
         Self {
@@ -34,7 +34,7 @@ impl Vector {
         }
     }
 
-    pub fn plus(self, other: Vector) -> Self
+    pub(crate) fn plus(self, other: Vector) -> Self
         ensures { λ r. ⌜ r ≡ Pose.plus self other ⌝ }
     {
         Self {
@@ -44,7 +44,7 @@ impl Vector {
         }
     }
 
-    pub fn minus(self, other: Vector) -> Self
+    pub(crate) fn minus(self, other: Vector) -> Self
         ensures { λ r. ⌜ r ≡ Pose.minus self other ⌝ }
     {
         Self {
@@ -54,7 +54,7 @@ impl Vector {
         }
     }
 
-    pub fn negated(self) -> Self
+    pub(crate) fn negated(self) -> Self
         ensures { λ r. ⌜ r ≡ Pose.negated self ⌝ }
     {
         Self {
@@ -81,16 +81,7 @@ pub enum Normalized {
 fn all_finite(q: Quaternion) -> bool
     ensures { λ r. ⌜ r ≡ Pose.all-finite q ⌝ }
 {
-    if is_finite(q.x) {
-        if is_finite(q.y) {
-            if is_finite(q.z) {
-                return is_finite(q.w);
-            }
-            return false;
-        }
-        return false;
-    }
-    false
+    is_finite(q.x) & is_finite(q.y) & is_finite(q.z) & is_finite(q.w)
 }
 
 fn quaternion_length(q: Quaternion) -> f64
@@ -103,22 +94,19 @@ fn quaternion_length(q: Quaternion) -> f64
 pub fn try_normalize(q: Quaternion) -> Normalized
     ensures { λ r. ⌜ r ≡ Pose.try-normalize q ⌝ }
 {
-    if all_finite(q) {
-        let l = quaternion_length(q);
-        if is_finite(l) {
-            if l <= 0.0 {
-                return Normalized::Zero;
-            }
-            return Normalized::Unit(Quaternion {
-                x: q.x / l,
-                y: q.y / l,
-                z: q.z / l,
-                w: q.w / l,
-            });
-        }
+    let l = quaternion_length(q);
+    if !all_finite(q) | !is_finite(l) {
         return Normalized::NotFinite;
     }
-    Normalized::NotFinite
+    if l <= 0.0 {
+        return Normalized::Zero;
+    }
+    Normalized::Unit(Quaternion {
+        x: q.x / l,
+        y: q.y / l,
+        z: q.z / l,
+        w: q.w / l,
+    })
 }
 
 // The rotation matrix of a normalized quaternion.
@@ -147,13 +135,13 @@ pub fn from_quat(q: Quaternion) -> Matrix
     }
 }
 
-pub fn dot(a: Vector, b: Vector) -> f64
+pub(crate) fn dot(a: Vector, b: Vector) -> f64
     ensures { λ r. ⌜ r ≡ Pose.dot a b ⌝ }
 {
     a.x * b.x + a.y * b.y + a.z * b.z
 }
 
-pub fn vector_length(a: Vector) -> f64
+pub(crate) fn vector_length(a: Vector) -> f64
     ensures { λ r. ⌜ r ≡ Pose.vector-length a ⌝ }
 {
     sqrt(dot(a, a))

@@ -1,8 +1,7 @@
 // The boundary angles of joints 4 and 6, from src/singularity/continuum.rs, pushed after the first n
 // numbers of a lent slice. Those of a ray are asked for first, and then worked out together.
 ghost use mathlib.Core.Path.{_≡_};
-ghost use mathlib.Core.List.{[], _∷_};
-ghost use Prim.Native.Nat.{_+_, _≤_, _<_};
+ghost use Prim.Native.Nat.{_+_, _≤_};
 ghost use lib.ListN.{length};
 ghost use Rattle.sampling.specs.Promises.Asked.{Asked};
 ghost use Rattle.sampling.specs.Promises.Pushed.{Pushed};
@@ -11,37 +10,16 @@ ghost use Rattle.sampling.specs.Promises.Polar as By;
 ghost use Rattle.sampling.specs.Rays as Of;
 use crate::asked::answer;
 use crate::asked::ask;
-use crate::continuum::Crossings;
 use crate::continuum::Polar;
 use crate::continuum::Trig;
 use crate::continuum::line;
 use crate::intervals::Range;
 use crate::marks::Marks;
 use crate::marks::Sixth;
+use crate::push::push_crossings;
 use crate::wrist::Ray;
 use crate::wrist::Wrist;
 use float::number::is_finite;
-
-pub(crate) fn push(v: f64, out: &mut [f64], n: usize) -> usize
-    requires { ⌜ n < length (now out) ⌝ }
-    ensures { λ r. ⌜ Pushed 1 (v ∷ []) n (now (out .entry)) r (now (out .exit)) ⌝ }
-{
-    out[n] = v;
-    n + 1
-}
-
-pub(crate) fn push_crossings(p: Crossings, out: &mut [f64], n: usize) -> usize
-    requires { ⌜ n + 2 ≤ length (now out) ⌝ }
-    ensures { λ r. ⌜ Pushed 2 (Continuum.listed p) n (now (out .entry)) r (now (out .exit)) ⌝ }
-{
-    match p {
-        Crossings::Neither => n,
-        Crossings::Both(a, b) => {
-            let m = push(a, out, n);
-            push(b, out, m)
-        }
-    }
-}
 
 // Angles where the polynomial equals the target, by its radius and phase.
 pub(crate) fn roots_by(t: Trig, polar: Polar, target: f64, out: &mut [f64], n: usize) -> usize

@@ -8,6 +8,7 @@ ghost use lib.Ieee.{nan};
 ghost use Rattle.polynomial.specs.Promises.Held.{Kept};
 ghost use Rattle.sampling.specs.Promises.Grown.{Grown, counted};
 ghost use Rattle.sampling.specs.Samples as Of;
+use crate::continuum::ROOT_ROUNDOFF;
 use crate::intervals::Range;
 use crate::work::number_of;
 use crate::work::put_in;
@@ -23,11 +24,8 @@ use polynomial::cuts::Put;
 fn inside(work: &mut [f64], cuts: usize, lower: f64, upper: f64, angle: f64) -> usize
     ensures { λ r. ⌜ Grown (Of.inside lower upper angle) (now (work .entry)) (counted cuts (now (work .entry))) (now (work .exit)) (counted r (now (work .exit))) ⌝ }
 {
-    if lower <= angle {
-        if angle <= upper {
-            return put_in(work, cuts, angle);
-        }
-        return cuts;
+    if (lower <= angle) & (angle <= upper) {
+        return put_in(work, cuts, angle);
     }
     cuts
 }
@@ -123,7 +121,7 @@ pub(crate) fn interval_cuts(
 fn inset(lower: f64, upper: f64) -> f64
     ensures { λ r. ⌜ r ≡ Of.inset lower upper ⌝ }
 {
-    let most = 1.4210854715202004e-14 * (1.0 + maximum(abs(lower), abs(upper)));
+    let most = ROOT_ROUNDOFF * (1.0 + maximum(abs(lower), abs(upper)));
     minimum(most, (upper - lower) / 4.0)
 }
 

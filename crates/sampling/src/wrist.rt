@@ -23,7 +23,7 @@ pub struct Wrist {
 }
 
 // The sum (sign 1) or the difference (sign -1) of joints 4 and 6, at a pole.
-pub fn phase(axis: Axes, m: Matrix, sign: f64) -> Ray
+fn phase(axis: Axes, m: Matrix, sign: f64) -> Ray
     ensures { λ r. ⌜ r ≡ Of.phase axis m sign ⌝ }
 {
     let across = axis.y.dot(m.x).scaled(sign);
@@ -34,7 +34,7 @@ pub fn phase(axis: Axes, m: Matrix, sign: f64) -> Ray
 }
 
 // All of them, by the arm's columns and the target's.
-pub fn wrist_of(axis: Axes, m: Matrix) -> Wrist
+pub(crate) fn wrist_of(axis: Axes, m: Matrix) -> Wrist
     ensures { λ r. ⌜ r ≡ Of.wrist axis m ⌝ }
 {
     let x4 = axis.x.dot(m.z);

@@ -13,7 +13,7 @@ use sampling::constraints::Center;
 use sampling::constraints::compute_center;
 use sampling::intervals::wrist_limit_intervals;
 use sampling::job::Joint;
-use sampling::job::limits;
+use sampling::limits::limits;
 use sampling::pose::Quaternion;
 use sampling::pose::try_normalize;
 

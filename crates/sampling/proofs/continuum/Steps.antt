@@ -1,6 +1,6 @@
 -- `crossings` in steps: the tests, then the angles around the phase. Assumes nothing.
 use mathlib.Core.Path.{_≡_, refl, sym, ap, _∙_}
-use mathlib.Core.Bool.{Bool, true, false, cond}
+use mathlib.Core.Bool.{Bool, true, false, not, _&&_, _||_, cond}
 use mathlib.Core.List.{[]}
 use lib.Ieee.{Float, neg, eq, lt}
 use lib.Ieee.Scale.{finite}
@@ -14,7 +14,7 @@ use Rattle.sampling.specs.declared.continuum.Polar.{Polar}
 use Rattle.sampling.specs.declared.continuum.Crossings.the-variants.{Neither}
 
 -- four tests as one
-as-one : {A : Type 0} (a b c d : Bool) (x z : A) → cond a (cond b (cond c z (cond d z x)) z) z ≡ cond (cond a (cond b (cond c false (cond d false true)) false) false) x z
+as-one : {A : Type 0} (a b c d : Bool) (x z : A) → cond (not a || not b || c || d) z x ≡ cond (a && b && not c && not d) x z
 as-one false b c d x z = refl
 as-one true false c d x z = refl
 as-one true true true d x z = refl

@@ -1,6 +1,6 @@
 -- How many boundary angles of one free joint there are at most, how many cuts, and how many angles. Assumes nothing.
 use mathlib.Core.Path.{_≡_}
-use mathlib.Core.Bool.{Bool, true, false, cond}
+use mathlib.Core.Bool.{Bool, true, false, _&&_, cond}
 use mathlib.Core.List.{List, [], _∷_, _++_}
 use Prim.Native.Nat.{ℕ, _+_, _*_, _≤_}
 use native.Mathlib.Omega.{arith}
@@ -156,9 +156,7 @@ all-roots-few w near m4 m5 m6 center =
 inside-few : (lower upper angle : Float) → length (inside lower upper angle) ≤ 1
 unfolding inside
 inside-few lower upper angle =
-    either (le lower angle) (cond (le angle upper) (angle ∷ []) []) []
-    (either (le angle upper) (angle ∷ []) [] (omega arith) (omega arith))
-    (omega arith)
+    either (le lower angle && le angle upper) (angle ∷ []) [] (omega arith) (omega arith)
 
 pub turns-few : (lower upper angle : Float) → length (turns lower upper angle) ≤ 3
 unfolding turns

@@ -3,10 +3,10 @@ use Prim.Native.Nat.{ℕ, zero, suc, _+_, _*_, _≤_, zero-le}
 use native.Mathlib.Nat.{not-suc-le-zero, le-of-suc-le-suc}
 use native.Mathlib.Omega.{arith}
 use mathlib.Core.Path.{_≡_, refl, ap}
-use mathlib.Core.Bool.{Bool, true, false, cond}
-use mathlib.Core.List.{List, [], _∷_, _++_}
+use mathlib.Core.Bool.{Bool, true, false, _&&_, cond}
+use mathlib.Core.List.{List, [], _∷_, _++_, map, flatMap}
 use lib.Dec.{leb}
-use lib.ListN.{length, length-append}
+use lib.ListN.{length, length-append, length-map}
 use lib.Ieee.{Float, lt, le, neg}
 use borrow.Author.Tests.{leb-true}
 use Rattle.float.specs.Laws.Tests.{three}
@@ -25,7 +25,7 @@ use Rattle.sampling.specs.Continuum.{root-roundoff}
 use Rattle.sampling.specs.Samples.{all-turns}
 use Rattle.sampling.specs.Boundaries.{across, second-curves, pole-curves, fourth-curves, fifth-curves, sixth-curves, signed-corners, corner-curves, boundaries}
 use Rattle.sampling.specs.BendSlices.{transverse, transverse-range, transverses, axis-angles, axes-range, fold, folds, folds-range, bend-slice, bend-slices}
-use Rattle.sampling.specs.CriticalSlices.{chart, angles, chart-roots, Polynomials, polynomials, tangency, intersection, meetings, critical}
+use Rattle.sampling.specs.CriticalSlices.{chart, angles, chart-roots, polynomials, intersection, calls, critical}
 use Rattle.sampling.specs.J1j2free.{curves, bends, critical-slices, half-cuts, first-half, second-half, cut-count}
 use Rattle.sampling.specs.Laws.Few.{both, either, norm-roots-few, all-turns-few}
 use Rattle.sampling.specs.declared.critical_slices.Chart.{Chart}
@@ -90,8 +90,7 @@ unfolding transverse
 transverse-few radius azimuth component =
     let offset = asin (clamp (component ⊘ radius)) in
     let l = wrapped-angle (azimuth ⊖ offset) ∷ [] ++ wrapped-angle (azimuth ⊖ P ⊕ offset) ∷ [] in
-    let near = le (abs component) (radius ⊗ (one-float ⊕ root-roundoff)) in
-    either (lt zero-float radius) (cond near l []) [] (either near l [] (omega arith) (omega arith)) (omega arith)
+    either (lt zero-float radius && le (abs component) (radius ⊗ (one-float ⊕ root-roundoff))) l [] (omega arith) (omega arith)
 
 transverse-range-few : (radius azimuth extreme : Float) (range : Range) → length (transverse-range radius azimuth extreme range) ≤ 4
 unfolding transverse-range
@@ -165,13 +164,12 @@ chart-roots-few c p = go (inner-holds p (c .lower) (c .upper)) refl
     go true e = omega (arith, angles-length (c .origin) l, inner-few p (c .lower) (c .upper) e)
     go false e = omega arith
 
-meetings-few : (c : Chart) (k : Polynomials) (l : List Curve) → length (meetings c k l) ≤ 509 * length l
-unfolding meetings
-meetings-few c k [] = omega arith
-meetings-few c k (d ∷ l) =
-    let p = intersection k (polynomials d (c .origin)) in
-    let h = meetings-few c k l in
-    omega (arith, both (chart-roots c p) (meetings c k l) (chart-roots-few c p) h)
+calls-few : (c : Chart) (ps : List (List Compensated)) → length (flatMap (chart-roots c) ps) ≤ 509 * length ps
+unfolding flatMap
+calls-few c [] = omega arith
+calls-few c (p ∷ ps) =
+    let h = calls-few c ps in
+    omega (arith, both (chart-roots c p) (flatMap (chart-roots c) ps) (chart-roots-few c p) h)
 
 -- 1 + 2 + .. + n, which is n curves and their pairs
 abbrev pairs : ℕ → ℕ
@@ -183,14 +181,17 @@ pairs-up zero m h = zero-le
 pairs-up (suc n) zero h = absurd (not-suc-le-zero h)
 pairs-up (suc n) (suc m) h = let k = pairs-up n m (le-of-suc-le-suc h) in omega arith
 
+calls-length : (origin : Float) (l : List Curve) → length (calls origin l) ≡ pairs (length l)
+unfolding calls
+calls-length origin [] = refl
+calls-length origin (k ∷ l) =
+    let m = map (λ (d : Curve). intersection (polynomials k origin) (polynomials d origin)) l in
+    let e = calls-length origin l in
+    omega (arith, length-append m (calls origin l), length-map l (λ (d : Curve). intersection (polynomials k origin) (polynomials d origin)))
+
 critical-by : (c : Chart) (l : List Curve) → length (critical c l) ≤ 509 * pairs (length l)
 unfolding critical
-critical-by c [] = omega arith
-critical-by c (d ∷ l) =
-    let k = polynomials d (c .origin) in
-    let alone = chart-roots c (tangency k) in
-    let h = both (alone ++ meetings c k l) (critical c l) (both alone (meetings c k l) (chart-roots-few c (tangency k)) (meetings-few c k l)) (critical-by c l) in
-    omega (arith, h)
+critical-by c l = rw (← calls-length (c .origin) l) (calls-few c (calls (c .origin) l))
 
 pub critical-few : (c : Chart) (l : List Curve) → length l ≤ 18 → length (critical c l) ≤ 87039
 critical-few c l h =

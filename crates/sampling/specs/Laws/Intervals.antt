@@ -1,6 +1,6 @@
 -- A limit interval is in order and lies within P, whatever it was cut from. Assumes nothing.
 use mathlib.Core.Path.{_≡_}
-use mathlib.Core.Bool.{Bool, true, false, not, cond}
+use mathlib.Core.Bool.{Bool, true, false, not, _&&_, cond}
 use Prim.Native.Nat.{ℕ}
 use native.Mathlib.Omega.{arith}
 use lib.Dec.{T}
@@ -15,7 +15,7 @@ use Rattle.float.specs.Promises.Order.{Within}
 use Rattle.float.specs.Laws.Within.{Le→within}
 use Rattle.float.specs.Laws.Interval.{Le-trans}
 use Rattle.float.specs.Laws.Range.{nlt→Le}
-use Rattle.sampling.specs.Intervals.{lower-end, upper-end, interval}
+use Rattle.sampling.specs.Intervals.{interval}
 use Rattle.sampling.specs.declared.constraints.Center.{Center}
 use Rattle.sampling.specs.declared.intervals.Range.the-variants.{Nothing, Between}
 
@@ -101,7 +101,7 @@ cut-within x y t u k =
 pub nothing-between : {lo hi : Float} → Nothing ≡ Between lo hi → ⊥
 nothing-between e = let z : _≡_ {A = ℕ} 0 1 = cc in omega arith
 
-taken : (f p o : Bool) (x y lo hi : Float) → cond f (cond p (cond o (Between x y) Nothing) Nothing) Nothing ≡ Between lo hi → T o × (lo ≡ x) × (hi ≡ y)
+taken : (f p o : Bool) (x y lo hi : Float) → cond (f && p && o) (Between x y) Nothing ≡ Between lo hi → T o × (lo ≡ x) × (hi ≡ y)
 taken false p o x y lo hi e = absurd (nothing-between e)
 taken true false o x y lo hi e = absurd (nothing-between e)
 taken true true false x y lo hi e = absurd (nothing-between e)
@@ -112,5 +112,7 @@ unfolding interval
 interval-cut c shift lo hi e =
     let x = c .center ⊕ shift ⊖ c .tolerance in
     let y = c .center ⊕ shift ⊕ c .tolerance in
-    let k = taken (finite (c .center)) (le zero-float (c .tolerance)) (le (lower-end c shift) (upper-end c shift)) (lower-end c shift) (upper-end c shift) lo hi e in
+    let lower = maximum x (neg P) in
+    let upper = minimum y P in
+    let k = taken (finite (c .center)) (le zero-float (c .tolerance)) (le lower upper) lower upper lo hi e in
     rw (k .1, k .2) (cut-within x y (sub-fits binary64 (c .center ⊕ shift) (c .tolerance)) (add-fits binary64 (c .center ⊕ shift) (c .tolerance)) (k .0))

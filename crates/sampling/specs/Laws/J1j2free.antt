@@ -1,7 +1,7 @@
 -- The cuts of a half as those of one list of values, which all fit. Assumes nothing.
 use mathlib.Core.Path.{_≡_}
-use mathlib.Core.Bool.{Bool, true, false, cond}
-use mathlib.Core.List.{List, [], _∷_, _++_}
+use mathlib.Core.Bool.{Bool, true, false, _&&_, cond}
+use mathlib.Core.List.{List, [], _∷_, _++_, flatMap}
 use lib.Dec.{T}
 use lib.Ieee.{Float, binary64, neg, le, fits}
 use lib.Ieee.Fits.{add-fits}
@@ -16,7 +16,7 @@ use Rattle.polynomial.specs.Laws.Cuts.{fit-append, cuts-left}
 use Rattle.polynomial.specs.declared.compensated.Compensated.{Compensated}
 use Rattle.polynomial.specs.declared.curve.Curve.{Curve}
 use Rattle.sampling.specs.Samples.{inside, turns, all-turns}
-use Rattle.sampling.specs.CriticalSlices.{chart, angles, chart-roots, Polynomials, polynomials, tangency, intersection, meetings, critical}
+use Rattle.sampling.specs.CriticalSlices.{chart, angles, chart-roots, calls, critical}
 use Rattle.sampling.specs.J1j2free.{curves, bends, critical-slices, half-cuts}
 use Rattle.sampling.specs.Promises.Halving.{half-values}
 use Rattle.sampling.specs.declared.critical_slices.Chart.{Chart}
@@ -39,22 +39,18 @@ chart-roots-fit c p =
     let l = angles (c .origin) (roots p (c .lower) (c .upper)) in
     picked (inner-holds p (c .lower) (c .upper)) l (angles-fit (c .origin) (roots p (c .lower) (c .upper)))
 
-meetings-fit : (c : Chart) (k : Polynomials) (l : List Curve) → Fit (meetings c k l)
-unfolding meetings
-meetings-fit c k [] = tt
-meetings-fit c k (d ∷ l) = let p = intersection k (polynomials d (c .origin)) in fit-append (chart-roots c p) (meetings c k l) (chart-roots-fit c p) (meetings-fit c k l)
+calls-fit : (c : Chart) (ps : List (List Compensated)) → Fit (flatMap (chart-roots c) ps)
+unfolding flatMap
+calls-fit c [] = tt
+calls-fit c (p ∷ ps) = fit-append (chart-roots c p) (flatMap (chart-roots c) ps) (chart-roots-fit c p) (calls-fit c ps)
 
 critical-fit : (c : Chart) (l : List Curve) → Fit (critical c l)
 unfolding critical
-critical-fit c [] = tt
-critical-fit c (d ∷ l) =
-    let k = polynomials d (c .origin) in
-    let alone = chart-roots c (tangency k) in
-    fit-append (alone ++ meetings c k l) (critical c l) (fit-append alone (meetings c k l) (chart-roots-fit c (tangency k)) (meetings-fit c k l)) (critical-fit c l)
+critical-fit c l = calls-fit c (calls (c .origin) l)
 
 inside-fit : (lower upper angle : Float) → T (fits binary64 angle) → Fit (inside lower upper angle)
 unfolding inside
-inside-fit lower upper angle f = picked (le lower angle) (cond (le angle upper) (angle ∷ []) []) (picked (le angle upper) (angle ∷ []) (f, tt))
+inside-fit lower upper angle f = picked (le lower angle && le angle upper) (angle ∷ []) (f, tt)
 
 turns-fit : (lower upper angle : Float) → Fit (turns lower upper angle)
 unfolding turns

@@ -1,7 +1,7 @@
 -- The interval of a joint's model angle: its centre lies within P and its half width between 0 and P, so its ends are in order and lie within a turn. Assumes nothing.
 use mathlib.Core.Path.{_≡_}
 use mathlib.Core.Logic.{_⊎_, inl, inr}
-use mathlib.Core.Bool.{Bool, true, false, not, cond}
+use mathlib.Core.Bool.{Bool, true, false, not, _||_, cond}
 use lib.IntN.{pos}
 use lib.Dec.{T}
 use lib.Ieee.{Float, nan, inf, fin, binary64, neg, sub, lt, le, eq, isNan, fits}
@@ -82,7 +82,7 @@ record Taken (number below real : Bool) (x y lo hi : Float) : Type 0 where
   lower : lo ≡ x
   upper : hi ≡ y
 
-taken : (n b f : Bool) (x y lo hi : Float) → cond n Nothing (cond b Nothing (cond f (Between x y) Nothing)) ≡ Between lo hi → Taken n b f x y lo hi
+taken : (n b f : Bool) (x y lo hi : Float) → cond (n || b || not f) Nothing (Between x y) ≡ Between lo hi → Taken n b f x y lo hi
 taken true b f x y lo hi e = absurd (nothing-between e)
 taken false true f x y lo hi e = absurd (nothing-between e)
 taken false false false x y lo hi e = absurd (nothing-between e)
@@ -92,7 +92,7 @@ taken false false true x y lo hi e = record { number-is = tt; plus = tt; finite-
 abbrev Fits : Center → Type 0
 Fits c = T (fits binary64 (c .center))
 
-chosen : (p q r s : Bool) (a b c n : Center) → Fits a → Fits b → Fits c → Fits n → Fits (cond p (cond q (cond r a (cond s b c)) n) n)
+chosen : (p q r s : Bool) (a b c n : Center) → Fits a → Fits b → Fits c → Fits n → Fits (cond (not p || not q) n (cond r a (cond s b c)))
 chosen false q r s a b c n f g h k = k
 chosen true false r s a b c n f g h k = k
 chosen true true true s a b c n f g h k = f

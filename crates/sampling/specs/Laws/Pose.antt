@@ -1,6 +1,6 @@
 -- The parts of a normalized quaternion lie within 2, and the entries of its rotation matrix within 17. Assumes nothing.
 use mathlib.Core.Path.{_≡_}
-use mathlib.Core.Bool.{Bool, true, false, not, cond}
+use mathlib.Core.Bool.{Bool, true, false, not, _&&_, _||_, cond}
 use Prim.Native.Nat.{ℕ, zero, suc, _*_, _<_}
 use native.Mathlib.Nat.{mul-pos, zero-lt-suc, zero-mul}
 use native.Mathlib.Omega.{arith}
@@ -64,7 +64,7 @@ record Finite (a b c d : Bool) : Type 0 where
   z : T c
   w : T d
 
-all-of : (a b c d : Bool) → T (cond a (cond b (cond c d false) false) false) → Finite a b c d
+all-of : (a b c d : Bool) → T (a && b && c && d) → Finite a b c d
 all-of false b c d t = absurd t
 all-of true false c d t = absurd t
 all-of true true false d t = absurd t
@@ -82,7 +82,7 @@ zero-unit e = let z : _≡_ {A = ℕ} 0 1 = cc in omega arith
 none-unit : {u : Quaternion} → NotFinite ≡ Unit u → ⊥
 none-unit e = let z : _≡_ {A = ℕ} 0 1 = cc in omega arith
 
-taken : (a f l : Bool) (v u : Quaternion) → cond a (cond f (cond l Zero (Unit v)) NotFinite) NotFinite ≡ Unit u → Taken a f l v u
+taken : (a f l : Bool) (v u : Quaternion) → cond (not a || not f) NotFinite (cond l Zero (Unit v)) ≡ Unit u → Taken a f l v u
 taken false f l v u e = absurd (none-unit e)
 taken true false l v u e = absurd (none-unit e)
 taken true true true v u e = absurd (zero-unit e)

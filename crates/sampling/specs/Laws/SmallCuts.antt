@@ -1,7 +1,7 @@
 -- Where the ends of a half are in order and lie within ±8, as those of a joint's interval do, all its values lie within ±64, so that its cuts can be streamed. Assumes nothing.
 use mathlib.Core.Path.{_≡_, refl}
-use mathlib.Core.Bool.{Bool, true, false, cond}
-use mathlib.Core.List.{List, [], _∷_, _++_}
+use mathlib.Core.Bool.{Bool, true, false, _&&_, cond}
+use mathlib.Core.List.{List, [], _∷_, _++_, flatMap}
 use lib.IntN.{pos}
 use lib.Dec.{T, leb, lit<}
 use lib.ListN.{length}
@@ -29,7 +29,7 @@ use Rattle.polynomial.specs.declared.curve.Curve.{Curve}
 use Rattle.polynomial.specs.Promises.Lists.{All}
 use Rattle.polynomial.specs.Laws.Lists.{all-append}
 use Rattle.sampling.specs.Samples.{inside, turns, all-turns}
-use Rattle.sampling.specs.CriticalSlices.{chart, angles, chart-roots, Polynomials, polynomials, tangency, intersection, meetings, critical}
+use Rattle.sampling.specs.CriticalSlices.{chart, angles, chart-roots, calls, critical}
 use Rattle.sampling.specs.Promises.Halving.{half-values}
 use Rattle.sampling.specs.J1j2free.{curves, bends, half-cuts, first-half, second-half}
 use Rattle.sampling.specs.Promises.Stream.{Woven}
@@ -92,18 +92,14 @@ module _ (c : Chart) (g : Charted c) where
           angles-small (c .origin) (c .lower) (c .upper) (g .origin-within) (roots p (c .lower) (c .upper)) (all-in (c .lower) (c .upper) s p)
       go false e = tt
 
-  meetings-small : (k : Polynomials) (l : List Curve) → All Small (meetings c k l)
-  unfolding meetings
-  meetings-small k [] = tt
-  meetings-small k (d ∷ l) = let p = intersection k (polynomials d (c .origin)) in all-append Small (chart-roots c p) (meetings c k l) (chart-roots-small p) (meetings-small k l)
+  calls-small : (ps : List (List Compensated)) → All Small (flatMap (chart-roots c) ps)
+  unfolding flatMap
+  calls-small [] = tt
+  calls-small (p ∷ ps) = all-append Small (chart-roots c p) (flatMap (chart-roots c) ps) (chart-roots-small p) (calls-small ps)
 
   critical-small : (l : List Curve) → All Small (critical c l)
   unfolding critical
-  critical-small [] = tt
-  critical-small (d ∷ l) =
-      let k = polynomials d (c .origin) in
-      let alone = chart-roots c (tangency k) in
-      all-append Small (alone ++ meetings c k l) (critical c l) (all-append Small alone (meetings c k l) (chart-roots-small (tangency k)) (meetings-small k l)) (critical-small l)
+  critical-small l = calls-small (calls (c .origin) l)
 
 -- ---- turns
 
@@ -118,7 +114,7 @@ module _ (lower upper : Float) (s : Span 3 lower upper) where
   unfolding inside
   inside-small x = go (le lower x) (le x upper) (between-small x)
     where
-      go : (a b : Bool) → (T a → T b → Small x) → All Small (cond a (cond b (x ∷ []) []) [])
+      go : (a b : Bool) → (T a → T b → Small x) → All Small (cond (a && b) (x ∷ []) [])
       go true true f = (f tt tt, tt)
       go true false f = tt
       go false b f = tt

@@ -1,5 +1,5 @@
 -- `crossings` in steps, by the radius and phase of a first harmonic: what inner functions promise one another, so that a harmonic with many targets has them worked out once. Nothing that a public contract of an upper crate says.
-use mathlib.Core.Bool.{Bool, true, false, cond}
+use mathlib.Core.Bool.{Bool, not, _&&_}
 use lib.Ieee.{Float, neg, eq, lt}
 use lib.Ieee.Scale.{finite}
 use Rattle.float.specs.Number.{_⊕_, _⊖_, _⊘_, abs, clamp, zero-float}
@@ -18,12 +18,7 @@ polar t = record { radius = hypot (t .cosine) (t .sine); phase = atan2 (t .sine)
 unfoldable pub meets : Trig → Float → Float → Bool
 meets t radius target =
     let constant = t .constant ⊖ target in
-    cond (finite radius)
-    (cond (finite constant)
-    (cond (eq radius zero-float) false
-    (cond (lt (radius ⊕ error t target) (abs constant)) false true))
-    false)
-    false
+    finite radius && finite constant && not (eq radius zero-float) && not (lt (radius ⊕ error t target) (abs constant))
 
 -- the wrapped angles on both sides of the phase
 unfoldable pub around : Trig → Polar → Float → Crossings

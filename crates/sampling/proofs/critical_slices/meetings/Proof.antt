@@ -10,6 +10,7 @@ use mathlib.Core.List.{List}
 use Rattle.polynomial.specs.declared.compensated.Compensated.{Compensated}
 use Rattle.sampling.specs.Promises.Grown.{Grown}
 use Rattle.sampling.specs.CriticalSlices as Of
+use Rattle.sampling.specs.Promises.Meetings as Met
 use Rattle.sampling.specs.Promises.Numerators.{first-three}
 use Rattle.sampling.proofs.Grown.{Leads, leads-all, leads-next, leads-end}
 use Rattle.sampling.proofs.CriticalSlices.{intersection-is, meetings-next, meetings-hold-next, meetings-end, meetings-hold-end, holds-next, holds-end}
@@ -19,8 +20,8 @@ use Rattle.sampling.proofs.critical_slices.meetings.Tie as tie
 abbrev Inv-loop : tie.InvT-loop
 Inv-loop work₀ c k first n at state₀ holds₀ j₀ work state holds j =
     (j ≤ n) × (length at ≡ 18) × (length work ≡ length work₀)
-    × ((holds && Of.meetings-hold c (first-three k) (slice j n at)) ≡ Of.meetings-hold c (first-three k) (slice first n at))
-    × Leads (Of.meetings c (first-three k) (slice first n at)) (Of.meetings c (first-three k) (slice j n at)) work₀ state₀ work state
+    × ((holds && Met.meetings-hold c (first-three k) (slice j n at)) ≡ Met.meetings-hold c (first-three k) (slice first n at))
+    × Leads (Met.meetings c (first-three k) (slice first n at)) (Met.meetings c (first-three k) (slice j n at)) work₀ state₀ work state
 
 abbrev μ-loop : tie.MeasureT-loop
 μ-loop work₀ c k first n at state₀ holds₀ j₀ work state holds j = n - j

@@ -1,4 +1,4 @@
--- `sampling::samples::inside` meets its contract: at each return, what the calls and the tests on the way to it say. Assumes nothing.
+-- `sampling::samples::inside` meets its contract: at each return, what the calls and the tests on the way to it say.
 use borrow.Author.Needs.{needs}
 use Rattle.sampling.proofs.Grown.{none}
 use Rattle.sampling.specs.Samples.{inside}
@@ -13,15 +13,11 @@ same-length c = search needs
 
 returns : tie.Need-returns
 unfolding inside
-returns c = simp (c .before .before .before .before .before .if1 .taken, c .before .before .before .before .if2 .taken) (c .before .before .put-in .ensures)
+returns c = simp (c .before .before .before .before .if1 .taken) (c .before .before .put-in .ensures)
 
 returns-2 : tie.Need-returns-2
 unfolding inside
-returns-2 c = simp (c .before .if1 .taken, c .if2 .left) none
-
-returns-3 : tie.Need-returns-3
-unfolding inside
-returns-3 c = simp (c .if1 .left) none
+returns-2 c = simp (c .if1 .left) none
 
 pub inside-spec : {M : Type 1} → statement M
-inside-spec = tie.close (tie.spec put-in-requires same-length returns returns-2 returns-3)
+inside-spec = tie.close (tie.spec put-in-requires same-length returns returns-2)

@@ -1,9 +1,9 @@
--- `sampling::job::centered` meets its contract: at each return, what the calls and the tests on the way to it say. Assumes nothing.
+-- `sampling::limits::centered` meets its contract: at each return, what the calls and the tests on the way to it say. Assumes nothing.
 use lib.Ieee.{ofBits}
 use borrow.Author.Needs.{needs}
 use Rattle.sampling.specs.Limits.{centered}
-use Rattle.sampling.proofs.job.centered.Statement.{statement}
-use Rattle.sampling.proofs.job.centered.Tie as tie
+use Rattle.sampling.proofs.limits.centered.Statement.{statement}
+use Rattle.sampling.proofs.limits.centered.Tie as tie
 
 compute-center-requires : tie.Need-compute-center-requires
 compute-center-requires c = search needs

@@ -1,8 +1,8 @@
--- `sampling::rays::push_crossings` meets its contract: at each return, what the calls and the tests on the way to it say. Assumes nothing.
+-- `sampling::push::push_crossings` meets its contract: at each return, what the calls and the tests on the way to it say. Assumes nothing.
 use borrow.Author.Needs.{needs}
 use Rattle.sampling.proofs.Pushed.{none, then}
-use Rattle.sampling.proofs.rays.push_crossings.Statement.{statement}
-use Rattle.sampling.proofs.rays.push_crossings.Tie as tie
+use Rattle.sampling.proofs.push.push_crossings.Statement.{statement}
+use Rattle.sampling.proofs.push.push_crossings.Tie as tie
 
 enum-told : tie.Need-enum-told
 enum-told c = search needs

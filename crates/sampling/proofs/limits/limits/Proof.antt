@@ -1,8 +1,8 @@
--- `sampling::job::limits` meets its contract: at each return, what the calls and the tests on the way to it say. Assumes nothing.
+-- `sampling::limits::limits` meets its contract: at each return, what the calls and the tests on the way to it say. Assumes nothing.
 use borrow.Author.Needs.{needs}
 use Rattle.sampling.specs.Limits.{limits}
-use Rattle.sampling.proofs.job.limits.Statement.{statement}
-use Rattle.sampling.proofs.job.limits.Tie as tie
+use Rattle.sampling.proofs.limits.limits.Statement.{statement}
+use Rattle.sampling.proofs.limits.limits.Tie as tie
 
 centered-requires : tie.Need-centered-requires
 centered-requires c = search needs

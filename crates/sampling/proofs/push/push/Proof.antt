@@ -1,8 +1,8 @@
--- `sampling::rays::push` meets its contract: at each return, what the calls and the tests on the way to it say. Assumes nothing.
+-- `sampling::push::push` meets its contract: at each return, what the calls and the tests on the way to it say. Assumes nothing.
 use borrow.Author.Needs.{needs}
 use Rattle.sampling.proofs.Pushed.{one}
-use Rattle.sampling.proofs.rays.push.Statement.{statement}
-use Rattle.sampling.proofs.rays.push.Tie as tie
+use Rattle.sampling.proofs.push.push.Statement.{statement}
+use Rattle.sampling.proofs.push.push.Tie as tie
 
 mul-out : tie.Need-mul-out
 mul-out c = search needs
