@@ -1,11 +1,11 @@
 -- What came of a job's cuts is the job's: of three lists that stand one after the other in work, and of two. Assumes nothing.
 use mathlib.Core.Path.{_≡_, refl, sym, ap, subst, _∙_}
 use mathlib.Core.Bool.{Bool, true, false, not, cond}
-use mathlib.Core.List.{List, _++_, append-assoc}
+use mathlib.Core.List.{List, [], _++_, append-assoc}
 use Prim.Native.Nat.{ℕ, _+_}
 use native.Mathlib.Omega.{arith}
-use borrow.Author.Tests.{leb-true, le-leb, eq-eqb, ne-eqb}
-use lib.Dec.{T, leb, eqb}
+use borrow.Author.Tests.{leb-true, le-leb}
+use lib.Dec.{T, leb}
 use lib.ListN.{length, take, drop, length-append, take-append-drop}
 use lib.Seq.{take-at, drop-at}
 use lib.Ieee.{Float, binary64, fits, isNan}
@@ -35,7 +35,7 @@ use Rattle.sampling.specs.declared.j1j2free.Folded.{Folded}
 use Rattle.sampling.specs.declared.j1j2free.Halving.{Halving}
 use Rattle.sampling.specs.declared.j1j2free.Halving.the-variants as halving
 use Rattle.sampling.specs.declared.plan.Plan.{Plan}
-use Rattle.sampling.specs.declared.pose.Matrix.{Matrix}
+use Rattle.sampling.specs.declared.job.Kind.{Kind}
 use Rattle.sampling.specs.declared.sample_angles.Cutting.{Cutting}
 use Rattle.sampling.specs.declared.sample_angles.Cutting.the-variants as cutting
 use Rattle.sampling.specs.declared.sample_angles.Free.{Free}
@@ -128,12 +128,17 @@ module _ (a b w : List Float) (places : ℕ) (room : length w ≡ places) (r : F
       }
 
 -- what `j1j2free::cut` ensures
-pub both-drawn : (t : Folded) (g : Range) (r : Halving) (w : List Float) (places : ℕ) → length w ≡ places → r ≡ Halves.cut-answer t g places
-    → take (Halves.filled r) w ≡ Halves.listed r (Halves.both-halves t g) → ((lower upper : Float) → g ≡ Between lower upper → Streams t lower upper)
-    → Drawn (Two.hold t g) (Two.cut-count t g) (Two.all-slices t g) places (of-halving r (t .reference)) w
-unfolding Halves.cut-answer Halves.both-halves Halves.halving Two.hold Two.cut-count Two.all-slices
-both-drawn t Nothing r w places room e s h = rw e (record { outcome-is = rw (le-leb 0 places (omega arith)); ready = tt; yields = λ f. refl })
-both-drawn t (Between lower upper) r w places room e s h =
+drawn-on : (t : Folded) (g : Range) (r : Halving) (w : List Float) (places : ℕ) → length w ≡ places
+    → r ≡ Two.on-interval g halving.Nothing (λ lower upper. cond (Two.halves-hold t lower upper) (Halves.halving (Two.first-half t lower upper) (Two.second-half t lower upper) places) halving.Refused)
+    → take (Halves.filled r) w ≡ Halves.listed r (Two.on-interval g [] (λ lower upper. Two.first-half t lower upper ++ Two.second-half t lower upper))
+    → ((lower upper : Float) → g ≡ Between lower upper → Streams t lower upper)
+    → Drawn (Two.on-interval g true (Two.halves-hold t))
+      (Two.on-interval g 0 (λ lower upper. length (Two.first-half t lower upper) + length (Two.second-half t lower upper)))
+      (Two.on-interval g [] (λ lower upper. slices (t .reference) lower upper (Two.first-half t lower upper) (Two.second-half t lower upper)))
+      places (of-halving r (t .reference)) w
+unfolding Halves.halving
+drawn-on t Nothing r w places room e s h = rw e (record { outcome-is = rw (le-leb 0 places (omega arith)); ready = tt; yields = λ f. refl })
+drawn-on t (Between lower upper) r w places room e s h =
     let a = Two.first-half t lower upper in
     let b = Two.second-half t lower upper in
     let l = slices (t .reference) lower upper a b in
@@ -142,6 +147,12 @@ both-drawn t (Between lower upper) r w places room e s h =
     (sym e)
     (two-drawn a b w places room (t .reference) l (k .first) (k .second) (k .number) (k .same) (Two.halves-hold t lower upper) (leb (length a + length b) places) refl)
     s
+
+pub both-drawn : (t : Folded) (r : Halving) (w : List Float) (places : ℕ) → length w ≡ places → r ≡ Halves.cut-answer t places
+    → take (Halves.filled r) w ≡ Halves.listed r (Halves.both-halves t) → ((lower upper : Float) → t .range1 ≡ Between lower upper → Streams t lower upper)
+    → Drawn (Two.hold t) (Two.cut-count t) (Two.all-slices t) places (of-halving r (t .reference)) w
+unfolding Halves.cut-answer Halves.both-halves Two.hold Two.cut-count Two.all-slices
+both-drawn t r w places room e s h = drawn-on t (t .range1) r w places room e s h
 
 -- the limits were pushed into the halves
 streams : (t : Folded) (lower upper : Float) → Ends lower upper → T (fits binary64 (t .reference)) → T (not (isNan (t .reference))) → Streams t lower upper
@@ -163,30 +174,25 @@ streams t lower upper e fit real =
           (half-fit t m upper fm (e .upper-fits)));
     }
 
-pub folded-streams : (m : Matrix) (job : Job) → T (fits binary64 (job .j1 .reference)) → Moderate (job .j1) → Streamed (Two.folded m job)
+pub folded-streams : (job : Job) → T (fits binary64 (job .j1 .reference)) → Moderate (job .j1) → Streamed (Two.folded job)
 unfolding Two.folded
-folded-streams m job fit k lower upper e =
-    streams (Two.folded m job) lower upper (limits-ends (job .limited) (job .j1) lower upper fit (k .sign) (k .offset) e) (reference-fits (job .j1)) (reference-number (job .j1) fit k)
+folded-streams job fit k lower upper e =
+    streams (Two.folded job) lower upper (limits-ends (job .limited) (job .j1) lower upper fit (k .sign) (k .offset) e) (reference-fits (job .j1)) (reference-number (job .j1) fit k)
 
 -- ---- by the job's kind
 
-module _ (job : Job) (m : Matrix) (places : ℕ) (p : Plan) (w : List Float) where
-  planned : Drawn (Of.hold job m) (Of.cut-count job m) (Of.angles job m) places p w → Planned job m places p w
+module _ (job : Job) (places : ℕ) (p : Plan) (w : List Float) where
+  planned : Drawn (Of.hold job) (Of.cut-count job) (Of.angles job) places p w → Planned job places p w
   unfolding outcome
   planned d = record { outcome-is = d .outcome-is; ready = d .ready; yields = d .yields }
 
-  pub first-planned : job .kind ≡ 1
-      → Drawn (One.hold (Of.first-free job m)) (One.cut-count (Of.first-free job m)) (One.sample-angles (Of.first-free job m)) places p w → Planned job m places p w
-  unfolding Of.hold Of.cut-count Of.angles
-  first-planned k d = planned (rw (eq-eqb (job .kind) 1 k) d)
+  abbrev pub by : Kind → Type 0
+  by k =
+      Drawn (Of.by-kind k (One.hold (Of.first-free job)) (One.hold (Of.second-free job)) (Two.hold (Two.folded job)))
+      (Of.by-kind k (One.cut-count (Of.first-free job)) (One.cut-count (Of.second-free job)) (Two.cut-count (Two.folded job)))
+      (Of.by-kind k (One.sample-angles (Of.first-free job)) (One.sample-angles (Of.second-free job)) (Two.all-slices (Two.folded job)))
+      places p w
 
-  pub second-planned : job .kind ≡ 2
-      → Drawn (One.hold (Of.second-free job m)) (One.cut-count (Of.second-free job m)) (One.sample-angles (Of.second-free job m)) places p w → Planned job m places p w
+  pub by-planned : (k : Kind) → job .kind ≡ k → by k → Planned job places p w
   unfolding Of.hold Of.cut-count Of.angles
-  second-planned k d = let n : eqb (job .kind) 1 ≡ false = ap (λ (z : ℕ). eqb z 1) k in planned (rw (n, eq-eqb (job .kind) 2 k) d)
-
-  pub both-planned : (job .kind ≡ 1 → ⊥) → (job .kind ≡ 2 → ⊥)
-      → Drawn (Two.hold (Two.folded m job) (Two.folded m job .range1)) (Two.cut-count (Two.folded m job) (Two.folded m job .range1)) (Two.all-slices (Two.folded m job) (Two.folded m job .range1)) places p w
-      → Planned job m places p w
-  unfolding Of.hold Of.cut-count Of.angles
-  both-planned k n d = planned (rw (ne-eqb (job .kind) 1 k, ne-eqb (job .kind) 2 n) d)
+  by-planned k e d = planned (subst by (sym e) d)

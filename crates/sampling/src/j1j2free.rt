@@ -66,9 +66,10 @@ fn sixth_limits(fixed: bool, limited: bool, j: Joint) -> Range
     wrist_limits(limited, j)
 }
 
-pub(crate) fn folded_of(m: Matrix, job: Job) -> Folded
-    ensures { λ r. ⌜ r ≡ Of.folded m job ⌝ }
+pub(crate) fn folded_of(job: Job) -> Folded
+    ensures { λ r. ⌜ r ≡ Of.folded job ⌝ }
 {
+    let matrix = job.matrix;
     let reference = model_reference(job.j1);
     let range1 = limits(job.limited, job.j1);
     let range2 = limits(job.limited, job.j2);
@@ -76,7 +77,7 @@ pub(crate) fn folded_of(m: Matrix, job: Job) -> Folded
     let range5 = wrist_limits(job.limited, job.j5);
     let range6 = sixth_limits(job.fixed, job.limited, job.j6);
     Folded {
-        matrix: m,
+        matrix,
         q3: job.arm.q3,
         reference,
         range1,
@@ -173,8 +174,8 @@ fn cut_halves(work: &mut [f64], t: Folded, lower: f64, upper: f64) -> Halving
 
 // The cuts of both halves of joint 1's interval, where it has one.
 pub(crate) fn cut(work: &mut [f64], t: Folded) -> Halving
-    ensures { λ r. ⌜ r ≡ cut-answer t (t .range1) (length (now (work .entry))) ⌝ }
-    ensures { λ r. ⌜ take (filled r) (now (work .exit)) ≡ listed r (both-halves t (t .range1)) ⌝ }
+    ensures { λ r. ⌜ r ≡ cut-answer t (length (now (work .entry))) ⌝ }
+    ensures { λ r. ⌜ take (filled r) (now (work .exit)) ≡ listed r (both-halves t) ⌝ }
 {
     let range1 = t.range1;
     match range1 {

@@ -3,14 +3,13 @@ ghost use mathlib.Core.Path.{_≡_};
 ghost use Prim.Native.Nat.{_+_, _≤_};
 ghost use lib.ListN.{length, drop, take};
 ghost use Rattle.sampling.specs.Promises.Stream.{distinct, start};
-ghost use lib.Dec.{eqb};
-ghost use mathlib.Core.Bool.{false};
 ghost use Rattle.sampling.specs.Promises.Plan.{all-samples, to-come, Streamable, Ready, Gives, of-cutting, of-halving};
 ghost use Rattle.sampling.specs.Angles.{first-free, second-free};
 ghost use Rattle.sampling.specs.SampleAngles as One;
 ghost use Rattle.sampling.specs.J1j2free as Two;
 ghost use Rattle.sampling.specs.Promises.Planned.{Moderate, Planned};
 ghost use Rattle.sampling.specs.Promises.Drawn.{Drawn, Streamed};
+ghost use Rattle.sampling.specs.declared.job.Kind.the-variants as kind;
 use crate::j1free;
 use crate::j1j2free;
 use crate::j1j2free::Folded;
@@ -18,10 +17,10 @@ use crate::j1j2free::Halving;
 use crate::j1j2free::folded_of;
 use crate::j2free;
 use crate::job::Job;
+use crate::job::Kind;
 use crate::lists::Lists;
 use crate::lists::angle_at;
 use crate::lists::angle_count;
-use crate::pose::Matrix;
 use crate::sample_angles;
 use crate::sample_angles::Cutting;
 use crate::sample_angles::Free;
@@ -140,17 +139,17 @@ fn two_of(h: Halving, reference: f64) -> Plan
 }
 
 // What counts of a job whose joint 1 is free.
-fn first_free(m: Matrix, job: Job) -> Free
-    ensures { λ r. ⌜ r ≡ first-free job m ⌝ }
+fn first_free(job: Job) -> Free
+    ensures { λ r. ⌜ r ≡ first-free job ⌝ }
 {
-    free_of(j1free::arm_axes(job.arm), m, job, job.j1)
+    free_of(j1free::arm_axes(job.arm), job, job.j1)
 }
 
 // What counts of a job whose joint 2 is free.
-fn second_free(m: Matrix, job: Job) -> Free
-    ensures { λ r. ⌜ r ≡ second-free job m ⌝ }
+fn second_free(job: Job) -> Free
+    ensures { λ r. ⌜ r ≡ second-free job ⌝ }
 {
-    free_of(j2free::arm_axes(job.arm), m, job, job.j2)
+    free_of(j2free::arm_axes(job.arm), job, job.j2)
 }
 
 // Puts one free joint's cuts into work.
@@ -164,21 +163,21 @@ fn one_plan(work: &mut [f64], f: Free) -> Plan
 // Puts the cuts of both halves into work.
 fn two_plan(work: &mut [f64], t: Folded) -> Plan
     requires { ⌜ Streamed t ⌝ }
-    ensures { λ r. ⌜ Drawn (Two.hold t (t .range1)) (Two.cut-count t (t .range1)) (Two.all-slices t (t .range1)) (length (now (work .entry))) r (now (work .exit)) ⌝ }
+    ensures { λ r. ⌜ Drawn (Two.hold t) (Two.cut-count t) (Two.all-slices t) (length (now (work .entry))) r (now (work .exit)) ⌝ }
 {
     let halving = j1j2free::cut(work, t);
     two_of(halving, t.reference)
 }
 
 // Puts a job's cuts into work, whatever it held.
-pub fn plan_of(work: &mut [f64], job: Job, m: Matrix) -> Plan
-    requires { ⌜ (eqb (job .kind) 1 ≡ false → eqb (job .kind) 2 ≡ false → Moderate (job .j1)) ⌝ }
-    ensures { λ r. ⌜ Planned job m (length (now (work .entry))) r (now (work .exit)) ⌝ }
+pub fn plan_of(work: &mut [f64], job: Job) -> Plan
+    requires { ⌜ (job .kind ≡ kind.J1j2free → Moderate (job .j1)) ⌝ }
+    ensures { λ r. ⌜ Planned job (length (now (work .entry))) r (now (work .exit)) ⌝ }
 {
     let kind = job.kind;
     match kind {
-        1 => one_plan(work, first_free(m, job)),
-        2 => one_plan(work, second_free(m, job)),
-        _ => two_plan(work, folded_of(m, job)),
+        Kind::J1free => one_plan(work, first_free(job)),
+        Kind::J2free => one_plan(work, second_free(job)),
+        Kind::J1j2free => two_plan(work, folded_of(job)),
     }
 }

@@ -22,7 +22,6 @@ use crate::marks::Marks;
 use crate::marks::Sixth;
 use crate::marks::marks_of;
 use crate::marks::model_angle;
-use crate::pose::Matrix;
 use crate::samples::interval_cuts;
 use crate::wrist::Wrist;
 use crate::wrist::wrist_of;
@@ -76,12 +75,12 @@ fn sixth_of(fixed: bool, limited: bool, j: Joint) -> Sixth
 }
 
 // What counts of a job whose joint j is free.
-pub(crate) fn free_of(axes: Axes, m: Matrix, job: Job, j: Joint) -> Free
-    ensures { λ r. ⌜ r ≡ Of.free axes m job j ⌝ }
+pub(crate) fn free_of(axes: Axes, job: Job, j: Joint) -> Free
+    ensures { λ r. ⌜ r ≡ Of.free axes job j ⌝ }
 {
     let near = model_angle(j.sign, j.offset, j.reference);
     let limits = free_limits(job.limited, j);
-    let wrist = wrist_of(axes, m);
+    let wrist = wrist_of(axes, job.matrix);
     let fourth = marks_of(job.limited, job.j4);
     let fifth = marks_of(job.limited, job.j5);
     let sixth = sixth_of(job.fixed, job.limited, job.j6);

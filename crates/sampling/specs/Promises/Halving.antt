@@ -10,12 +10,10 @@ use Rattle.polynomial.specs.declared.cuts.Put.{Put}
 use Rattle.polynomial.specs.declared.cuts.Put.the-variants.{Count, Full}
 use Rattle.sampling.specs.Samples.{all-turns}
 use Rattle.sampling.specs.CriticalSlices.{chart, critical}
-use Rattle.sampling.specs.J1j2free.{first-half, second-half, halves-hold}
-use Rattle.sampling.specs.declared.intervals.Range.{Range}
+use Rattle.sampling.specs.J1j2free.{on-interval, first-half, second-half, halves-hold}
 use Rattle.sampling.specs.declared.j1j2free.Folded.{Folded}
 use Rattle.sampling.specs.declared.j1j2free.Halving.{Halving}
 use Rattle.sampling.specs.declared.j1j2free.Halving.the-variants.{Refused, Short, Nothing, Halves}
-use Rattle.sampling.specs.declared.intervals.Range.the-variants as range
 
 -- the values whose cuts a half's list is
 abbrev pub half-values : List Curve → List Float → Float → Float → List Float
@@ -26,13 +24,13 @@ unfoldable pub halving : List Float → List Float → ℕ → Halving
 halving a b places = cond (leb (length a + length b) places) (Halves (length a) (length b)) Short
 
 -- the same where joint 1 may have no interval, and an inner call of the root finder may be refused
-unfoldable pub cut-answer : Folded → Range → ℕ → Halving
-cut-answer t range.Nothing places = Nothing
-cut-answer t (range.Between lower upper) places = cond (halves-hold t lower upper) (halving (first-half t lower upper) (second-half t lower upper) places) Refused
+unfoldable pub cut-answer : Folded → ℕ → Halving
+cut-answer t places =
+    on-interval (t .range1) Nothing
+    (λ lower upper. cond (halves-hold t lower upper) (halving (first-half t lower upper) (second-half t lower upper) places) Refused)
 
-unfoldable pub both-halves : Folded → Range → List Float
-both-halves t range.Nothing = []
-both-halves t (range.Between lower upper) = first-half t lower upper ++ second-half t lower upper
+unfoldable pub both-halves : Folded → List Float
+both-halves t = on-interval (t .range1) [] (λ lower upper. first-half t lower upper ++ second-half t lower upper)
 
 -- how many places they fill, and what stands there
 abbrev pub filled : Halving → ℕ

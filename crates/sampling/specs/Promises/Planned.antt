@@ -15,7 +15,6 @@ use Rattle.sampling.specs.Promises.Stream.{start}
 use Rattle.sampling.specs.Promises.Plan.{to-come, Ready}
 use Rattle.sampling.specs.declared.job.Job.{Job}
 use Rattle.sampling.specs.declared.job.Joint.{Joint}
-use Rattle.sampling.specs.declared.pose.Matrix.{Matrix}
 use Rattle.sampling.specs.declared.plan.Plan.{Plan}
 use Rattle.sampling.specs.declared.plan.Plan.the-variants.{Refused, Short, Nothing, One, Two}
 
@@ -39,11 +38,11 @@ came (One n) = found
 came (Two h) = found
 
 -- the same by the job, with so many places
-unfoldable pub outcome : Job → Matrix → ℕ → Outcome
-outcome job m places = cond (hold job m) (cond (leb (cut-count job m) places) found short) refused
+unfoldable pub outcome : Job → ℕ → Outcome
+outcome job places = cond (hold job) (cond (leb (cut-count job) places) found short) refused
 
 -- the promise, of work w: the outcome, and where the angles are found, that they can be read off, and are the job's
-pub record Planned (job : Job) (m : Matrix) (places : ℕ) (p : Plan) (w : List Float) : Type 0 where
-  pub outcome-is : came p ≡ outcome job m places
+pub record Planned (job : Job) (places : ℕ) (p : Plan) (w : List Float) : Type 0 where
+  pub outcome-is : came p ≡ outcome job places
   pub ready : Ready p w
-  pub yields : came p ≡ found → to-come p w start ≡ angles job m
+  pub yields : came p ≡ found → to-come p w start ≡ angles job

@@ -17,7 +17,7 @@ returns : tie.Need-returns
 returns c =
     let cut = c .before .before .before .cut in
     let start = c .before .before .before .before .before .before in
-    rw (c .two-of .ensures) (both-drawn _ _ (cut .result) _ _ (cut .kept .0) (cut .ensures .0) (cut .ensures .1) (start .pre))
+    rw (c .two-of .ensures) (both-drawn _ (cut .result) _ _ (cut .kept .0) (cut .ensures .0) (cut .ensures .1) (start .pre))
 
 pub two-plan-spec : {M : Type 1} → statement M
 two-plan-spec = tie.close (tie.spec cut-requires two-of-requires same-length returns)
