@@ -133,9 +133,9 @@ drawn-on : (t : Folded) (g : Range) (r : Halving) (w : List Float) (places : ℕ
     → take (Halves.filled r) w ≡ Halves.listed r (Two.on-interval g [] (λ lower upper. Two.first-half t lower upper ++ Two.second-half t lower upper))
     → ((lower upper : Float) → g ≡ Between lower upper → Streams t lower upper)
     → Drawn (Two.on-interval g true (Two.halves-hold t))
-      (Two.on-interval g 0 (λ lower upper. length (Two.first-half t lower upper) + length (Two.second-half t lower upper)))
-      (Two.on-interval g [] (λ lower upper. slices (t .reference) lower upper (Two.first-half t lower upper) (Two.second-half t lower upper)))
-      places (of-halving r (t .reference)) w
+    (Two.on-interval g 0 (λ lower upper. length (Two.first-half t lower upper) + length (Two.second-half t lower upper)))
+    (Two.on-interval g [] (λ lower upper. slices (t .reference) lower upper (Two.first-half t lower upper) (Two.second-half t lower upper)))
+    places (of-halving r (t .reference)) w
 unfolding Halves.halving
 drawn-on t Nothing r w places room e s h = rw e (record { outcome-is = rw (le-leb 0 places (omega arith)); ready = tt; yields = λ f. refl })
 drawn-on t (Between lower upper) r w places room e s h =
