@@ -10,7 +10,7 @@ use lib.Ieee.{Float, binary64, fits, isNan}
 use Rattle.sampling.specs.Angles.{first-free, second-free, by-kind, angles}
 use Rattle.sampling.specs.J1j2free.{model-reference, folded, first-half, second-half, on-interval, cut-count, all-slices}
 use Rattle.sampling.specs.Limits.{limits}
-use Rattle.sampling.specs.Promises.Planned.{Moderate}
+use Rattle.sampling.specs.Promises.Plan.{Moderate}
 use Rattle.sampling.specs.SampleAngles.{sample-angles}
 use Rattle.sampling.specs.Slices.{slices, among}
 use Rattle.sampling.specs.Laws.Few.{sample-angles-few}
