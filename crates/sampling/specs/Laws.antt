@@ -23,3 +23,4 @@ pub mod FewCuts
 pub mod SmallCuts
 pub mod Reference
 pub mod Angles
+pub mod Reads

@@ -19,6 +19,7 @@ pub mod plan;
 pub mod pose;
 pub mod push;
 pub mod rays;
+pub mod reads;
 pub mod sample_angles;
 pub mod samples;
 pub mod stream;
