@@ -1,28 +1,29 @@
 -- Laws of the cuts that curves give, for the loops over them: one more root, one more curve. Assumes nothing.
-use mathlib.Core.Path.{_≡_, sym, ap, subst, _∙_}
-use mathlib.Core.Bool.{Bool, true, false, _&&_}
-use mathlib.Core.List.{List, [], _∷_, _++_}
-use Prim.Native.Nat.{ℕ, suc, _+_, _≤_, _<_}
+use Prim.Native.Nat.{ℕ, suc, _+_, _-_, _≤_, _<_}
+use native.Mathlib.Omega.{arith}
 use native.Mathlib.Numerals.{add-one}
-use lib.ListN.{length, take, getD}
+use mathlib.Core.Path.{_≡_, refl, sym, ap, subst, _∙_}
+use mathlib.Core.Bool.{Bool, true, false, _&&_}
+use mathlib.Core.List.{List, [], _∷_, _++_, map}
+use lib.ListN.{length, take, getD, replicate, length-append, length-map, length-replicate}
 use lib.Seq.{slice, slice-cons, slice-empty}
-use lib.Ieee.{Float, nan}
-use Rattle.float.specs.Number.{_⊕_, _⊗_, two-float}
+use lib.Ieee.{Float, nan, neg}
+use Rattle.float.specs.Number.{_⊕_, _⊗_, one-float, two-float}
 use Rattle.float.specs.Trig.{atan}
 use Rattle.polynomial.specs.Curve.{numerator, harmonic-a, harmonic-b, harmonic-c}
-use Rattle.polynomial.specs.Polynomial.{nine}
-use Rattle.polynomial.specs.Laws.Nine.{numerator-front}
+use Rattle.polynomial.specs.Polynomial.{nothing, nine, add, multiply, determinant}
+use Rattle.polynomial.specs.Laws.Nine.{add-front, multiply-front, determinant-front, numerator-front}
 use Rattle.polynomial.specs.declared.compensated.Compensated.{Compensated}
 use Rattle.polynomial.specs.declared.curve.Curve.{Curve}
 use Rattle.polynomial.specs.declared.cuts.Put.{Put}
 use Rattle.polynomial.specs.declared.curve.Numerators.{Numerators}
-use Rattle.sampling.specs.CriticalSlices.{angles, chart-roots, chart-holds, Polynomials, polynomials, tangency, intersection, critical, critical-holds}
+use Rattle.sampling.specs.CriticalSlices.{angles, chart-roots, chart-holds, Polynomials, polynomials, squares, tangency, intersection, critical, critical-holds}
 use Rattle.sampling.specs.Promises.Meetings.{meetings, meetings-hold}
 use Rattle.sampling.specs.Laws.CriticalSlices.{critical-nil, critical-cons, critical-holds-nil, critical-holds-cons}
 use Rattle.sampling.specs.Promises.Grown.{Grown}
-use Rattle.sampling.proofs.Grown.{then}
 use Rattle.sampling.specs.Promises.Numerators.{first-three}
 use Rattle.sampling.specs.declared.critical_slices.Chart.{Chart}
+use Rattle.sampling.proofs.Grown.{then}
 
 module _ (origin : Float) (l : List Float) (i n : ℕ) where
   pub angles-next : i < n → n ≤ length l → angles origin (slice i n l) ≡ (origin ⊕ two-float ⊗ atan (getD l i nan)) ∷ [] ++ angles origin (slice (i + 1) n l)
@@ -32,6 +33,55 @@ module _ (origin : Float) (l : List Float) (i n : ℕ) where
   pub angles-end : i ≡ n → angles origin (slice i n l) ≡ []
   unfolding angles
   angles-end e = rw (e, slice-empty n l)
+
+-- ---- polynomials in nine places
+
+-- a field of nine places has three: it is as long as what it is mapped to
+pub three : (A B : Type 0) (f : A → B) (l : List A) → length (map f l) ≡ 9 → 3 ≤ length l
+three A B f l e = let h = length-map l f in omega arith
+
+nine-long : (l : List Compensated) → 9 ≤ length (nine l)
+unfolding nine
+nine-long l = omega (arith, length-append l (replicate (9 - length l) nothing), length-replicate (9 - length l) nothing)
+
+squares-front : (s p q r : List Compensated) (n : ℕ) → n ≤ 5 → n ≤ length p → n ≤ length q → n ≤ length r → s ≡ nine (squares (take n p) (take n q) (take n r))
+    → take (n + n - 1) s ≡ squares (take n p) (take n q) (take n r)
+unfolding squares
+squares-front s p q r n h a b c e =
+    let m = n + n - 1 in
+    let pp = multiply (take n p) (take n p) in
+    let qq = multiply (take n q) (take n q) in
+    let rr = multiply (take n r) (take n r) in
+    let sum = add (take m (nine pp)) (take m (nine qq)) one-float in
+    let long : (l : List Compensated) → m ≤ length (nine l) = λ l. omega (arith, nine-long l) in
+    let x = multiply-front (nine pp) p p n n refl a a in
+    let y = multiply-front (nine qq) q q n n refl b b in
+    let z = multiply-front (nine rr) r r n n refl c c in
+    let w = add-front (nine sum) (nine pp) (nine qq) m one-float refl (long pp) (long qq) in
+    let k : add (take m (nine sum)) (take m (nine rr)) (neg one-float) ≡ add (add pp qq one-float) rr (neg one-float) = rw (w, x, y, z) in
+    add-front s (nine sum) (nine rr) m (neg one-float) (e ∙ ap nine (sym k)) (long sum) (long rr) ∙ k
+
+abbrev pub Threes : Numerators → Type 0
+Threes k = (3 ≤ length (k .a)) × (3 ≤ length (k .b)) × (3 ≤ length (k .c))
+
+tangency-front : (k : Numerators) (p : List Compensated) → Threes k → p ≡ nine (tangency (first-three k)) → take 5 p ≡ tangency (first-three k)
+unfolding tangency
+tangency-front k p t e = squares-front p (k .a) (k .b) (k .c) 3 (omega arith) (t .0) (t .1) (t .2) e
+
+intersection-front : (k l : Numerators) (p : List Compensated) → Threes k → Threes l → p ≡ nine (intersection (first-three k) (first-three l)) → take 9 p ≡ intersection (first-three k) (first-three l)
+unfolding intersection
+intersection-front k l p s t e =
+    let d = determinant (take 3 (k .a)) (take 3 (l .b)) (take 3 (l .a)) (take 3 (k .b)) in
+    let u = determinant (take 3 (k .b)) (take 3 (l .c)) (take 3 (l .b)) (take 3 (k .c)) in
+    let v = determinant (take 3 (k .c)) (take 3 (l .a)) (take 3 (l .c)) (take 3 (k .a)) in
+    let long : (q : List Compensated) → 5 ≤ length (nine q) = λ q. omega (arith, nine-long q) in
+    let x = determinant-front (nine d) (k .a) (l .b) 3 3 (l .a) (k .b) refl (s .0) (t .1) (t .0) (s .1) in
+    let y = determinant-front (nine u) (k .b) (l .c) 3 3 (l .b) (k .c) refl (s .1) (t .2) (t .1) (s .2) in
+    let z = determinant-front (nine v) (k .c) (l .a) 3 3 (l .c) (k .a) refl (s .2) (t .0) (t .2) (s .0) in
+    let w : squares (take 5 (nine u)) (take 5 (nine v)) (take 5 (nine d)) ≡ squares u v d = rw (x, y, z) in
+    squares-front p (nine u) (nine v) (nine d) 5 (omega arith) (long u) (long v) (long d) (e ∙ ap nine (sym w)) ∙ w
+
+-- ---- the numerators of a curve
 
 numerators-are : (r : Numerators) (q : Curve) (origin : Float) →
     (r .a ≡ nine (numerator (harmonic-a q) origin)) × (r .b ≡ nine (numerator (harmonic-b q) origin)) × (r .c ≡ nine (numerator (harmonic-c q) origin)) →
@@ -45,27 +95,35 @@ numerators-are r q origin e =
 -- the polynomials of a curve, where the code has its numerators
 module _ (r : Numerators) (q : Curve) (origin : Float)
     (e : (r .a ≡ nine (numerator (harmonic-a q) origin)) × (r .b ≡ nine (numerator (harmonic-b q) origin)) × (r .c ≡ nine (numerator (harmonic-c q) origin))) where
-  pub intersection-is : (k : Polynomials) (p : List Compensated) → p ≡ intersection k (first-three r) → p ≡ intersection k (polynomials q origin)
-  intersection-is k p f = f ∙ ap (intersection k) (numerators-are r q origin e)
+  threes : Threes r
+  threes =
+      let long : (x l : List Compensated) → x ≡ nine l → 3 ≤ length x = λ x l g. rw g (omega (arith, nine-long l)) in
+      (long (r .a) (numerator (harmonic-a q) origin) (e .0), long (r .b) (numerator (harmonic-b q) origin) (e .1), long (r .c) (numerator (harmonic-c q) origin) (e .2))
+
+  pub intersection-is : (k : Numerators) (p : List Compensated) → Threes k → p ≡ nine (intersection (first-three k) (first-three r)) → take 9 p ≡ intersection (first-three k) (polynomials q origin)
+  intersection-is k p t f = intersection-front k r p t threes f ∙ ap (intersection (first-three k)) (numerators-are r q origin e)
 
 -- a curve alone and with later ones, where the code has its numerators
 module _ (c : Chart) (r : Numerators) (q : Curve) (later : List Curve) (p : List Compensated)
     (e :
     (r .a ≡ nine (numerator (harmonic-a q) (c .origin))) × (r .b ≡ nine (numerator (harmonic-b q) (c .origin))) × (r .c ≡ nine (numerator (harmonic-c q) (c .origin))))
-    (f : p ≡ tangency (first-three r)) where
+    (f : p ≡ nine (tangency (first-three r))) where
   abbrev k : Polynomials
   k = polynomials q (c .origin)
 
   are : first-three r ≡ k
   are = numerators-are r q (c .origin) e
 
-  pub both-hold : (g h : Bool) → g ≡ chart-holds c p → h ≡ meetings-hold c (first-three r) later → (g && h) ≡ (chart-holds c (tangency k) && meetings-hold c k later)
-  both-hold g h x y = rw (x, y, f, are)
+  front : take 5 p ≡ tangency (first-three r)
+  front = tangency-front r p (threes r q (c .origin) e) f
 
-  pub both-grown : {w w′ w″ : List Float} {s s′ s″ : Put} → Grown (chart-roots c p) w s w′ s′ → Grown (meetings c (first-three r) later) w′ s′ w″ s″ → Grown (chart-roots c (tangency k) ++ meetings c k later) w s w″ s″
+  pub both-hold : (g h : Bool) → g ≡ chart-holds c (take 5 p) → h ≡ meetings-hold c (first-three r) later → (g && h) ≡ (chart-holds c (tangency k) && meetings-hold c k later)
+  both-hold g h x y = rw (x, y, front, are)
+
+  pub both-grown : {w w′ w″ : List Float} {s s′ s″ : Put} → Grown (chart-roots c (take 5 p)) w s w′ s′ → Grown (meetings c (first-three r) later) w′ s′ w″ s″ → Grown (chart-roots c (tangency k) ++ meetings c k later) w s w″ s″
   both-grown {w} {w′} {w″} {s} {s′} {s″} x y =
       then
-      (subst (λ (z : List Compensated). Grown (chart-roots c z) w s w′ s′) (f ∙ ap tangency are) x)
+      (subst (λ (z : List Compensated). Grown (chart-roots c z) w s w′ s′) (front ∙ ap tangency are) x)
       (subst (λ (z : Polynomials). Grown (meetings c z later) w′ s′ w″ s″) are y)
 
 module _ (c : Chart) (l : List Curve) (i n : ℕ) (d : Curve) (h : i < n) (b : n ≤ length l) where

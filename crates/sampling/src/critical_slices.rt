@@ -1,9 +1,10 @@
 // The cuts of joint 1 at the intersections and the vertical tangencies of curves, from
 // src/singularity/j1j2free.rs, put into the cuts in a lent slice.
 ghost use mathlib.Core.Path.{_≡_};
-ghost use Prim.Native.Nat.{_+_, _-_, _≤_, _<_};
+ghost use Prim.Native.Nat.{_≤_, _<_};
 ghost use lib.ListN.{length, take};
 ghost use lib.Seq.{slice};
+ghost use Rattle.polynomial.specs.Polynomial.{nine};
 ghost use Rattle.sampling.specs.Promises.Grown.{Grown};
 ghost use Rattle.sampling.specs.CriticalSlices as Of;
 ghost use Rattle.sampling.specs.Promises.Meetings as Met;
@@ -89,16 +90,16 @@ fn squares(
     n: usize,
 ) -> [Compensated; 9]
     requires { ⌜ (0 < n) × (n ≤ 5) ⌝ }
-    ensures { λ s. ⌜ take (n + n - 1) s ≡ Of.squares (take n p) (take n q) (take n r) ⌝ }
+    ensures { λ s. ⌜ s ≡ nine (Of.squares (take n p) (take n q) (take n r)) ⌝ }
 {
     let m = n + n - 1;
     let sum = add(multiply(p, n, p, n), multiply(q, n, q, n), m, 1.0);
     add(sum, multiply(r, n, r, n), m, -1.0)
 }
 
-// The polynomial of a curve's vertical tangencies, in the first five places.
+// The polynomial of a curve's vertical tangencies.
 fn tangency(k: Numerators) -> [Compensated; 9]
-    ensures { λ r. ⌜ take 5 r ≡ Of.tangency (first-three k) ⌝ }
+    ensures { λ r. ⌜ r ≡ nine (Of.tangency (first-three k)) ⌝ }
 {
     let a = k.a;
     let b = k.b;
@@ -106,9 +107,9 @@ fn tangency(k: Numerators) -> [Compensated; 9]
     squares(a, b, c, 3)
 }
 
-// The polynomial of the intersections of two curves, in all nine places.
+// The polynomial of the intersections of two curves.
 fn intersection(k: Numerators, l: Numerators) -> [Compensated; 9]
-    ensures { λ r. ⌜ take 9 r ≡ Of.intersection (first-three k) (first-three l) ⌝ }
+    ensures { λ r. ⌜ r ≡ nine (Of.intersection (first-three k) (first-three l)) ⌝ }
 {
     let a = k.a;
     let b = k.b;

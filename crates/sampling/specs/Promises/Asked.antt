@@ -1,4 +1,4 @@
--- Crossings that are asked for first and worked out later, two at a time: what inner functions promise one another. Definitions only; `Laws.Asked` puts one after the other.
+-- Crossings that are asked for first and worked out later, two at a time: what inner functions promise one another. Definitions only; the proofs' `Questions` puts one after the other.
 use mathlib.Core.Path.{_≡_}
 use mathlib.Core.List.{List, [], _∷_, _++_}
 use Prim.Native.Nat.{ℕ, _+_, _≤_}

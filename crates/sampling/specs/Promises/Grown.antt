@@ -1,4 +1,4 @@
--- Cuts that grow in a lent slice. Definition only; `Laws.Grown` puts one after the other.
+-- Cuts that grow in a lent slice. Definition only; the proofs' `Grown` puts one after the other.
 use mathlib.Core.Bool.{cond}
 use mathlib.Core.Path.{_≡_}
 use mathlib.Core.List.{List, _++_}

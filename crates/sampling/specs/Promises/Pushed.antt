@@ -1,4 +1,4 @@
--- A list that grows in the front of a lent slice. Definition only; `Laws.Pushed` puts one after the other.
+-- A list that grows in the front of a lent slice. Definition only; the proofs' `Pushed` puts one after the other.
 use mathlib.Core.Path.{_≡_}
 use mathlib.Core.List.{List, _++_}
 use Prim.Native.Nat.{ℕ, _+_, _≤_}

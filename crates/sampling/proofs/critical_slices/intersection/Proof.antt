@@ -1,12 +1,10 @@
 -- `sampling::critical_slices::intersection` meets its contract: at each return, what the calls and the tests on the way to it say. Assumes nothing.
 use Prim.Native.Nat.{_≤_}
-use native.Mathlib.Omega.{arith}
-use mathlib.Core.Path.{_≡_}
-use mathlib.Core.List.{List, map}
-use lib.ListN.{length, length-map}
+use lib.ListN.{length}
 use borrow.Author.Needs.{needs}
 use Rattle.polynomial.specs.Laws.Nine.{determinant-front}
 use Rattle.sampling.specs.CriticalSlices.{intersection}
+use Rattle.sampling.proofs.CriticalSlices.{three}
 use Rattle.sampling.proofs.critical_slices.intersection.Statement.{statement}
 use Rattle.sampling.proofs.critical_slices.intersection.Tie as tie
 
@@ -21,10 +19,6 @@ determinant-requires-3 c = search needs
 
 squares-requires : tie.Need-squares-requires
 squares-requires c = search needs
-
--- a field of nine places has three: it is as long as what it is mapped to
-three : (A B : Type 0) (f : A → B) (l : List A) → length (map f l) ≡ 9 → 3 ≤ length l
-three A B f l e = let h = length-map l f in omega arith
 
 threes : (s : tie.Start)
     → (3 ≤ length (s .args .k .a)) × (3 ≤ length (s .args .k .b)) × (3 ≤ length (s .args .k .c)) × (3 ≤ length (s .args .l .a)) × (3 ≤ length (s .args .l .b)) × (3 ≤ length (s .args .l .c))

@@ -13,7 +13,7 @@ use Rattle.sampling.specs.CriticalSlices as Of
 use Rattle.sampling.specs.Promises.Meetings as Met
 use Rattle.sampling.specs.Promises.Numerators.{first-three}
 use Rattle.sampling.proofs.Grown.{Leads, leads-all, leads-next, leads-end}
-use Rattle.sampling.proofs.CriticalSlices.{intersection-is, meetings-next, meetings-hold-next, meetings-end, meetings-hold-end, holds-next, holds-end}
+use Rattle.sampling.proofs.CriticalSlices.{three, Threes, intersection-is, meetings-next, meetings-hold-next, meetings-end, meetings-hold-end, holds-next, holds-end}
 use Rattle.sampling.proofs.critical_slices.meetings.Statement.{statement}
 use Rattle.sampling.proofs.critical_slices.meetings.Tie as tie
 
@@ -50,6 +50,9 @@ chart-roots-requires c κs = search needs
 loop-less : tie.Need-loop-less Inv-loop μ-loop
 loop-less c = search needs
 
+threes : (s : tie.Start Inv-loop μ-loop) → Threes (s .args .k)
+threes s = search three
+
 loop-again : tie.Need-loop-again Inv-loop μ-loop
 loop-again c =
     let g = c .before .before .before in
@@ -57,7 +60,7 @@ loop-again c =
     let l = q .before .before .before in
     let a = l .before .before .args in
     let k = first-three (a .k) in
-    let e = intersection-is (q .polynomials .result) _ (a .c .origin) (q .polynomials .ensures) k _ (g .before .before .intersection .ensures) in
+    let e = intersection-is (q .polynomials .result) _ (a .c .origin) (q .polynomials .ensures) (a .k) _ (threes (l .before .before)) (g .before .before .intersection .ensures) in
     let r = g .chart-roots .ensures in (
       search needs,
       l .loop .inv .1,

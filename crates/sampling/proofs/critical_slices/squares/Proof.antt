@@ -47,7 +47,7 @@ returns c =
       ← multiply-front (y .multiply2 .result) (a .q) (a .q) (a .n) (a .n) (y .multiply2 .ensures) (omega arith) (omega arith),
       ← add-front (s .add .result) (x .multiply .result) (y .multiply2 .result) (a .n + a .n - 1) _ (s .add .ensures) (omega (arith, x .multiply .ok .1 .0 .1)) (omega (arith, y .multiply2 .ok .1 .0 .1)),
       ← multiply-front (z .multiply3 .result) (a .r) (a .r) (a .n) (a .n) (z .multiply3 .ensures) (omega arith) (omega arith),
-      ← add-front (c .add2 .result) (s .add .result) (z .multiply3 .result) (a .n + a .n - 1) _ (c .add2 .ensures) (omega (arith, s .add .ok .1 .0 .1)) (omega (arith, z .multiply3 .ok .1 .0 .1)),
+      ← c .add2 .ensures,
     )
 
 pub squares-spec : {M : Type 1} → statement M
