@@ -20,7 +20,7 @@ use Rattle.sampling.specs.SampleAngles as One
 use Rattle.sampling.specs.J1j2free as Two
 use Rattle.sampling.specs.Angles.{first-free, second-free, by-kind, angles, cut-count, hold}
 use Rattle.sampling.specs.Promises.Stream.{distinct, start, Woven, Steps}
-use Rattle.sampling.specs.Promises.Plan.{Moderate, lists-of, halves-of, free-plan, folded-plan, laid, free-cuts, folded-cuts, all-cuts, granted, plan, filled, zeros, where-laid, work-after, all-samples, to-come, Ready, Gives}
+use Rattle.sampling.specs.Promises.Plan.{Moderate, lists-of, halves-of, free-plan, folded-plan, laid, free-cuts, folded-cuts, all-cuts, granted, plan, by-plan, filled, zeros, where-laid, work-after, all-samples, to-come, Ready, Gives}
 use Rattle.sampling.specs.Laws.Samples.{samples-length}
 use Rattle.sampling.specs.Laws.J1j2free.{half-fit, half-cuts-are}
 use Rattle.sampling.specs.Laws.Limits.{Ends, limits-ends}
@@ -209,6 +209,32 @@ module _ (w : List Float) where
     pub plan-yields : hold job ≡ true → cut-count job ≤ length w → to-come (plan job (length w)) (work-after job w) start ≡ angles job
     unfolding plan work-after
     plan-yields = job-drawn .yields
+
+-- ---- what came of the cuts
+
+module _ {A : Type 0} (refused short found : A) where
+  laid-by : (job : Job) → by-plan (laid job) refused short found ≡ found
+  unfolding laid free-plan folded-plan
+  laid-by job = go (job .kind)
+    where
+      both : (t : Folded) (g : Range)
+          → by-plan (Two.on-interval g (lists-of [] [] []) (λ lower upper. halves-of (t .reference) (Two.first-half t lower upper) (Two.second-half t lower upper))) refused short found ≡ found
+      both t Nothing = refl
+      both t (Between lower upper) = refl
+
+      go : (k : Kind) → by-plan (by-kind k (free-plan (first-free job)) (free-plan (second-free job)) (folded-plan (Two.folded job))) refused short found ≡ found
+      go J1free = refl
+      go J2free = refl
+      go J1j2free = both (Two.folded job) (Two.folded job .range1)
+
+  pub plan-by : (job : Job) (places : ℕ) → by-plan (plan job places) refused short found ≡ cond (hold job) (cond (leb (cut-count job) places) found short) refused
+  unfolding plan
+  plan-by job places = go (hold job) (leb (cut-count job) places)
+    where
+      go : (h t : Bool) → by-plan (cond h (cond t (laid job) of.Short) of.Refused) refused short found ≡ cond h (cond t found short) refused
+      go false t = refl
+      go true false = refl
+      go true true = laid-by job
 
 -- ---- how many places the cuts take
 

@@ -71,6 +71,13 @@ granted holds count l places = cond holds (cond (leb count places) l of.Short) o
 unfoldable pub plan : Job → ℕ → Plan
 plan job places = granted (hold job) (cut-count job) (laid job) places
 
+-- what a plan has, by what came: refused, short, laid
+abbrev pub by-plan : {A : Type 0} → Plan → A → A → A → A
+by-plan of.Refused refused short found = refused
+by-plan of.Short refused short found = short
+by-plan (of.Lists n) refused short found = found
+by-plan (of.Halves h) refused short found = found
+
 -- how many places the cuts take
 abbrev pub filled : Plan → ℕ
 filled of.Refused = 0
@@ -86,10 +93,7 @@ zeros n = replicate n zero-float
 
 -- l where there are cuts to read, and other where the plan is refused or short
 abbrev pub where-laid : Plan → List Float → List Float → List Float
-where-laid of.Refused l other = other
-where-laid of.Short l other = other
-where-laid (of.Lists n) l other = l
-where-laid (of.Halves h) l other = l
+where-laid p l other = by-plan p other other l
 
 -- the cuts in front, and the rest as it was
 unfoldable pub work-after : Job → List Float → List Float
