@@ -4,7 +4,7 @@
 -- `Samples` (roots one by one, the sample at each position), `Few` (how many boundary angles, cuts and angles of one free joint at most), `CriticalSlices` (what curves give, curve by curve),
 -- `Weave` (a list with the middles of its neighbours: its values, its length, its places),
 -- `Slices` (the values at which joint 1 is tried are what the stream has; how many at most; the reference is among them),
--- `Woven` (the cuts of values within ±64 can be streamed), `Plan` (angles read off cuts one at a time), `J1j2free` (the cuts of a half as those of one list),
+-- `Least`, `Heads` and `Step` (a step of the stream gives the first of what is to come), `Woven` (the cuts of values within ±64 can be streamed), `Plan` (angles read off cuts one at a time), `J1j2free` (the cuts of a half as those of one list),
 -- `FewCuts` (how many curves, bends and cuts of two free joints at most), `SmallCuts` (the cuts of both halves can be streamed), `Reference` (joint 1's reference as a model angle lies within P),
 -- `Angles` (a job has fewer than 2 ^ 29 angles; kind 3 tries the reference).
 pub mod Intervals
@@ -14,6 +14,9 @@ pub mod Samples
 pub mod Few
 pub mod Weave
 pub mod Slices
+pub mod Least
+pub mod Heads
+pub mod Step
 pub mod Woven
 pub mod Plan
 pub mod J1j2free
