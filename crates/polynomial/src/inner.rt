@@ -2,7 +2,7 @@
 // lent 509 places.
 ghost use mathlib.Core.Path.{_≡_};
 ghost use mathlib.Core.List.{_++_};
-ghost use Prim.Native.Nat.{_≤_};
+ghost use Prim.Native.Nat.{_^_, _≤_};
 ghost use lib.ListN.{length, take, drop};
 ghost use Rattle.polynomial.specs.Curve as Of;
 ghost use Rattle.polynomial.specs.Roots as Roots;
@@ -40,7 +40,7 @@ fn all_hold(p: [Compensated; 9], n: usize) -> bool
 // An inner call of the root finder, for the first n coefficients; the roots stand in the first
 // places of out. What stands behind them is left, and all of it where the call is refused.
 pub fn inner_roots(p: [Compensated; 9], n: usize, lower: f64, upper: f64, out: &mut [f64]) -> Inner
-    requires { ⌜ (n ≤ 9) × (512 ≤ length (now out)) ⌝ }
+    requires { ⌜ (n ≤ 9) × (2 ^ n ≤ length (now out)) ⌝ }
     ensures { λ r. ⌜ r ≡ inner-answer (take n p) lower upper ⌝ }
     ensures { λ r. ⌜ now (out .exit) ≡ listed r (Roots.roots (take n p) lower upper) ++ drop (size r) (now (out .entry)) ⌝ }
 {

@@ -40,13 +40,13 @@ pub fn squared_norm_roots(x: Harmonic, y: Harmonic, norm: f64, out: &mut [f64]) 
     ensures { λ r. ⌜ r ≡ squared-norm-answer x y norm ⌝ }
     ensures { λ r. ⌜ now (out .exit) ≡ listed r (Of.squared-norm-roots x y norm) ++ drop (size r) (now (out .entry)) ⌝ }
 {
-    let mut found = [0.0; 512];
+    let mut found = [0.0; 32];
     let left = middle(-P, 0.0);
     let first = inner_roots(norm_polynomial(x, y, norm, left), 5, -1.0, 1.0, &mut found);
     let Inner::Count(n) = first else {
         return Inner::Refused;
     };
-    let mut other = [0.0; 512];
+    let mut other = [0.0; 32];
     let right = middle(0.0, P);
     let second = inner_roots(norm_polynomial(x, y, norm, right), 5, -1.0, 1.0, &mut other);
     let Inner::Count(m) = second else {

@@ -89,7 +89,8 @@ fn copy(from: &[f64], count: usize, to: &mut [f64])
 }
 
 // The operation: coefficients as pairs, constant first. The result slice gets the roots in its
-// first places; the rest of it, and all of it on refusal, is left.
+// first places; the rest of it, and all of it on refusal, is left. A list that may be too long for
+// it is found elsewhere first.
 pub fn roots(coefficients: &[f64], lower: f64, upper: f64, result: &mut [f64]) -> Answer
     ensures { λ r. ⌜ r ≡ Operation.answer (now (coefficients .entry)) lower upper (length (now (result .entry))) ⌝ }
     ensures { λ r. ⌜ now (result .exit) ≡ Operation.filled r (Roots.roots (Operation.pairs (now (coefficients .entry))) lower upper) (now (result .entry)) ⌝ }
@@ -109,6 +110,9 @@ pub fn roots(coefficients: &[f64], lower: f64, upper: f64, result: &mut [f64]) -
     }
     let n = len / 2;
     let p = gather(coefficients, n);
+    if 1 << n <= result.len() {
+        return Answer::Count(crate::roots::roots(p, n, lower, upper, result));
+    }
     let mut found = [0.0; 512];
     let count = crate::roots::roots(p, n, lower, upper, &mut found);
     if result.len() < count {

@@ -167,6 +167,12 @@ pub(crate) fn roots(p: [Compensated; 9], n: usize, lower: f64, upper: f64, out: 
         let b = p[1];
         return quotient(a, b, lower, upper, out);
     }
+    if m <= 5 {
+        // fewer places have to be cleared than 512
+        let mut few = [0.0; 32];
+        let count = partitions(p, m, lower, upper, &mut few);
+        return scan(p, m, &few, count, out);
+    }
     let mut points = [0.0; 512];
     let count = partitions(p, m, lower, upper, &mut points);
     scan(p, m, &points, count, out)

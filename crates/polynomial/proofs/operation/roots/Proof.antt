@@ -1,5 +1,6 @@
 -- `polynomial::operation::roots` meets its contract: what the tests say, then that the finder's list is the definition's and has room.
-use Prim.Native.Nat.{ℕ, _/_, _%_, _^_, _≤_}
+use Prim.Native.Nat.{ℕ, _*_, _/_, _%_, _^_, _≤_}
+use native.Mathlib.Nat.{le-trans}
 use native.Mathlib.Omega.{arith}
 use mathlib.Core.Path.{_≡_, refl, sym, ap, _∙_}
 use mathlib.Core.Bool.{true}
@@ -10,6 +11,7 @@ use lib.Ieee.{Float}
 use borrow.Author.Tests.{not-true, not-false}
 use borrow.Author.Needs.{needs}
 use denote.Ref.{now}
+use Rattle.float.specs.Promises.Order.{Span}
 use Rattle.polynomial.specs.declared.compensated.Compensated.{Compensated}
 use Rattle.polynomial.specs.Operation.{pairs, bounds-hold, parts-hold}
 use Rattle.polynomial.specs.Laws.Bounds.{bounds-span}
@@ -45,19 +47,28 @@ module _ (c : tie.Else4) where
   ok-bounds : bounds-hold lower upper ≡ true
   ok-bounds = sym (c .before .before .before .bounds-hold .ensures) ∙ not-false _ (c .before .before .if3 .left)
 
+  halvable : Span 2 lower upper
+  halvable = bounds-span lower upper (search needs) (search needs) ok-bounds
+
   ok-parts : parts-hold s ≡ true
   ok-parts = sym (c .before .parts-hold .ensures) ∙ not-false _ (c .if4 .left)
 
--- after the call of the finder: its list is the definition's, with its length, and there are few
-module _ (c : tie.After-roots) where
+-- for the coefficients as the finder gets them, its list is the definition's, and there are few
+module _ (g : tie.After-gather) where
   abbrev u : tie.Else4
-  u = c .before .before .before
+  u = g .before
 
   abbrev n : ℕ
   n = length (s u) / 2
 
+  at-most-nine : n ≤ 9
+  at-most-nine = let h = short u in omega arith
+
   abbrev q : List Compensated
-  q = c .before .before .gather .result
+  q = g .gather .result
+
+  abbrev listed : List Float
+  listed = Roots.roots-at n (take n q) (lower u) (upper u)
 
   abbrev found : List Float
   found = Roots.roots (pairs (s u)) (lower u) (upper u)
@@ -65,20 +76,21 @@ module _ (c : tie.After-roots) where
   few-coefficients : length (take n q) ≤ n
   few-coefficients = simp length-take (omega arith)
 
-  all : Roots.roots-at n (take n q) (lower u) (upper u) ≡ found
-  all = roots-enough (lower u) (upper u) n (take n q) few-coefficients ∙ ap (λ (l : List Compensated). Roots.roots l (lower u) (upper u))
-      (pairs-front q (s u) n (omega (arith, even u)) (c .before .before .gather .ensures))
+  all : listed ≡ found
+  all =
+      roots-enough (lower u) (upper u) n (take n q) few-coefficients
+      ∙ ap (λ (l : List Compensated). Roots.roots l (lower u) (upper u)) (pairs-front q (s u) n (omega (arith, even u)) (g .gather .ensures))
 
-  count : c .roots .result ≡ length found
-  count = c .roots .ensures .0 ∙ ap length all
+  module _ (k : ℕ) (e : k ≡ length listed) where
+    count : k ≡ length found
+    count = e ∙ ap length all
 
-  few : c .roots .result ≤ 512
-  few =
-      let h = short u in
-      let z = roots-most (lower u) (upper u) n (take n q) few-coefficients in
-      let w : 2 ^ n ≤ 2 ^ 9 = pow-mono {i = n} {j = 9} (omega arith) in
-      let e = c .roots .ensures .0 in
-      omega arith
+    few : k ≤ 2 ^ n
+    few = let z = roots-most (lower u) (upper u) n (take n q) few-coefficients in omega arith
+
+-- a slice of 2 ^ n places, by the code's test
+enough-room : (n k : ℕ) → n ≤ 9 → 1 * 2 ^ n % 2 ^ 64 ≤ k → 2 ^ n ≤ k
+enough-room n k h l = let w : 2 ^ n ≤ 2 ^ 9 = pow-mono {i = n} {j = 9} h in omega arith
 
 returns : tie.Need-returns
 returns c =
@@ -114,22 +126,49 @@ returns-4 c =
 gather-requires : tie.Need-gather-requires
 gather-requires c κs = search needs
 
-slice-aggregate-roots : tie.Need-slice-aggregate-roots
-slice-aggregate-roots c = search needs
+shl-if5 : tie.Need-shl-if5
+shl-if5 c = let h = at-most-nine c in omega arith
 
 roots-requires : tie.Need-roots-requires
 roots-requires c κs =
-    let u = c .before .before in
-    let h = short u in
-    let n = length (s u) / 2 in
-    let w : 2 ^ n ≤ 2 ^ 9 = pow-mono {i = n} {j = 9} (omega arith) in
-    (omega arith, omega arith, bounds-span (lower u) (upper u) (search needs) (search needs) (ok-bounds u))
+    let i = c .before in
+    let g = i .before in
+    (at-most-nine g, enough-room (n g) (length (places (u g))) (at-most-nine g) (i .if5 .taken), halvable (u g))
+
+same-length : tie.Need-same-length
+same-length c = search needs
 
 returns-5 : tie.Need-returns-5
 returns-5 c =
     let r = c .before .before in
-    let u = r .before .before .before in
-    (short-result (s u) (lower u) (upper u) (length (places u)) (even u) (short u) (ok-bounds u) (ok-parts u) (r .roots .result) (count r) (c .if5 .taken), refl)
+    let i = r .before .before in
+    let g = i .before in
+    let k = r .roots .result in
+    let w = enough-room (n g) (length (places (u g))) (at-most-nine g) (i .if5 .taken) in
+    let f = few g k (r .roots .ensures .0) in (
+      counted (s (u g)) (lower (u g)) (upper (u g)) (length (places (u g))) (even (u g)) (short (u g)) (ok-bounds (u g)) (ok-parts (u g)) k
+          (count g k (r .roots .ensures .0)) (le-trans f w),
+      r .roots .ensures .1 ∙ ap (λ (l : List Float). l ++ drop k (places (u g))) (all g),
+    )
+
+slice-aggregate-roots : tie.Need-slice-aggregate-roots
+slice-aggregate-roots c = search needs
+
+roots-requires-2 : tie.Need-roots-requires-2
+roots-requires-2 c κs =
+    let g = c .before .before in
+    let w : 2 ^ n g ≤ 2 ^ 9 = pow-mono {i = n g} {j = 9} (at-most-nine g) in
+    (at-most-nine g, omega arith, halvable (u g))
+
+returns-6 : tie.Need-returns-6
+returns-6 c =
+    let r = c .before .before in
+    let g = r .before .before .before in
+    let k = r .roots2 .result in (
+      short-result (s (u g)) (lower (u g)) (upper (u g)) (length (places (u g))) (even (u g)) (short (u g)) (ok-bounds (u g)) (ok-parts (u g)) k
+          (count g k (r .roots2 .ensures .0)) (c .if6 .taken),
+      refl,
+    )
 
 slice-aggregate-copy : tie.Need-slice-aggregate-copy
 slice-aggregate-copy c = search needs
@@ -137,21 +176,25 @@ slice-aggregate-copy c = search needs
 copy-requires : tie.Need-copy-requires
 copy-requires c κs =
     let r = c .before .before .before .before in
-    let f = few r in
-    let l = r .roots .kept .1 .1 .1 .1 .0 in
-    (omega arith, c .before .before .if5 .left)
+    let g = r .before .before .before in
+    let f = few g (r .roots2 .result) (r .roots2 .ensures .0) in
+    let w : 2 ^ n g ≤ 2 ^ 9 = pow-mono {i = n g} {j = 9} (at-most-nine g) in
+    let l = r .roots2 .kept .1 .1 .1 .1 .0 in
+    (omega arith, c .before .before .if6 .left)
 
-same-length : tie.Need-same-length
-same-length c = search needs
+same-length-2 : tie.Need-same-length-2
+same-length-2 c = search needs
 
-returns-6 : tie.Need-returns-6
-returns-6 c =
+returns-7 : tie.Need-returns-7
+returns-7 c =
     let y = c .before .before in
     let x = y .before .before .before in
     let r = x .before .before in
-    let u = r .before .before .before in (
-      counted (s u) (lower u) (upper u) (length (places u)) (even u) (short u) (ok-bounds u) (ok-parts u) (r .roots .result) (count r) (x .if5 .left),
-      y .copy .ensures ∙ ap (λ (l : List Float). l ++ drop (r .roots .result) (places u)) (front-take _ _ _ _ (r .roots .ensures) ∙ all r),
+    let g = r .before .before .before in
+    let k = r .roots2 .result in (
+      counted (s (u g)) (lower (u g)) (upper (u g)) (length (places (u g))) (even (u g)) (short (u g)) (ok-bounds (u g)) (ok-parts (u g)) k
+          (count g k (r .roots2 .ensures .0)) (x .if6 .left),
+      y .copy .ensures ∙ ap (λ (l : List Float). l ++ drop k (places (u g))) (front-take _ _ _ _ (r .roots2 .ensures) ∙ all g),
     )
 
 pub roots-spec : {M : Type 1} → statement M
@@ -165,10 +208,14 @@ roots-spec =
     parts-hold-requires
     returns-4
     gather-requires
-    slice-aggregate-roots
+    shl-if5
     roots-requires
+    same-length
     returns-5
+    slice-aggregate-roots
+    roots-requires-2
+    returns-6
     slice-aggregate-copy
     copy-requires
-    same-length
-    returns-6)
+    same-length-2
+    returns-7)

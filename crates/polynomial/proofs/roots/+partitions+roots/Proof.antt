@@ -207,16 +207,50 @@ module _ (t : ℕ) where
   roots-slice-aggregate-partitions : roots-lts.Need-slice-aggregate-partitions (outer t) (roots-at t) roots.Post
   roots-slice-aggregate-partitions c = search needs
 
-  three : (c : roots-lts.Else3 (outer t) (roots-at t) roots.Post) → 2 < c .before .before .before .before .trimmed .result
-  three c = lt-of-le-ne (c .before .before .before .if1 .left) (λ e. c .if3 .left (sym e))
+  -- past the test for a line: the partition points, that `scan` can go through them where they stand in the first places of A, and what it finds
+  module _ (w : roots-lts.Else3 (outer t) (roots-at t) roots.Post) where
+    abbrev lead : roots-lts.After-trimmed (outer t) (roots-at t) roots.Post
+    lead = w .before .before .before .before
+
+    abbrev start : roots-lts.Start (outer t) (roots-at t) roots.Post
+    start = lead .before .before
+
+    three : 2 < lead .trimmed .result
+    three = lt-of-le-ne (w .before .before .before .if1 .left) (λ e. w .if3 .left (sym e))
+
+    abbrev R : List Float
+    R = Of.roots-at (lead .trimmed .result - 1) (derivative (Q lead)) (start .args .lower) (start .args .upper)
+
+    abbrev points : List Float
+    points = Of.partitions (start .args .lower) (start .args .upper) R
+
+    module _ (count : ℕ) (W A : List Float) (f : Front points W count A) where
+      -- A has room for the points of j coefficients
+      scannable : (j : ℕ) → lead .trimmed .result ≤ j → 2 ^ j ≤ length A
+          → (lead .trimmed .result ≤ 9) × (0 < count) × (count ≤ length A) × (count + count ≤ length (now (start .args .out))) × Ready (take count A)
+      scannable j h k =
+          let a = start .args in
+          let z = points-some (a .lower) (a .upper) R in
+          let x = points-room (lead .trimmed .result) (a .t1) (a .lower) (a .upper) three j (length A) count h k (f .0) in
+          let g = points-room (lead .trimmed .result) (a .t1) (a .lower) (a .upper) three (a .n) (length (now (a .out))) count (lead .trimmed .ensures .0) (start .pre .1 .1) (f .0) in (
+            omega arith,
+            omega (arith, f .0),
+            omega arith,
+            omega arith,
+            subst Ready (sym (front-take points _ _ _ f)) (points-ready (a .lower) (a .upper) (start .pre .1 .2) R (roots-in (a .lower) (a .upper) (start .pre .1 .2) (lead .trimmed .result - 1) (derivative (Q lead)))),
+          )
+
+      all-found : Of.roots-at (start .args .n) (take (start .args .n) (start .args .t1)) (start .args .lower) (start .args .upper) ≡ found (Q lead) (take count A)
+      all-found =
+          let a = start .args in
+          more-left (a .n) (lead .trimmed .result) (take (a .n) (a .t1)) (Q lead) (a .lower) (a .upper) (lead .trimmed .ensures .1) (counts (w .before)) (size lead .1) (size lead .0) three
+          ∙ ap (λ (l : List Float). found (Q lead) l) (sym (front-take points W A count f))
 
   roots-partitions-requires : roots-lts.Need-partitions-requires (outer t) (roots-at t) roots.Post
   roots-partitions-requires c κs =
-      let w = c .before in
-      let m = w .before .before .before .before in
-      let s = m .before .before in
-      let p : 2 ^ m .trimmed .result ≤ 2 ^ 9 = pow-mono {i = m .trimmed .result} {j = 9} (omega arith) in
-      (omega arith, (three w, omega arith, omega arith, s .pre .1 .2))
+      let w = c .before .before in
+      let p : 2 ^ lead w .trimmed .result ≤ 2 ^ 5 = pow-mono {i = lead w .trimmed .result} {j = 5} (c .before .if4 .taken) in
+      (omega arith, (three w, omega arith, omega arith, start w .pre .1 .2))
 
   roots-slice-aggregate-scan : roots-lts.Need-slice-aggregate-scan (outer t) (roots-at t) roots.Post
   roots-slice-aggregate-scan c = search needs
@@ -224,22 +258,9 @@ module _ (t : ℕ) where
   roots-scan-requires : roots-lts.Need-scan-requires (outer t) (roots-at t) roots.Post
   roots-scan-requires c κs =
       let q = c .before .before .before in
-      let w = q .before .before in
-      let m = w .before .before .before .before in
-      let s = m .before .before in
-      let a = s .args in
-      let R = Of.roots-at (m .trimmed .result - 1) (derivative (Q m)) (a .lower) (a .upper) in
-      let z = points-some (a .lower) (a .upper) R in
-      let n = q .partitions .ensures .0 in
+      let i = q .before .before in
       let l = q .partitions .kept .1 .1 .1 .1 .0 in
-      let f = points-room (m .trimmed .result) (a .t1) (a .lower) (a .upper) (three w) 9 512 (q .partitions .result) (omega arith) (le-refl 512) n in
-      let g = points-room (m .trimmed .result) (a .t1) (a .lower) (a .upper) (three w) (a .n) (length (now (a .out))) (q .partitions .result) (m .trimmed .ensures .0) (s .pre .1 .1) n in (
-        omega arith,
-        omega arith,
-        omega arith,
-        omega arith,
-        subst Ready (sym (front-take (Of.partitions (a .lower) (a .upper) R) _ _ _ (q .partitions .ensures))) (points-ready (a .lower) (a .upper) (s .pre .1 .2) R (roots-in (a .lower) (a .upper) (s .pre .1 .2) (m .trimmed .result - 1) (derivative (Q m)))),
-      )
+      scannable (i .before) (q .partitions .result) _ (q .partitions .last .1 .1 .1 .1 .0) (q .partitions .ensures) 5 (i .if4 .taken) (omega arith)
 
   roots-same-length-2 : roots-lts.Need-same-length-2 (outer t) (roots-at t) roots.Post
   roots-same-length-2 c = search needs
@@ -248,11 +269,35 @@ module _ (t : ℕ) where
   roots-returns-4 c =
       let x = c .before .before in
       let q = x .before .before .before .before in
-      let w = q .before .before in
-      let m = w .before .before .before .before in
-      let a = m .before .before .args in
-      let e = more-left (a .n) (m .trimmed .result) (take (a .n) (a .t1)) (Q m) (a .lower) (a .upper) (m .trimmed .ensures .1) (counts (w .before)) (size m .1) (size m .0) (three w) in
-      front-same _ _ _ _ (x .scan .ensures) _ (e ∙ ap (λ (l : List Float). found (Q m) l) (sym (front-take _ _ _ _ (q .partitions .ensures))))
+      front-same _ _ _ _ (x .scan .ensures) _ (all-found (q .before .before .before) _ _ _ (q .partitions .ensures))
+
+  roots-slice-aggregate-partitions-2 : roots-lts.Need-slice-aggregate-partitions-2 (outer t) (roots-at t) roots.Post
+  roots-slice-aggregate-partitions-2 c = search needs
+
+  roots-partitions-requires-2 : roots-lts.Need-partitions-requires-2 (outer t) (roots-at t) roots.Post
+  roots-partitions-requires-2 c κs =
+      let w = c .before .before in
+      let p : 2 ^ lead w .trimmed .result ≤ 2 ^ 9 = pow-mono {i = lead w .trimmed .result} {j = 9} (omega arith) in
+      (omega arith, (three w, omega arith, omega arith, start w .pre .1 .2))
+
+  roots-slice-aggregate-scan-2 : roots-lts.Need-slice-aggregate-scan-2 (outer t) (roots-at t) roots.Post
+  roots-slice-aggregate-scan-2 c = search needs
+
+  roots-scan-requires-2 : roots-lts.Need-scan-requires-2 (outer t) (roots-at t) roots.Post
+  roots-scan-requires-2 c κs =
+      let q = c .before .before .before in
+      let w = q .before .before .before in
+      let l = q .partitions2 .kept .1 .1 .1 .1 .0 in
+      scannable w (q .partitions2 .result) _ (q .partitions2 .last .1 .1 .1 .1 .0) (q .partitions2 .ensures) 9 (omega arith) (omega arith)
+
+  roots-same-length-3 : roots-lts.Need-same-length-3 (outer t) (roots-at t) roots.Post
+  roots-same-length-3 c = search needs
+
+  roots-returns-5 : roots-lts.Need-returns-5 (outer t) (roots-at t) roots.Post
+  roots-returns-5 c =
+      let x = c .before .before in
+      let q = x .before .before .before .before in
+      front-same _ _ _ _ (x .scan2 .ensures) _ (all-found (q .before .before .before) _ _ _ (q .partitions2 .ensures))
 
 pub +partitions+roots-spec : {M : Type 1} → statement M
 +partitions+roots-spec = close μ-partitions μ-roots (λ t. partitions-lts.spec (inner t)
@@ -283,3 +328,9 @@ pub +partitions+roots-spec : {M : Type 1} → statement M
     (roots-scan-requires t)
     (roots-same-length-2 t)
     (roots-returns-4 t)
+    (roots-slice-aggregate-partitions-2 t)
+    (roots-partitions-requires-2 t)
+    (roots-slice-aggregate-scan-2 t)
+    (roots-scan-requires-2 t)
+    (roots-same-length-3 t)
+    (roots-returns-5 t)

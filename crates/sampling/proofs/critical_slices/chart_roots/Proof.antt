@@ -1,4 +1,6 @@
 -- `sampling::critical_slices::chart_roots` meets its contract: by what the root finder says of its answer. Assumes nothing.
+use Prim.Native.Nat.{ℕ, _^_, _≤_}
+use lib.Pow.{pow-mono}
 use borrow.Author.Needs.{needs}
 use mathlib.Core.Path.{sym}
 use Rattle.sampling.specs.CriticalSlices.{angles, chart-roots, chart-holds}
@@ -7,11 +9,15 @@ use Rattle.polynomial.specs.Laws.Inner.{call-refused, call-holds, call-within, 
 use Rattle.sampling.proofs.critical_slices.chart_roots.Statement.{statement}
 use Rattle.sampling.proofs.critical_slices.chart_roots.Tie as tie
 
+-- 512 places are enough for nine coefficients
+room : (n : ℕ) → n ≤ 9 → (n ≤ 9) × (2 ^ n ≤ 512)
+room n h = (h, pow-mono {i = n} {j = 9} h)
+
 slice-aggregate-inner-roots : tie.Need-slice-aggregate-inner-roots
 slice-aggregate-inner-roots c = search needs
 
 inner-roots-requires : tie.Need-inner-roots-requires
-inner-roots-requires c κs = search needs
+inner-roots-requires c κs = room _ (search needs)
 
 enum-known-answer : tie.Need-enum-known-answer
 enum-known-answer c = search needs
