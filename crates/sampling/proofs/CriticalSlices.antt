@@ -16,8 +16,10 @@ use Rattle.polynomial.specs.Laws.Nine.{add-front, multiply-front, determinant-f
 use Rattle.polynomial.specs.declared.compensated.Compensated.{Compensated}
 use Rattle.polynomial.specs.declared.curve.Curve.{Curve}
 use Rattle.polynomial.specs.declared.cuts.Put.{Put}
+use Rattle.polynomial.specs.declared.curve.Harmonic.{Harmonic}
 use Rattle.polynomial.specs.declared.curve.Numerators.{Numerators}
-use Rattle.sampling.specs.CriticalSlices.{angles, chart-roots, chart-holds, Polynomials, polynomials, squares, tangency, intersection, critical, critical-holds}
+use Rattle.sampling.specs.CriticalSlices.{angles, chart-roots, chart-holds, critical, critical-holds}
+use Rattle.sampling.specs.CriticalSlices.{Polynomials, polynomials, squares, tangency, intersection}
 use Rattle.sampling.specs.Promises.Meetings.{meetings, meetings-hold}
 use Rattle.sampling.specs.Laws.CriticalSlices.{critical-nil, critical-cons, critical-holds-nil, critical-holds-cons}
 use Rattle.sampling.specs.Promises.Grown.{Grown}
@@ -68,7 +70,8 @@ tangency-front : (k : Numerators) (p : List Compensated) → Threes k → p ≡ 
 unfolding tangency
 tangency-front k p t e = squares-front p (k .a) (k .b) (k .c) 3 (omega arith) (t .0) (t .1) (t .2) e
 
-intersection-front : (k l : Numerators) (p : List Compensated) → Threes k → Threes l → p ≡ nine (intersection (first-three k) (first-three l)) → take 9 p ≡ intersection (first-three k) (first-three l)
+intersection-front : (k l : Numerators) (p : List Compensated) → Threes k → Threes l
+    → p ≡ nine (intersection (first-three k) (first-three l)) → take 9 p ≡ intersection (first-three k) (first-three l)
 unfolding intersection
 intersection-front k l p s t e =
     let d = determinant (take 3 (k .a)) (take 3 (l .b)) (take 3 (l .a)) (take 3 (k .b)) in
@@ -83,9 +86,13 @@ intersection-front k l p s t e =
 
 -- ---- the numerators of a curve
 
-numerators-are : (r : Numerators) (q : Curve) (origin : Float) →
-    (r .a ≡ nine (numerator (harmonic-a q) origin)) × (r .b ≡ nine (numerator (harmonic-b q) origin)) × (r .c ≡ nine (numerator (harmonic-c q) origin)) →
-    first-three r ≡ polynomials q origin
+-- what `polynomials` of the code promises
+abbrev Are : Numerators → Curve → Float → Type 0
+Are r q origin =
+    (r .a ≡ nine (numerator (harmonic-a q) origin)) × (r .b ≡ nine (numerator (harmonic-b q) origin))
+    × (r .c ≡ nine (numerator (harmonic-c q) origin))
+
+numerators-are : (r : Numerators) (q : Curve) (origin : Float) → Are r q origin → first-three r ≡ polynomials q origin
 numerators-are r q origin e =
     let x = numerator-front (r .a) (harmonic-a q) origin (e .0) in
     let y = numerator-front (r .b) (harmonic-b q) origin (e .1) in
@@ -93,20 +100,19 @@ numerators-are r q origin e =
     λ i. record { a = x i; b = y i; c = z i }
 
 -- the polynomials of a curve, where the code has its numerators
-module _ (r : Numerators) (q : Curve) (origin : Float)
-    (e : (r .a ≡ nine (numerator (harmonic-a q) origin)) × (r .b ≡ nine (numerator (harmonic-b q) origin)) × (r .c ≡ nine (numerator (harmonic-c q) origin))) where
+module _ (r : Numerators) (q : Curve) (origin : Float) (e : Are r q origin) where
   threes : Threes r
   threes =
       let long : (x l : List Compensated) → x ≡ nine l → 3 ≤ length x = λ x l g. rw g (omega (arith, nine-long l)) in
-      (long (r .a) (numerator (harmonic-a q) origin) (e .0), long (r .b) (numerator (harmonic-b q) origin) (e .1), long (r .c) (numerator (harmonic-c q) origin) (e .2))
+      let n : Harmonic → List Compensated = λ h. numerator h origin in
+      (long (r .a) (n (harmonic-a q)) (e .0), long (r .b) (n (harmonic-b q)) (e .1), long (r .c) (n (harmonic-c q)) (e .2))
 
-  pub intersection-is : (k : Numerators) (p : List Compensated) → Threes k → p ≡ nine (intersection (first-three k) (first-three r)) → take 9 p ≡ intersection (first-three k) (polynomials q origin)
+  pub intersection-is : (k : Numerators) (p : List Compensated) → Threes k
+      → p ≡ nine (intersection (first-three k) (first-three r)) → take 9 p ≡ intersection (first-three k) (polynomials q origin)
   intersection-is k p t f = intersection-front k r p t threes f ∙ ap (intersection (first-three k)) (numerators-are r q origin e)
 
 -- a curve alone and with later ones, where the code has its numerators
-module _ (c : Chart) (r : Numerators) (q : Curve) (later : List Curve) (p : List Compensated)
-    (e :
-    (r .a ≡ nine (numerator (harmonic-a q) (c .origin))) × (r .b ≡ nine (numerator (harmonic-b q) (c .origin))) × (r .c ≡ nine (numerator (harmonic-c q) (c .origin))))
+module _ (c : Chart) (r : Numerators) (q : Curve) (later : List Curve) (p : List Compensated) (e : Are r q (c .origin))
     (f : p ≡ nine (tangency (first-three r))) where
   abbrev k : Polynomials
   k = polynomials q (c .origin)
@@ -117,10 +123,13 @@ module _ (c : Chart) (r : Numerators) (q : Curve) (later : List Curve) (p : List
   front : take 5 p ≡ tangency (first-three r)
   front = tangency-front r p (threes r q (c .origin) e) f
 
-  pub both-hold : (g h : Bool) → g ≡ chart-holds c (take 5 p) → h ≡ meetings-hold c (first-three r) later → (g && h) ≡ (chart-holds c (tangency k) && meetings-hold c k later)
+  pub both-hold : (g h : Bool) → g ≡ chart-holds c (take 5 p) → h ≡ meetings-hold c (first-three r) later
+      → (g && h) ≡ (chart-holds c (tangency k) && meetings-hold c k later)
   both-hold g h x y = rw (x, y, front, are)
 
-  pub both-grown : {w w′ w″ : List Float} {s s′ s″ : Put} → Grown (chart-roots c (take 5 p)) w s w′ s′ → Grown (meetings c (first-three r) later) w′ s′ w″ s″ → Grown (chart-roots c (tangency k) ++ meetings c k later) w s w″ s″
+  pub both-grown : {w w′ w″ : List Float} {s s′ s″ : Put}
+      → Grown (chart-roots c (take 5 p)) w s w′ s′ → Grown (meetings c (first-three r) later) w′ s′ w″ s″
+      → Grown (chart-roots c (tangency k) ++ meetings c k later) w s w″ s″
   both-grown {w} {w′} {w″} {s} {s′} {s″} x y =
       then
       (subst (λ (z : List Compensated). Grown (chart-roots c z) w s w′ s′) (front ∙ ap tangency are) x)
@@ -132,7 +141,8 @@ module _ (c : Chart) (l : List Curve) (i n : ℕ) (d : Curve) (h : i < n) (b : n
     unfolding meetings
     meetings-next = rw (add-one, slice-cons i n l d h b)
 
-    pub meetings-hold-next : meetings-hold c k (slice i n l) ≡ (chart-holds c (intersection k (polynomials (getD l i d) (c .origin))) && meetings-hold c k (slice (i + 1) n l))
+    pub meetings-hold-next : meetings-hold c k (slice i n l)
+        ≡ (chart-holds c (intersection k (polynomials (getD l i d) (c .origin))) && meetings-hold c k (slice (i + 1) n l))
     unfolding meetings-hold
     meetings-hold-next = rw (add-one, slice-cons i n l d h b)
 

@@ -83,7 +83,7 @@ bend-slice m q3 range2 range4 range6 angle5 =
 unfoldable pub bend-slice-holds : Vector → Float → Range → Float → Bool
 bend-slice-holds z q3 range2 angle5 = folds-range-hold z q3 (sin-cos angle5 .sine) range2
 
--- both ends
+-- both ends of joint 5's limits
 unfoldable pub bend-slices : Matrix → Float → Range → Range → Range → Range → List Float
 bend-slices m q3 range2 range4 Nothing range6 = []
 bend-slices m q3 range2 range4 (Between lower upper) range6 = bend-slice m q3 range2 range4 range6 lower ++ bend-slice m q3 range2 range4 range6 upper

@@ -59,7 +59,7 @@ unfoldable pub bend-marks : Trig → Ray → Marks → List Float
 bend-marks cos5 q4 m = bend-at cos5 q4 (m .reference) ++ cond (m .limited) (bend-at cos5 q4 (m .center) ++ bend-range cos5 q4 (m .range)) []
 
 unfoldable pub bend-marks-hold : Ray → Marks → Bool
-bend-marks-hold q4 m = cond (m .limited) (bend-at-holds q4 (m .reference) && (bend-at-holds q4 (m .center) && bend-range-holds q4 (m .range))) (bend-at-holds q4 (m .reference))
+bend-marks-hold q4 m = bend-at-holds q4 (m .reference) && cond (m .limited) (bend-at-holds q4 (m .center) && bend-range-holds q4 (m .range)) true
 
 -- All of them: the free joint's reference, the poles, joints 4, 5 and 6, the centre of the free joint's limits. Only joint 5 asks the root finder.
 unfoldable pub all-roots : Wrist → Float → Marks → Marks → Sixth → Float → List Float

@@ -12,7 +12,7 @@ use Rattle.polynomial.specs.declared.compensated.Compensated.{Compensated}
 use Rattle.polynomial.specs.declared.curve.Curve.{Curve}
 use Rattle.sampling.specs.declared.critical_slices.Chart.{Chart}
 
--- The chart u = tan((q1 - origin) / 2) of a half of joint 1's interval: its origin and its bounds. Of a half, so that u stays within ±1: a whole turn has the tangent's pole in it, and coefficients that large u spoils.
+-- The chart u = tan((q1 - origin) / 2) of a half of joint 1's interval: its origin and its bounds. A half, so that u stays within ±1: over a whole turn the tangent has its pole, and large u spoil the coefficients.
 unfoldable pub chart : Float → Float → Chart
 chart lower upper =
     let origin = middle lower upper in

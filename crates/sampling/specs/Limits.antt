@@ -1,4 +1,4 @@
--- A joint of a job, and the continuous interval of its model angle: `limits` of j1j2free.rs (01, module 4). Definitions only.
+-- The continuous interval of a joint's model angle: `limits` of j1j2free.rs (01, module 4). Definitions only.
 use mathlib.Core.Bool.{Bool, not, _||_, cond}
 use lib.Ieee.{Float, lt, isNan}
 use lib.Ieee.Scale.{finite}

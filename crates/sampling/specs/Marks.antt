@@ -20,7 +20,7 @@ unfoldable pub ends : Float → Float → Range
 ends center tolerance =
     cond (finite tolerance && le zero-float tolerance && lt tolerance P) (Between (center ⊖ tolerance) (center ⊕ tolerance)) Nothing
 
--- The reference and the centre bound no range, yet the wrist that is nearest to them is wanted: where the free joint puts the wrist there is a sample too.
+-- The reference and the centre bound no range, but solutions are ranked by their distance to them: the angles that bring the wrist there are tried too.
 unfoldable pub marks : Bool → Joint → Marks
 marks limited j =
     let reference = model-angle (j .sign) (j .offset) (j .reference) in

@@ -42,7 +42,7 @@ interval-values near roots (Between lower upper) =
 unfoldable pub interval-cuts : Float → List Float → Range → List Float
 interval-cuts near roots range = cuts (interval-values near roots range)
 
--- How far inside a pair of neighbouring cuts the outer samples lie: past what rounding does to a cut, but in the outer quarters of what lies between.
+-- How far inside a pair of neighbouring cuts the outer samples lie: so far that rounding does not undo it, and at most a quarter of the way.
 unfoldable pub inset : Float → Float → Float
 inset lower upper = minimum (root-roundoff ⊗ (one-float ⊕ maximum (abs lower) (abs upper))) ((upper ⊖ lower) ⊘ four-float)
 
@@ -59,7 +59,7 @@ all-between (a ∷ (b ∷ l)) = between a b ++ all-between (b ∷ l)
 unfoldable pub samples : List Float → List Float
 samples l = l ++ all-between l
 
--- how many: no cut, no sample; else four for each cut but three
+-- how many: the cuts, and three for each pair of neighbours
 abbrev pub sample-count : ℕ → ℕ
 sample-count zero = 0
 sample-count (suc k) = suc (4 * k)

@@ -18,7 +18,7 @@ pub struct Vector {
 }
 
 impl Vector {
-    pub(crate) fn new(x: f64, y: f64, z: f64) -> Self
+    pub fn new(x: f64, y: f64, z: f64) -> Self
         ensures { λ r. ⌜ r ≡ Pose.vector x y z ⌝ }
     {
         Self { x, y, z }

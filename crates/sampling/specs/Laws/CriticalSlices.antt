@@ -5,7 +5,8 @@ use mathlib.Core.List.{List, [], _∷_, _++_, map, flatMap, append-assoc}
 use lib.Ieee.{Float}
 use Rattle.polynomial.specs.declared.compensated.Compensated.{Compensated}
 use Rattle.polynomial.specs.declared.curve.Curve.{Curve}
-use Rattle.sampling.specs.CriticalSlices.{Polynomials, polynomials, tangency, intersection, chart-roots, chart-holds, charts-hold, calls, critical, critical-holds}
+use Rattle.sampling.specs.CriticalSlices.{Polynomials, polynomials, tangency, intersection}
+use Rattle.sampling.specs.CriticalSlices.{chart-roots, chart-holds, charts-hold, calls, critical, critical-holds}
 use Rattle.sampling.specs.Promises.Meetings.{meetings, meetings-hold}
 use Rattle.sampling.specs.declared.critical_slices.Chart.{Chart}
 
@@ -17,12 +18,14 @@ module _ (c : Chart) where
   unfolding flatMap
   roots-append [] qs = refl
   roots-append (p ∷ ps) qs =
-      ap (λ (z : List Float). chart-roots c p ++ z) (roots-append ps qs) ∙ sym (append-assoc (chart-roots c p) (flatMap (chart-roots c) ps) (flatMap (chart-roots c) qs))
+      ap (λ (z : List Float). chart-roots c p ++ z) (roots-append ps qs)
+      ∙ sym (append-assoc (chart-roots c p) (flatMap (chart-roots c) ps) (flatMap (chart-roots c) qs))
 
   hold-append : (ps qs : List (List Compensated)) → charts-hold c (ps ++ qs) ≡ (charts-hold c ps && charts-hold c qs)
   unfolding charts-hold
   hold-append [] qs = refl
-  hold-append (p ∷ ps) qs = ap (λ (z : Bool). chart-holds c p && z) (hold-append ps qs) ∙ sym (and-assoc (chart-holds c p) (charts-hold c ps) (charts-hold c qs))
+  hold-append (p ∷ ps) qs =
+      ap (λ (z : Bool). chart-holds c p && z) (hold-append ps qs) ∙ sym (and-assoc (chart-holds c p) (charts-hold c ps) (charts-hold c qs))
 
   pairs-roots : (k : Polynomials) (l : List Curve) → flatMap (chart-roots c) (pairs k l) ≡ meetings c k l
   unfolding flatMap meetings
@@ -48,14 +51,15 @@ module _ (c : Chart) where
   critical-cons k later =
       let n = polynomials k (c .origin) in
       let alone = chart-roots c (tangency n) in
-      ap (λ (z : List Float). alone ++ z) (roots-append (pairs n later) (calls (c .origin) later) ∙ ap (λ (z : List Float). z ++ critical c later) (pairs-roots n later))
-      ∙ sym (append-assoc alone (meetings c n later) (critical c later))
+      let split = roots-append (pairs n later) (calls (c .origin) later) ∙ ap (λ (z : List Float). z ++ critical c later) (pairs-roots n later) in
+      ap (λ (z : List Float). alone ++ z) split ∙ sym (append-assoc alone (meetings c n later) (critical c later))
 
   pub critical-holds-cons : (k : Curve) (later : List Curve)
-      → critical-holds c (k ∷ later) ≡ ((chart-holds c (tangency (polynomials k (c .origin))) && meetings-hold c (polynomials k (c .origin)) later) && critical-holds c later)
+      → critical-holds c (k ∷ later)
+      ≡ ((chart-holds c (tangency (polynomials k (c .origin))) && meetings-hold c (polynomials k (c .origin)) later) && critical-holds c later)
   unfolding critical-holds calls charts-hold
   critical-holds-cons k later =
       let n = polynomials k (c .origin) in
       let alone = chart-holds c (tangency n) in
-      ap (λ (z : Bool). alone && z) (hold-append (pairs n later) (calls (c .origin) later) ∙ ap (λ (z : Bool). z && critical-holds c later) (pairs-hold n later))
-      ∙ sym (and-assoc alone (meetings-hold c n later) (critical-holds c later))
+      let split = hold-append (pairs n later) (calls (c .origin) later) ∙ ap (λ (z : Bool). z && critical-holds c later) (pairs-hold n later) in
+      ap (λ (z : Bool). alone && z) split ∙ sym (and-assoc alone (meetings-hold c n later) (critical-holds c later))

@@ -32,7 +32,15 @@ same-length c = search needs
 
 returns : tie.Need-returns
 unfolding transverse ofBits
-returns c = simp (← c .before .before .before .before .before .before .before .before .before .before .before .before .before .abs .ensures, c .before .before .before .before .before .before .before .before .before .before .before .before .if1 .taken, ← c .before .before .before .before .before .before .before .before .before .before .before .clamp .ensures, ← c .before .before .before .before .before .before .before .before .before .before .asin .ensures, ← c .before .before .before .before .before .before .before .before .before .wrapped-angle .ensures, ← c .before .before .before .before .wrapped-angle2 .ensures) (then (c .before .before .before .before .before .before .before .push .ensures) (c .before .before .push2 .ensures))
+returns c =
+    simp (
+      ← c .before .before .before .before .before .before .before .before .before .before .before .before .before .abs .ensures,
+      c .before .before .before .before .before .before .before .before .before .before .before .before .if1 .taken,
+      ← c .before .before .before .before .before .before .before .before .before .before .before .clamp .ensures,
+      ← c .before .before .before .before .before .before .before .before .before .before .asin .ensures,
+      ← c .before .before .before .before .before .before .before .before .before .wrapped-angle .ensures,
+      ← c .before .before .before .before .wrapped-angle2 .ensures,
+    ) (then (c .before .before .before .before .before .before .before .push .ensures) (c .before .before .push2 .ensures))
 
 returns-2 : tie.Need-returns-2
 unfolding transverse ofBits

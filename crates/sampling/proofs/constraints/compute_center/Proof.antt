@@ -21,14 +21,29 @@ returns-2 c = simp (← c .before .before .before .is-finite .ensures, ← c .be
 
 returns-3 : tie.Need-returns-3
 unfolding compute-center ofBits div
-returns-3 c = simp (← c .before .before .before .before .is-finite .ensures, ← c .before .before .before .is-finite2 .ensures, c .before .before .if1 .left, c .before .if2 .left, c .if3 .taken)
+returns-3 c =
+    simp (
+      ← c .before .before .before .before .is-finite .ensures,
+      ← c .before .before .before .is-finite2 .ensures,
+      c .before .before .if1 .left,
+      c .before .if2 .left,
+      c .if3 .taken,
+    )
 
 arc-requires : tie.Need-arc-requires
 arc-requires c = search needs
 
 returns-4 : tie.Need-returns-4
 unfolding compute-center ofBits div
-returns-4 c = simp (← c .before .before .before .before .before .is-finite .ensures, ← c .before .before .before .before .is-finite2 .ensures, c .before .before .before .if1 .left, c .before .before .if2 .left, c .before .if3 .left, ← c .arc .ensures)
+returns-4 c =
+    simp (
+      ← c .before .before .before .before .before .is-finite .ensures,
+      ← c .before .before .before .before .is-finite2 .ensures,
+      c .before .before .before .if1 .left,
+      c .before .before .if2 .left,
+      c .before .if3 .left,
+      ← c .arc .ensures,
+    )
 
 pub compute-center-spec : {M : Type 1} → statement M
 compute-center-spec = tie.close (tie.spec is-finite-requires is-finite-requires-2 returns returns-2 returns-3 arc-requires returns-4)

@@ -60,7 +60,8 @@ loop-again c =
     let l = q .before .before .before in
     let a = l .before .before .args in
     let k = first-three (a .k) in
-    let e = intersection-is (q .polynomials .result) _ (a .c .origin) (q .polynomials .ensures) (a .k) _ (threes (l .before .before)) (g .before .before .intersection .ensures) in
+    let i = g .before .before .intersection .ensures in
+    let e = intersection-is (q .polynomials .result) _ (a .c .origin) (q .polynomials .ensures) (a .k) _ (threes (l .before .before)) i in
     let r = g .chart-roots .ensures in (
       search needs,
       l .loop .inv .1,

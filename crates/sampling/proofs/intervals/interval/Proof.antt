@@ -16,11 +16,23 @@ is-finite-requires c = search needs
 
 returns : tie.Need-returns
 unfolding interval ofBits neg
-returns c = simp (← c .before .before .before .before .before .before .maximum .ensures, ← c .before .before .before .minimum .ensures, ← c .before .before .is-finite .ensures, c .if1 .taken)
+returns c =
+    simp (
+      ← c .before .before .before .before .before .before .maximum .ensures,
+      ← c .before .before .before .minimum .ensures,
+      ← c .before .before .is-finite .ensures,
+      c .if1 .taken,
+    )
 
 returns-2 : tie.Need-returns-2
 unfolding interval ofBits neg
-returns-2 c = simp (← c .before .before .before .before .before .before .maximum .ensures, ← c .before .before .before .minimum .ensures, ← c .before .before .is-finite .ensures, c .if1 .left)
+returns-2 c =
+    simp (
+      ← c .before .before .before .before .before .before .maximum .ensures,
+      ← c .before .before .before .minimum .ensures,
+      ← c .before .before .is-finite .ensures,
+      c .if1 .left,
+    )
 
 pub interval-spec : {M : Type 1} → statement M
 interval-spec = tie.close (tie.spec maximum-requires minimum-requires is-finite-requires returns returns-2)

@@ -25,7 +25,15 @@ minimum-requires c = search needs
 
 returns-2 : tie.Need-returns-2
 unfolding limits-of ofBits
-returns-2 c = simp (sym (ne-self (c .before .before .before .before .before .before .before .args .c .tolerance)), ← c .before .before .before .before .is-finite .ensures, c .before .before .before .if1 .left, ← c .before .before .wrapped-angle .ensures, ← c .before .wrapped-angle2 .ensures, ← c .minimum .ensures)
+returns-2 c =
+    simp (
+      sym (ne-self (c .before .before .before .before .before .before .before .args .c .tolerance)),
+      ← c .before .before .before .before .is-finite .ensures,
+      c .before .before .before .if1 .left,
+      ← c .before .before .wrapped-angle .ensures,
+      ← c .before .wrapped-angle2 .ensures,
+      ← c .minimum .ensures,
+    )
 
 pub limits-of-spec : {M : Type 1} → statement M
 limits-of-spec = tie.close (tie.spec is-finite-requires returns wrapped-angle-requires wrapped-angle-requires-2 minimum-requires returns-2)

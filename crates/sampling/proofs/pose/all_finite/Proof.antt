@@ -16,7 +16,13 @@ is-finite-requires-4 : tie.Need-is-finite-requires-4
 is-finite-requires-4 c = search needs
 
 returns : tie.Need-returns
-returns c = simp (← c .before .before .before .is-finite .ensures, ← c .before .before .is-finite2 .ensures, ← c .before .is-finite3 .ensures, ← c .is-finite4 .ensures)
+returns c =
+    simp (
+      ← c .before .before .before .is-finite .ensures,
+      ← c .before .before .is-finite2 .ensures,
+      ← c .before .is-finite3 .ensures,
+      ← c .is-finite4 .ensures,
+    )
 
 pub all-finite-spec : {M : Type 1} → statement M
 all-finite-spec = tie.close (tie.spec is-finite-requires is-finite-requires-2 is-finite-requires-3 is-finite-requires-4 returns)
