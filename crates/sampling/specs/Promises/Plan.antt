@@ -3,7 +3,7 @@ use mathlib.Core.Path.{_≡_}
 use mathlib.Core.Logic.{_⊎_}
 use mathlib.Core.Bool.{Bool, not, cond}
 use mathlib.Core.List.{List, [], _∷_, _++_}
-use Prim.Native.Nat.{ℕ, _+_, _≤_}
+use Prim.Native.Nat.{ℕ, _+_, _^_, _≤_}
 use lib.Dec.{T, leb, ltb}
 use lib.ListN.{length, getD, take, drop, replicate}
 use lib.Ieee.{Float, binary64, nan, neg, isNan, fits}
@@ -100,6 +100,10 @@ unfoldable pub work-after : Job → List Float → List Float
 work-after job w = where-laid (plan job (length w)) (all-cuts job ++ drop (cut-count job) w) (zeros (length w))
 
 -- ---- the angles
+
+-- as many cuts, with four samples each, can be counted in a usize
+abbrev pub countable : ℕ
+countable = 2 ^ 60
 
 -- the samples of three lists of cuts that stand one after the other in w
 abbrev pub all-samples : Lists → List Float → List Float
