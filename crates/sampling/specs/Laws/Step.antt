@@ -160,7 +160,8 @@ module _ (a b : List Float) (r : Float) (wa : Woven a) (wb : Woven b) (n : T (no
   skips : (k : ℕ) (last : Float) (c : Cursor) → left a b c ≤ k → Steps (rest last (stream a b r c)) (distinct a b r) (next-of (suc k) a b r last c)
   unfolding next-of
   skips zero last c h =
-      turned a b r last 0 c (advance a b r c) (advance-steps a b r wa wb n f c) (advance-drops a b r c) (λ d g. absurd (not-suc-le-zero (subst (λ (m : ℕ). m ≤ 0) g h)))
+      turned a b r last 0 c (advance a b r c) (advance-steps a b r wa wb n f c) (advance-drops a b r c)
+      (λ d g. absurd (not-suc-le-zero (subst (λ (m : ℕ). m ≤ 0) g h)))
   skips (suc k) last c h =
       turned a b r last (suc k) c (advance a b r c) (advance-steps a b r wa wb n f c) (advance-drops a b r c)
       (λ d g. skips k last d (le-of-suc-le-suc (subst (λ (m : ℕ). m ≤ suc k) g h)))

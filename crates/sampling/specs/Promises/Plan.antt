@@ -1,7 +1,7 @@
 -- What `plan_of` makes of a job and leaves in the lent work slice, and how the angles are read off the cuts there, one at a time.
 use mathlib.Core.Path.{_≡_}
 use mathlib.Core.Logic.{_⊎_}
-use mathlib.Core.Bool.{Bool, not, cond}
+use mathlib.Core.Bool.{Bool, true, not, cond}
 use mathlib.Core.List.{List, [], _∷_, _++_}
 use Prim.Native.Nat.{ℕ, _+_, _^_, _≤_}
 use lib.Dec.{T, leb, ltb}
@@ -94,6 +94,12 @@ zeros n = replicate n zero-float
 -- l where there are cuts to read, and other where the plan is refused or short
 abbrev pub where-laid : Plan → List Float → List Float → List Float
 where-laid p l other = by-plan p other other l
+
+-- a, b and c one after the other in w, which becomes after, where r says that there are places
+abbrev pub ListsLaid : List Float → List Float → List Float → List Float → Plan → List Float → Type 0
+ListsLaid a b c w r after =
+    let count = length a + length b + length c in
+    (r ≡ granted true count (lists-of a b c) (length w)) × (where-laid r after [] ≡ where-laid r (((a ++ b) ++ c) ++ drop count w) [])
 
 -- the cuts in front, and the rest as it was
 unfoldable pub work-after : Job → List Float → List Float
