@@ -143,7 +143,8 @@ module _ (a b : List Float) (r last : Float) (k : ℕ) (c d : Cursor) (y : Float
   -- what `next-of` does with a value
   keep-or-skip : (t : Bool) → ne y last ≡ t → (stream a b r c ≡ y ∷ stream a b r d) × T (not (isNan y))
       → (ne y last ≡ false → Steps (rest last (stream a b r d)) (distinct a b r) (next-of k a b r last d))
-      → Steps (rest last (stream a b r c)) (distinct a b r) (cond t (Yield y (record { i = d .i; j = d .j; used = d .used; last = y })) (next-of k a b r last d))
+      → Steps (rest last (stream a b r c)) (distinct a b r)
+      (cond t (Yield y (record { i = d .i; j = d .j; used = d .used; last = y })) (next-of k a b r last d))
   unfolding distinct stream
   keep-or-skip true t e g = (rest-keep last y (stream a b r c) (stream a b r d) (e .0) t, e .1)
   keep-or-skip false t e g = rw (rest-skip last y (stream a b r c) (stream a b r d) (e .0) t) (g t)
