@@ -4,9 +4,9 @@
 -- `Samples` (roots one by one, the sample at each position), `Few` (how many boundary angles, cuts and angles of one free joint at most), `CriticalSlices` (what curves give, curve by curve),
 -- `Weave` (a list with the middles of its neighbours: its values, its length, its places),
 -- `Slices` (the values at which joint 1 is tried are what the stream has; how many at most; the reference is among them),
--- `Least`, `Heads` and `Step` (a step of the stream gives the first of what is to come), `Woven` (the cuts of values within ±64 can be streamed), `Plan` (angles read off cuts one at a time), `J1j2free` (the cuts of a half as those of one list),
+-- `Least`, `Heads` and `Step` (a step of the stream gives the first of what is to come), `Woven` (the cuts of values within ±64 can be streamed), `Plan` (where a job's plan is laid, the angles read off work are the job's, and depend on its front alone), `J1j2free` (the cuts of a half as those of one list),
 -- `FewCuts` (how many curves, bends and cuts of two free joints at most), `SmallCuts` (the cuts of both halves can be streamed), `Reference` (joint 1's reference as a model angle lies within P),
--- `Angles` (a job has fewer than 2 ^ 29 angles; kind 3 tries the reference).
+-- `Angles` (how many angles a job has at most; kind 3 tries the reference), `Reads` (what is not read changes no angle, no number of cuts and no refusal).
 pub mod Intervals
 pub mod Limits
 pub mod Pose
