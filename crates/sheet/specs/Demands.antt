@@ -8,11 +8,12 @@ use lib.ListN.{length, take}
 use Rattle.sampling.specs.declared.job.Job.{Job}
 use Rattle.sampling.specs.declared.pose.Matrix.{Matrix}
 use Rattle.sheet.specs.Request.{Agree}
-use Rattle.sheet.specs.Tests.{head-right}
-use Rattle.sheet.specs.Refusals.{Verdict, accepted, refused}
-use Rattle.sheet.specs.Sampling.{angles, judged, answer, sheet, sheet-size, output-after}
-use Rattle.sheet.specs.Check.{request-of, ruled}
+use Rattle.sheet.specs.Validate.{head-right}
+use Rattle.sheet.specs.Refusals.{Answer, accepted, refused}
+use Rattle.sheet.specs.Sampling.{angles, before-output, answer, sheet, sheet-size, output-after}
+use Rattle.sheet.specs.Check.{request-of}
 use Rattle.sampling.specs.Angles as Angles
+use Rattle.sheet.specs.Check as Check
 
 -- Demand 1. A refusal leaves the output; success fills the sheet's bytes and leaves the rest.
 abbrev pub Leaves : Type 0
@@ -24,14 +25,14 @@ Counted = (r : List ℕ) (places room n : ℕ) → answer r places room ≡ acce
 
 -- Check accepts exactly the sheet that Sampling writes for the request inside it, given the work places that 01 counts.
 abbrev pub Sound : Type 0
-Sound = (s : List ℕ) (places n : ℕ) → ruled s places ≡ accepted n → (s ≡ sheet (request-of s)) × (judged (request-of s) places ≡ accepted n)
+Sound = (s : List ℕ) (places n : ℕ) → Check.answer s places ≡ accepted n → (s ≡ sheet (request-of s)) × (before-output (request-of s) places ≡ accepted n)
 
 abbrev pub Complete : Type 0
-Complete = (r : List ℕ) (places n : ℕ) → judged r places ≡ accepted n → ruled (sheet r) places ≡ accepted n
+Complete = (r : List ℕ) (places n : ℕ) → before-output r places ≡ accepted n → Check.answer (sheet r) places ≡ accepted n
 
 -- both in one
 abbrev pub Exact : Type 0
-Exact = (s : List ℕ) (places n : ℕ) → (ruled s places ≡ accepted n) ↔ ((s ≡ sheet (request-of s)) × (judged (request-of s) places ≡ accepted n))
+Exact = (s : List ℕ) (places n : ℕ) → (Check.answer s places ≡ accepted n) ↔ ((s ≡ sheet (request-of s)) × (before-output (request-of s) places ≡ accepted n))
 
 -- what the trailer's u32 fields ask: 8n is below 2^32
 abbrev pub Few : Type 0
@@ -51,6 +52,6 @@ SameSheet =
     (r s : List ℕ) (places room n places′ room′ n′ : ℕ) → answer r places room ≡ accepted n → answer s places′ room′ ≡ accepted n′ → (sheet r ≡ sheet s) ↔ Agree r s
 
 -- The same of two calls with requests r and s and equally long work: their answers a and b, and their outputs x and y afterwards, of which a sheet is the first 8n + 280 bytes.
-pub record Together (r s : List ℕ) (a b : Verdict) (x y : List ℕ) : Type 0 where
+pub record Together (r s : List ℕ) (a b : Answer) (x y : List ℕ) : Type 0 where
   pub answers : length x ≡ length y → Agree r s → a ≡ b
   pub sheets : (n m : ℕ) → a ≡ accepted n → b ≡ accepted m → (take (sheet-size n) x ≡ take (sheet-size m) y) ↔ Agree r s

@@ -1,4 +1,4 @@
-// The job that a request's fields say, every field as given, and its rotation matrix.
+// The job that a request's fields say, every field as given.
 ghost use mathlib.Core.Path.{_≡_};
 ghost use Prim.Native.Nat.{_≤_};
 ghost use lib.ListN.{length};
@@ -12,12 +12,7 @@ use crate::view::float_in;
 use sampling::job::Arm;
 use sampling::job::Job;
 use sampling::job::Joint;
-use sampling::pose::Matrix;
-use sampling::pose::Normalized;
 use sampling::pose::Quaternion;
-use sampling::pose::Vector;
-use sampling::pose::from_quat;
-use sampling::pose::try_normalize;
 
 // The sign of a byte.
 fn sign_of(b: u8) -> f64
@@ -94,28 +89,5 @@ pub(crate) fn job_of(request: &[u8]) -> Job
         j4: joint_at(request, 4),
         j5: joint_at(request, 5),
         j6: joint_at(request, 6),
-    }
-}
-
-fn zero_matrix() -> Matrix
-    ensures { λ r. ⌜ r ≡ Fields.zero-matrix ⌝ }
-{
-    let zero = Vector::new(0.0, 0.0, 0.0);
-    Matrix {
-        x: zero,
-        y: zero,
-        z: zero,
-    }
-}
-
-// The matrix of a rotation. Where it is not finite or zero, which is refused before, all is zero.
-pub(crate) fn matrix_of(q: Quaternion) -> Matrix
-    ensures { λ r. ⌜ r ≡ Fields.matrix q ⌝ }
-{
-    let n = try_normalize(q);
-    match n {
-        Normalized::Unit(u) => from_quat(u),
-        Normalized::NotFinite => zero_matrix(),
-        Normalized::Zero => zero_matrix(),
     }
 }

@@ -4,8 +4,9 @@ use native.Mathlib.Omega.{arith}
 use mathlib.Core.Path.{_≡_, refl, sym, ap, subst, _∙_}
 use mathlib.Core.List.{List}
 use mathlib.Core.Bool.{Bool, true, false, cond, false≢true}
-use lib.ListN.{getD}
-use lib.Dec.{eqb}
+use lib.ListN.{length, getD}
+use lib.Dec.{eqb, leb}
+use lib.Ieee.{Float}
 use borrow.Author.Tests.{eqb-true}
 use Rattle.sampling.specs.declared.pose.Quaternion.{Quaternion}
 use Rattle.sheet.specs.declared.request.Shape.{Shape}
@@ -13,12 +14,12 @@ use Rattle.sheet.specs.declared.request.Shape.the-variants.{Bad}
 use Rattle.sheet.specs.declared.request.Field.the-variants.{Arm, Reference, Offset, From, To}
 use Rattle.sheet.specs.Request.{shape-by, shape-fixed, shape-from, shape-of, Agree}
 use Rattle.sheet.specs.Fields.{sign-of, joint-at, arm-of, job-of, rotation-of, matrix}
-use Rattle.sheet.specs.Tests.{right, head-right}
-use Rattle.sheet.specs.Refusals.{Verdict, need, early}
-use Rattle.sheet.specs.Sampling.{angles, cut-count, holds, late, judged}
+use Rattle.sheet.specs.Validate.{right, head-right, validate}
+use Rattle.sheet.specs.Refusals.{Answer, accepted, need}
+use Rattle.sheet.specs.Sampling.{angles, cut-count, holds, by-request, by-work, answer, before-output, sheet-size}
 use Rattle.float.specs.Laws.Tests.{and-left}
 use Rattle.sheet.specs.Laws.Agree.{same-first, same-sign, same-float}
-use Rattle.sheet.specs.Laws.Early.{rotation-same, early-same}
+use Rattle.sheet.specs.Laws.Validate.{rotation-same, validate-same}
 use Rattle.sheet.specs.Laws.Read.{JointAlike, Alike, angles-alike, cuts-alike, hold-alike}
 use Rattle.sampling.specs.Angles as Angles
 
@@ -106,19 +107,25 @@ module _ (r s : List ℕ) (g : Agree r s) where
     unfolding holds
     holds-same = hold-alike (job-of r) (job-of s) (matrix (rotation-of r)) own-right own-alike ∙ ap (λ (q : Quaternion). Angles.hold (job-of s) (matrix q)) (rotation-same r s g)
 
-    late-same : (places : ℕ) → late r places ≡ late s places
-    unfolding late
-    late-same places = rw (holds-same, cuts-same, angles-same)
-
   -- a wrong head is refused whatever comes behind
-  judged-wrong : (v u : Verdict) → head-right r ≡ false → early r v ≡ early r u
-  unfolding early need
-  judged-wrong v u e = rw e
+  validate-wrong : (v u : Answer) → head-right r ≡ false → validate r v ≡ validate r u
+  unfolding validate need
+  validate-wrong v u e = rw e
 
-  pub judged-same : (places : ℕ) → judged r places ≡ judged s places
-  unfolding judged
-  judged-same places = go (head-right r) refl ∙ early-same r s g (late s places)
+  -- two requests that agree get the same refusal, or go on alike
+  by-work-same : (places : ℕ) (v u : Answer) → (head-right r ≡ true → v ≡ u) → by-work r places v ≡ by-work s places u
+  unfolding by-work by-request
+  by-work-same places v u h = go (head-right r) refl ∙ validate-same r s g _
     where
-      go : (b : Bool) → head-right r ≡ b → early r (late r places) ≡ early r (late s places)
-      go true e = ap (early r) (late-same e places)
-      go false e = judged-wrong (late r places) (late s places) e
+      go : (b : Bool) → head-right r ≡ b
+          → validate r (need (holds r) 9 (need (leb (cut-count r) places) 10 v)) ≡ validate r (need (holds s) 9 (need (leb (cut-count s) places) 10 u))
+      go true e = rw (holds-same e, cuts-same e, h e)
+      go false e = validate-wrong _ _ e
+
+  pub answer-same : (places room : ℕ) → answer r places room ≡ answer s places room
+  unfolding answer
+  answer-same places room =
+      by-work-same places _ _ (λ e. ap (λ (l : List Float). need (leb (sheet-size (length l)) room) 11 (accepted (length l))) (angles-same e))
+
+  pub before-same : (places : ℕ) → before-output r places ≡ before-output s places
+  before-same places = by-work-same places _ _ (λ e. ap (λ (l : List Float). accepted (length l)) (angles-same e))

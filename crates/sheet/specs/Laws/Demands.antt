@@ -4,7 +4,7 @@ use native.Mathlib.Omega.{arith}
 use mathlib.Core.Path.{_≡_, refl, sym, ap, _∙_}
 use mathlib.Core.Logic.{_↔_}
 use mathlib.Core.List.{List, _++_, append-assoc}
-use mathlib.Core.Bool.{Bool, true, false, cond}
+use mathlib.Core.Bool.{true, false, false≢true}
 use lib.ListN.{length, take, drop, length-drop, take-append-drop}
 use lib.Seq.{take-at, drop-at, drop-drop, take-all, length-take-le}
 use lib.Dec.{eqb, leb, ltb}
@@ -13,64 +13,78 @@ use Rattle.float.specs.Laws.Tests.{and-right}
 use Rattle.sheet.specs.Bytes.{le, bytes, floats-bytes, same-bytes}
 use Rattle.sheet.specs.Request.{request-size, shape-of, blank, Agree}
 use Rattle.sheet.specs.Fields.{job-of, rotation-of, matrix}
-use Rattle.sheet.specs.Tests.{head-right}
-use Rattle.sheet.specs.Refusals.{Verdict, accepted, refused, need}
+use Rattle.sheet.specs.Validate.{head-right, validate}
+use Rattle.sheet.specs.Refusals.{Answer, accepted, refused, need}
 use Rattle.sheet.specs.Sheet.{trailer, edition}
-use Rattle.sheet.specs.Sampling.{angles, cut-count, holds, late, judged, fit, answer, sheet, sheet-size, output-after}
-use Rattle.sheet.specs.Check.{trailer-of, count-of, request-of, angles-of, formed, clean, weigh, ruled}
+use Rattle.sheet.specs.Sampling.{angles, cut-count, holds, by-request, by-work, answer, before-output, sheet, sheet-size, output-after}
+use Rattle.sheet.specs.Check.{trailer-of, count-of, request-of, angles-of, formed, is-accepted, meets-none, clean}
 use Rattle.sampling.specs.Laws.Angles.{angles-few}
 use Rattle.sheet.specs.Demands.{Leaves, Counted, Sound, Complete, Exact, Few, SameAnswer, SameAngles, SameSheet, Together}
 use Rattle.sheet.specs.Laws.Bytes.{length-bytes, le-half, length-floats-bytes, same-is, same-itself}
 use Rattle.sheet.specs.Laws.Blank.{length-blank}
 use Rattle.sheet.specs.Laws.Agree.{agree-blank, blank-agree, agree-own, blank-twice}
-use Rattle.sheet.specs.Promises.Passed.{Passed}
-use Rattle.sheet.specs.Laws.Passed.{need-holds, need-accepted, early-passed, passed-early}
+use Rattle.sheet.specs.Promises.Tested.{Passed}
+use Rattle.sheet.specs.Promises.Plan.{compared, checked}
+use Rattle.sheet.specs.Laws.Tested.{need-holds, need-accepted, validate-passed, passed-validate}
+use Rattle.sheet.specs.Laws.Plan.{holds-meets}
 use Rattle.sheet.specs.Laws.Sheet.{length-trailer}
 use Rattle.sheet.specs.Laws.Sampling.{length-sheet}
-use Rattle.sheet.specs.Laws.Check.{formed-length, ruled-on}
-use Rattle.sheet.specs.Laws.Alike.{angles-same, judged-same}
+use Rattle.sheet.specs.Laws.Check.{formed-length, answer-formed}
+use Rattle.sheet.specs.Laws.Alike.{angles-same, answer-same, before-same}
+use Rattle.sheet.specs.Check as Check
 
 -- ---- accepted requests
 
-fit-accepted : (v : Verdict) (room n : ℕ) → fit v room ≡ accepted n → v ≡ accepted n
-fit-accepted (accepted m) room n e = need-accepted (leb (sheet-size m) room) 11 n (accepted m) e
-fit-accepted (refused k) room n e = e
+-- what refusals 1 to 10 say of a request behind which something is accepted
+module _ (r : List ℕ) (places n : ℕ) (v : Answer) (e : by-work r places v ≡ accepted n) where
+  work-passed : Passed r
+  unfolding by-work by-request
+  work-passed = validate-passed r n _ e
 
-fit-room : (v : Verdict) (room n : ℕ) → fit v room ≡ accepted n → sheet-size n ≤ room
-fit-room (accepted m) room n e =
-    let h : accepted m ≡ accepted n = need-accepted (leb (sheet-size m) room) 11 n (accepted m) e in
-    let k : m ≡ n = cc in
-    omega (arith, leb-true (sheet-size m) room (need-holds (leb (sheet-size m) room) 11 n (accepted m) e))
-fit-room (refused k) room n e = let z : _≡_ {A = ℕ} 0 1 = cc in absurd (omega arith)
+  later : need (holds r) 9 (need (leb (cut-count r) places) 10 v) ≡ accepted n
+  unfolding by-work by-request
+  later = sym (passed-validate r _ work-passed) ∙ e
 
-late-count : (r : List ℕ) (places n : ℕ) → late r places ≡ accepted n → n ≡ length (angles r)
-unfolding late
-late-count r places n e =
-    let f = need-accepted (holds r) 9 n _ e in
-    let h : accepted (length (angles r)) ≡ accepted n = need-accepted (leb (cut-count r) places) 10 n _ f in
-    cc
+  work-holds : holds r ≡ true
+  work-holds = need-holds (holds r) 9 n _ later
 
-module _ (r : List ℕ) (places n : ℕ) (e : judged r places ≡ accepted n) where
-  pub judged-passed : Passed r
-  unfolding judged
-  judged-passed = early-passed r n (late r places) e
+  work-fits : leb (cut-count r) places ≡ true
+  work-fits = need-holds (leb (cut-count r) places) 10 n v (need-accepted (holds r) 9 n _ later)
 
-  pub judged-count : n ≡ length (angles r)
-  unfolding judged
-  judged-count = late-count r places n (sym (passed-early r (late r places) judged-passed) ∙ e)
+  work-then : v ≡ accepted n
+  work-then = need-accepted (leb (cut-count r) places) 10 n v (need-accepted (holds r) 9 n _ later)
+
+work-on : (r : List ℕ) (places : ℕ) (v : Answer) → Passed r → holds r ≡ true → leb (cut-count r) places ≡ true → by-work r places v ≡ v
+unfolding by-work by-request need
+work-on r places v p h f = passed-validate r _ p ∙ rw (h, f)
+
+module _ (r : List ℕ) (places n : ℕ) (e : before-output r places ≡ accepted n) where
+  pub before-passed : Passed r
+  before-passed = work-passed r places n _ e
+
+  pub before-count : n ≡ length (angles r)
+  before-count =
+      let h : accepted (length (angles r)) ≡ accepted n = work-then r places n _ e in
+      cc
 
 module _ (r : List ℕ) (places room n : ℕ) (e : answer r places room ≡ accepted n) where
-  answer-judged : judged r places ≡ accepted n
+  fit : need (leb (sheet-size (length (angles r))) room) 11 (accepted (length (angles r))) ≡ accepted n
   unfolding answer
-  answer-judged = fit-accepted (judged r places) room n e
+  fit = work-then r places n _ e
 
   pub answer-passed : Passed r
-  answer-passed = judged-passed r places n answer-judged
+  unfolding answer
+  answer-passed = work-passed r places n _ e
+
+  pub answer-count : n ≡ length (angles r)
+  answer-count =
+      let h : accepted (length (angles r)) ≡ accepted n = need-accepted (leb (sheet-size (length (angles r))) room) 11 n _ fit in
+      cc
 
   -- the sheet has room
   pub answer-room : sheet-size n ≤ room
-  unfolding answer
-  answer-room = fit-room (judged r places) room n e
+  answer-room =
+      omega (arith, answer-count, leb-true (sheet-size (length (angles r))) room (need-holds (leb (sheet-size (length (angles r))) room) 11 n _ fit))
 
 -- ---- demands 1 and 2
 
@@ -79,33 +93,40 @@ leaves r output k = refl
 
 pub counted : Counted
 counted r places room n e =
-    let k = judged-count r places n (answer-judged r places room n e) in
+    let k = answer-count r places room n e in
     (k, length-sheet r (answer-passed r places room n e .whole) ∙ ap sheet-size (sym k))
 
+-- a request that meets none of 1 to 9
+meets-passed : (r : List ℕ) → meets-none r ≡ true → Passed r
+unfolding meets-none by-request
+meets-passed r e = go (validate r (need (holds r) 9 (accepted 0))) refl e
+  where
+    go : (a : Answer) → validate r (need (holds r) 9 (accepted 0)) ≡ a → is-accepted a ≡ true → Passed r
+    go (accepted k) q t = validate-passed r k _ q
+    go (refused k) q t = absurd (false≢true t)
+
 -- what is equal where Check accepts
-record Parts (v : Verdict) (r a : List ℕ) (m n : ℕ) : Type 0 where
+record Parts (r a : List ℕ) (m n places : ℕ) : Type 0 where
+  meets : meets-none r ≡ true
   unread : blank r ≡ r
+  fits : leb (cut-count r) places ≡ true
   floats : a ≡ floats-bytes (angles r)
   number : m ≡ n
-  judgement : (k : ℕ) × (v ≡ accepted k)
 
-weigh-parts : (v : Verdict) (r a : List ℕ) (m n : ℕ) → weigh v r a m ≡ accepted n → Parts v r a m n
-unfolding need
-weigh-parts (accepted k) r a m n e =
-    let f = need-accepted (clean r) 34 n _ e in
-    let h : accepted m ≡ accepted n = need-accepted (same-bytes a (floats-bytes (angles r))) 36 n _ f in
+checked-parts : (r a : List ℕ) (m n places : ℕ) → checked r a m places ≡ accepted n → Parts r a m n places
+unfolding checked compared
+checked-parts r a m n places e =
+    let f = need-accepted (meets-none r) 33 n _ e in
+    let g = need-accepted (clean r) 34 n _ f in
+    let h = need-accepted (leb (cut-count r) places) 35 n _ g in
+    let i : accepted m ≡ accepted n = need-accepted (same-bytes a (floats-bytes (angles r))) 36 n _ h in
     record {
-      unread = same-is _ _ (need-holds (clean r) 34 n _ e);
-      floats = same-is _ _ (need-holds (same-bytes a (floats-bytes (angles r))) 36 n _ f);
+      meets = need-holds (meets-none r) 33 n _ e;
+      unread = same-is _ _ (need-holds (clean r) 34 n _ f);
+      fits = need-holds (leb (cut-count r) places) 35 n _ g;
+      floats = same-is _ _ (need-holds (same-bytes a (floats-bytes (angles r))) 36 n _ h);
       number = cc;
-      judgement = (k, refl);
     }
-weigh-parts (refused k) r a m n e = absurd (go (eqb k 10) (clean r) e)
-  where
-    go : (b c : Bool) → cond b (need c 34 (refused 35)) (refused 33) ≡ accepted n → ⊥
-    go true true e = let z : _≡_ {A = ℕ} 0 1 = cc in omega arith
-    go true false e = let z : _≡_ {A = ℕ} 0 1 = cc in omega arith
-    go false c e = let z : _≡_ {A = ℕ} 0 1 = cc in omega arith
 
 -- a sheet is its angles, its request and its trailer
 cut : (s : List ℕ) → 280 ≤ length s → s ≡ angles-of s ++ (request-of s ++ trailer-of s)
@@ -118,25 +139,26 @@ cut s h =
     ∙ ap (λ (x : List ℕ). angles-of s ++ x) (take-append-drop 264 (drop (length s - 280) s)) ∙ take-append-drop (length s - 280) s)
 
 pub sound : Sound
-unfolding ruled formed sheet
+unfolding Check.answer formed sheet checked compared
 sound s places n e =
     let f = need-accepted (leb 280 (length s)) 31 n _ e in
     let h : 280 ≤ length s = leb-true 280 (length s) (need-holds (leb 280 (length s)) 31 n _ e) in
     let g : formed s ≡ true = need-holds (formed s) 32 n _ f in
-    let p = weigh-parts (judged (request-of s) places) (request-of s) (angles-of s) (count-of s) n (need-accepted (formed s) 32 n _ f) in
+    let p = checked-parts (request-of s) (angles-of s) (count-of s) n places (need-accepted (formed s) 32 n _ f) in
     let t : trailer-of s ≡ trailer (count-of s) = same-is _ _ (and-right (ltb (8 * count-of s) 4294967296) _ (and-right (eqb (length s) (sheet-size (count-of s))) _ g)) in
     let m : count-of s ≡ length (angles (request-of s)) =
     omega
     (arith, formed-length s g, length-floats-bytes (angles (request-of s)), ap length (p .floats), length-take-le (length s - 280) s (omega arith)) in
-    let k : p .judgement .0 ≡ n = judged-count (request-of s) places (p .judgement .0) (p .judgement .1) ∙ sym m ∙ p .number in
-    (cut s h ∙ rw (p .floats, t, m, p .unread), p .judgement .1 ∙ ap accepted k)
+    let q = meets-passed (request-of s) (p .meets) in
+    let b = work-on (request-of s) places (accepted (length (angles (request-of s)))) q (sym (holds-meets (request-of s) q) ∙ p .meets) (p .fits) in
+    (cut s h ∙ rw (p .floats, t, m, p .unread), b ∙ ap accepted (sym m ∙ p .number))
 
 -- an accepted sheet has the length of its n angles
-pub ruled-length : (s : List ℕ) (places n : ℕ) → ruled s places ≡ accepted n → length s ≡ sheet-size n
-ruled-length s places n e =
+pub checked-length : (s : List ℕ) (places n : ℕ) → Check.answer s places ≡ accepted n → length s ≡ sheet-size n
+checked-length s places n e =
     let p = sound s places n e in
-    ap length (p .0) ∙ length-sheet (request-of s) (judged-passed (request-of s) places n (p .1) .whole)
-    ∙ ap sheet-size (sym (judged-count (request-of s) places n (p .1)))
+    ap length (p .0) ∙ length-sheet (request-of s) (before-passed (request-of s) places n (p .1) .whole)
+    ∙ ap sheet-size (sym (before-count (request-of s) places n (p .1)))
 
 -- the trailer starts with n
 first-four : (n : ℕ) → take 4 (trailer n) ≡ bytes 4 n
@@ -191,9 +213,11 @@ module _ (r : List ℕ) (e : length r ≡ request-size) where
         rw (eq-eqb (length (sheet r)) (sheet-size (count-of (sheet r))) a, w, b) (same-itself (trailer (count-of (sheet r))))
 
 -- its request passes for what it is
-weigh-own : (v : Verdict) (r : List ℕ) (k m : ℕ) → v ≡ accepted k → blank r ≡ r → weigh v r (floats-bytes (angles r)) m ≡ accepted m
-unfolding need
-weigh-own v r k m e f = rw (e, f, same-itself r, same-itself (floats-bytes (angles r)))
+checked-own : (r : List ℕ) (m n places : ℕ) → before-output r places ≡ accepted n → blank r ≡ r → checked r (floats-bytes (angles r)) m places ≡ accepted m
+unfolding checked compared need
+checked-own r m n places e f =
+    let p = work-passed r places n _ e in
+    rw (holds-meets r p, work-holds r places n _ e, f, same-itself r, work-fits r places n _ e, same-itself (floats-bytes (angles r)))
 
 pub few : Few
 few = angles-few
@@ -204,25 +228,24 @@ few-angles r = few (job-of r) (matrix (rotation-of r))
 
 pub complete : Complete
 complete r places n e =
-    let p = judged-passed r places n e in
+    let p = before-passed r places n e in
     let h = few-angles r in
     let own : Agree r (blank r) = agree-own r (p .whole) in
     let a : angles-of (sheet r) ≡ floats-bytes (angles (blank r)) = angles-in r (p .whole) ∙ ap floats-bytes (angles-same r (blank r) own (p .head)) in
-    let c : count-of (sheet r) ≡ n = count-in r (p .whole) h ∙ sym (judged-count r places n e) in
-    ruled-on (sheet r) places (omega (arith, size r (p .whole))) (formed-in r (p .whole) h)
-    ∙ ap (λ (q : List ℕ). weigh (judged q places) q (angles-of (sheet r)) (count-of (sheet r))) (request-in r (p .whole))
-    ∙ ap (λ (l : List ℕ). weigh (judged (blank r) places) (blank r) l (count-of (sheet r))) a
-    ∙ weigh-own (judged (blank r) places) (blank r) n (count-of (sheet r)) (sym (judged-same r (blank r) own places) ∙ e) (blank-twice r (p .whole))
+    let c : count-of (sheet r) ≡ n = count-in r (p .whole) h ∙ sym (before-count r places n e) in
+    answer-formed (sheet r) places (omega (arith, size r (p .whole))) (formed-in r (p .whole) h)
+    ∙ ap (λ (q : List ℕ). checked q (angles-of (sheet r)) (count-of (sheet r)) places) (request-in r (p .whole))
+    ∙ ap (λ (l : List ℕ). checked (blank r) l (count-of (sheet r)) places) a
+    ∙ checked-own (blank r) (count-of (sheet r)) n places (sym (before-same r (blank r) own places) ∙ e) (blank-twice r (p .whole))
     ∙ ap accepted c
 
 pub exact : Exact
-exact s places n = (sound s places n, λ h. ap (λ (x : List ℕ). ruled x places) (h .0) ∙ complete (request-of s) places n (h .1))
+exact s places n = (sound s places n, λ h. ap (λ (x : List ℕ). Check.answer x places) (h .0) ∙ complete (request-of s) places n (h .1))
 
 -- ---- demand 3
 
 pub same-answer : SameAnswer
-unfolding answer
-same-answer r s g places room = ap (λ (v : Verdict). fit v room) (judged-same r s g places)
+same-answer r s g places room = answer-same r s g places room
 
 pub same-angles : SameAngles
 same-angles r s g h = angles-same r s g h
@@ -242,13 +265,13 @@ same-sheet r s places room n places′ room′ n′ p q =
 -- ---- the same of two calls
 
 -- the first bytes of an output after a call that accepts are the sheet
-sheet-first : (r x x₀ : List ℕ) (places room n : ℕ) (a : Verdict) → a ≡ answer r places room → x ≡ output-after a r x₀ → a ≡ accepted n
+sheet-first : (r x x₀ : List ℕ) (places room n : ℕ) (a : Answer) → a ≡ answer r places room → x ≡ output-after a r x₀ → a ≡ accepted n
     → take (sheet-size n) x ≡ sheet r
 sheet-first r x x₀ places room n a p q e =
-    ap (take (sheet-size n)) (q ∙ ap (λ (v : Verdict). output-after v r x₀) e)
+    ap (take (sheet-size n)) (q ∙ ap (λ (v : Answer). output-after v r x₀) e)
     ∙ take-at (sheet r) (drop (sheet-size n) x₀) (sheet-size n) (counted r places room n (sym p ∙ e) .1)
 
-pub together : (r s x y x₀ y₀ : List ℕ) (places : ℕ) (a b : Verdict) → length x ≡ length x₀ → length y ≡ length y₀
+pub together : (r s x y x₀ y₀ : List ℕ) (places : ℕ) (a b : Answer) → length x ≡ length x₀ → length y ≡ length y₀
     → a ≡ answer r places (length x₀) → b ≡ answer s places (length y₀) → x ≡ output-after a r x₀ → y ≡ output-after b s y₀ → Together r s a b x y
 together r s x y x₀ y₀ places a b k l p q e f =
     record {

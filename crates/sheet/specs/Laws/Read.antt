@@ -18,7 +18,7 @@ use Rattle.sampling.specs.declared.j1j2free.Folded.{Folded}
 use Rattle.sheet.specs.declared.request.Shape.{Shape}
 use Rattle.sheet.specs.declared.request.Field.the-variants.{Sign, Reference, Offset, From, To}
 use Rattle.sheet.specs.Request.{shape-by, joint-read, reference-read, arm-read, limits-read, reads}
-use Rattle.sheet.specs.Tests.{right}
+use Rattle.sheet.specs.Validate.{right}
 use Rattle.sampling.specs.Angles as Angles
 use Rattle.sampling.specs.SampleAngles as One
 use Rattle.sampling.specs.J1j2free as Two

@@ -3,16 +3,13 @@ use Prim.Native.Nat.{ℕ, _+_, _*_, _≤_}
 use native.Mathlib.Omega.{arith}
 use mathlib.Core.Path.{_≡_, refl, ap, _∙_}
 use mathlib.Core.List.{List, [], _∷_, _++_}
-use mathlib.Core.Bool.{true, false}
 use lib.ListN.{length, drop, length-append}
 use lib.Seq.{sets, sets-eq}
-use lib.Dec.{leb}
 use lib.Ieee.{Float, toBits, binary64}
 use Rattle.sheet.specs.Bytes.{float-bytes, floats-bytes}
 use Rattle.sheet.specs.Request.{request-size, shape-of, blank}
 use Rattle.sheet.specs.Sheet.{trailer}
-use Rattle.sheet.specs.Refusals.{accepted, refused, need}
-use Rattle.sheet.specs.Sampling.{angles, sheet, sheet-size, fit}
+use Rattle.sheet.specs.Sampling.{angles, sheet, sheet-size}
 use Rattle.sheet.specs.Laws.Bytes.{sets-append, length-bytes, floats-bytes-cons, floats-bytes-nil, length-floats-bytes}
 use Rattle.sheet.specs.Laws.Blank.{length-blank}
 use Rattle.sheet.specs.Laws.Sheet.{length-trailer}
@@ -63,13 +60,3 @@ sheet-stands r out xs n e h q k =
     let d : 0 + length (floats-bytes xs ++ (blank r ++ trailer n)) ≡ sheet-size n = omega arith in
     let f : 0 + length (floats-bytes xs ++ (blank r ++ trailer n)) ≤ length out = omega arith in
     sets-eq (floats-bytes xs ++ (blank r ++ trailer n)) out 0 f ∙ rw (d, h, q)
-
--- ---- 11
-
-pub fit-yes : (n room : ℕ) → leb (sheet-size n) room ≡ true → fit (accepted n) room ≡ accepted n
-unfolding need
-fit-yes n room e = rw e
-
-pub fit-no : (n room : ℕ) → leb (sheet-size n) room ≡ false → fit (accepted n) room ≡ refused 11
-unfolding need
-fit-no n room e = rw e

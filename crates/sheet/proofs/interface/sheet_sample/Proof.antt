@@ -6,7 +6,7 @@ use borrow.Author.Needs.{needs}
 use mir.Syntax.{w64}
 use mir.ValLaws.{toZ-ofZ}
 use Rattle.sheet.specs.Laws.Demands.{answer-room}
-use Rattle.sheet.specs.Refusals.{Verdict, number}
+use Rattle.sheet.specs.Refusals.{Answer, signed}
 use Rattle.sheet.specs.Sampling.{output-after}
 use Rattle.sheet.proofs.interface.sheet_sample.Statement.{statement}
 use Rattle.sheet.proofs.interface.sheet_sample.Tie as tie
@@ -24,7 +24,7 @@ same-length-2 : tie.Need-same-length-2
 same-length-2 c = search needs
 
 returns : tie.Need-returns
-returns c = (toZ-ofZ w64 (c .sampled-number .result) (record { sfits = c .sampled-number .ok }) ∙ (c .sampled-number .ensures) ∙ ap number ((c .before .before .before .before .before .sample .ensures) .0), ((c .before .before .before .before .before .sample .ensures) .1 .0 ∙ ap (λ (v : Verdict). output-after v (c .before .before .before .before .before .before .before .before .before .before .before .args .request .now) (c .before .before .before .before .before .before .before .before .before .before .before .args .output .now)) ((c .before .before .before .before .before .sample .ensures) .0), (c .before .before .before .before .before .sample .ensures) .1 .1))
+returns c = (toZ-ofZ w64 (c .sampled-number .result) (record { sfits = c .sampled-number .ok }) ∙ (c .sampled-number .ensures) ∙ ap signed ((c .before .before .before .before .before .sample .ensures) .0), ((c .before .before .before .before .before .sample .ensures) .1 .0 ∙ ap (λ (v : Answer). output-after v (c .before .before .before .before .before .before .before .before .before .before .before .args .request .now) (c .before .before .before .before .before .before .before .before .before .before .before .args .output .now)) ((c .before .before .before .before .before .sample .ensures) .0), (c .before .before .before .before .before .sample .ensures) .1 .1))
 
 pub sheet-sample-spec : {M : Type 1} → statement M
 sheet-sample-spec = tie.close (tie.spec sample-requires sampled-number-requires same-length same-length-2 returns)
