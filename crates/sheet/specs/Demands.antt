@@ -1,5 +1,5 @@
 -- The three demands as statements about the definitions that the contracts of Sampling and Check cite; `Laws.Demands` proves each. What stays with the contracts: that the code's answer, output and work are these definitions' (`sample::sample`, `check::check`).
-use Prim.Native.Nat.{ℕ, _^_, _<_}
+use Prim.Native.Nat.{ℕ, _<_}
 use mathlib.Core.Path.{_≡_}
 use mathlib.Core.List.{List}
 use mathlib.Core.Bool.{true}
@@ -11,6 +11,7 @@ use Rattle.sheet.specs.Request.{Agree}
 use Rattle.sheet.specs.Validate.{head-right}
 use Rattle.sheet.specs.Refusals.{Answer, accepted, refused}
 use Rattle.sheet.specs.Sampling.{angles, before-output, answer, sheet, sheet-size, output-after}
+use Rattle.sheet.specs.Sheet.{items-bound}
 use Rattle.sheet.specs.Check.{request-of}
 use Rattle.sampling.specs.Angles as Angles
 use Rattle.sheet.specs.Check as Check
@@ -36,7 +37,7 @@ Exact = (s : List ℕ) (places n : ℕ) → (Check.answer s places ≡ accepted 
 
 -- what the trailer's u32 fields ask: 8n is below 2^32
 abbrev pub Few : Type 0
-Few = (job : Job) (m : Matrix) → length (Angles.angles job m) < 2 ^ 29
+Few = (job : Job) (m : Matrix) → length (Angles.angles job m) < items-bound
 
 -- Demand 3. Requests that agree in what is read get the same answer, with equally long work and output.
 abbrev pub SameAnswer : Type 0

@@ -13,8 +13,12 @@ use Rattle.sheet.specs.declared.request.Field.the-variants.{Sign, Arm, R
 
 -- ---- sizes and positions, in bytes
 
+-- kind, flags, signs, rotation, arm, references, offsets, limits: what every request has
+abbrev pub core-size : ℕ
+core-size = 264
+
 abbrev pub request-size : ℕ
-request-size = 264
+request-size = core-size
 
 -- bytes 10 to 15 are reserved
 abbrev pub reserved-at : ℕ

@@ -1,16 +1,16 @@
 -- The operation Sampling (01): refusals 1 to 11 in their order, the sheet, and what the output holds afterwards. Definitions only.
 use Prim.Native.Nat.{ℕ, _+_, _*_}
-use mathlib.Core.List.{List, _++_}
+use mathlib.Core.List.{List, map, _++_}
 use mathlib.Core.Bool.{Bool}
 use lib.ListN.{length, drop}
 use lib.Dec.{leb}
-use lib.Ieee.{Float}
-use Rattle.sheet.specs.Bytes.{floats-bytes}
-use Rattle.sheet.specs.Request.{request-size, blank}
+use lib.Ieee.{Float, binary64, toBits}
+use Rattle.sheet.specs.Bytes.{words-bytes}
+use Rattle.sheet.specs.Request.{blank}
 use Rattle.sheet.specs.Fields.{job-of, rotation-of, matrix}
 use Rattle.sheet.specs.Refusals.{Answer, accepted, refused, need, number}
 use Rattle.sheet.specs.Validate.{validate}
-use Rattle.sheet.specs.Sheet.{trailer, trailer-size}
+use Rattle.sheet.specs.Sheet.{trailer, frame-size}
 use Rattle.sheet.specs.declared.sample.Sampled.{Sampled}
 use Rattle.sampling.specs.Angles as Angles
 use Rattle.sheet.specs.declared.sample.Sampled.the-variants as sampled
@@ -31,13 +31,17 @@ cut-count r = Angles.cut-count (job-of r) (matrix (rotation-of r))
 unfoldable pub holds : List ℕ → Bool
 holds r = Angles.hold (job-of r) (matrix (rotation-of r))
 
--- the n angles, the request with every unread field zero, the trailer
-unfoldable pub sheet : List ℕ → List ℕ
-sheet r = floats-bytes (angles r) ++ (blank r ++ trailer (length (angles r)))
+-- what a sheet lists, 64 bits each: the angles; the NaN is 7FF8000000000000
+unfoldable pub items : List ℕ → List ℕ
+items r = map (toBits binary64) (angles r)
 
--- the bytes of a sheet with n angles
+-- the n items, the request with every unread field zero, the trailer
+unfoldable pub sheet : List ℕ → List ℕ
+sheet r = words-bytes (items r) ++ (blank r ++ trailer (length (items r)))
+
+-- the bytes of a sheet with n items
 abbrev pub sheet-size : ℕ → ℕ
-sheet-size n = 8 * n + (request-size + trailer-size)
+sheet-size n = 8 * n + frame-size
 
 -- 1 to 9, which the request alone decides, and then v
 unfoldable pub by-request : List ℕ → Answer → Answer
@@ -49,11 +53,11 @@ by-work r places v = by-request r (need (leb (cut-count r) places) 10 v)
 
 -- 1 to 11, with an output of so many bytes; success returns n
 unfoldable pub answer : List ℕ → ℕ → ℕ → Answer
-answer r places room = by-work r places (need (leb (sheet-size (length (angles r))) room) 11 (accepted (length (angles r))))
+answer r places room = by-work r places (need (leb (sheet-size (length (items r))) room) 11 (accepted (length (items r))))
 
 -- the same for an output that is never too short
 abbrev pub before-output : List ℕ → ℕ → Answer
-before-output r places = by-work r places (accepted (length (angles r)))
+before-output r places = by-work r places (accepted (length (items r)))
 
 -- Success fills the first 8n + 280 bytes; a refusal leaves the output.
 abbrev pub output-after : Answer → List ℕ → List ℕ → List ℕ

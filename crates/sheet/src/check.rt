@@ -1,12 +1,13 @@
 // The operation Check: whether a sheet is the one written for the request inside it.
 ghost use mathlib.Core.Path.{_≡_};
 ghost use mathlib.Core.Bool.{false};
-ghost use Prim.Native.Nat.{_+_, _<_, _≤_};
+ghost use Prim.Native.Nat.{_+_, _^_, _<_, _≤_};
 ghost use lib.ListN.{length};
 ghost use Rattle.sampling.specs.Promises.Stream.{start};
 ghost use Rattle.sampling.specs.Promises.Plan.{to-come, Ready};
 ghost use Rattle.sampling.specs.Promises.Planned.{came};
 ghost use Rattle.sheet.specs.Bytes as Bytes;
+ghost use Rattle.sheet.specs.Promises.Floats as Floats;
 ghost use Rattle.sheet.specs.Request as Request;
 ghost use Rattle.sheet.specs.Sheet as Sheet;
 ghost use Rattle.sheet.specs.Check as Check;
@@ -21,7 +22,9 @@ use crate::plan::plan_request;
 use crate::refusals::Fault;
 use crate::request::REQUEST;
 use crate::request::unread_zero;
-use crate::trailer::FIXED;
+use crate::trailer::FRAME;
+use crate::trailer::ITEMS_BOUND;
+use crate::trailer::LEAST;
 use crate::trailer::TRAILER;
 use crate::trailer::put_trailer;
 use crate::validate::Tested;
@@ -40,7 +43,7 @@ pub enum Checked {
 // Whether the bytes are those of the angles, no more and no less.
 fn same_angles(s: &[u8], work: &[f64], plan: Plan) -> bool
     requires { ⌜ Ready plan (now work) ⌝ }
-    ensures { λ r. ⌜ r ≡ Bytes.same-bytes (now (s .entry)) (Bytes.floats-bytes (to-come plan (now (work .entry)) start)) ⌝ }
+    ensures { λ r. ⌜ r ≡ Bytes.same-bytes (now (s .entry)) (Floats.floats-bytes (to-come plan (now (work .entry)) start)) ⌝ }
 {
     let mut c = start();
     let mut at = 0usize;
@@ -66,28 +69,28 @@ fn same_angles(s: &[u8], work: &[f64], plan: Plan) -> bool
 
 // The number of angles that the trailer says.
 fn count_of(sheet: &[u8]) -> usize
-    requires { ⌜ Request.request-size + Sheet.trailer-size ≤ length (now sheet) ⌝ }
+    requires { ⌜ Request.core-size + Sheet.trailer-size ≤ length (now sheet) ⌝ }
     ensures { λ r. ⌜ r ≡ Check.count-of (now (sheet .entry)) ⌝ }
-    ensures { λ r. ⌜ r < 4294967296 ⌝ }
+    ensures { λ r. ⌜ r < 2 ^ 32 ⌝ }
 {
     let at = sheet.len() - TRAILER;
     half(sheet, at) as usize
 }
 
-// 32: the length is that of n angles, the request's position 8n is a u32, and the trailer is theirs.
+// 32: the length is that of n angles, 8n is a u32, and the trailer is theirs.
 fn formed(sheet: &[u8], n: usize) -> bool
-    requires { ⌜ Request.request-size + Sheet.trailer-size ≤ length (now sheet) ⌝ }
+    requires { ⌜ Request.core-size + Sheet.trailer-size ≤ length (now sheet) ⌝ }
     requires { ⌜ n ≡ Check.count-of (now sheet) ⌝ }
-    requires { ⌜ n < 4294967296 ⌝ }
+    requires { ⌜ n < 2 ^ 32 ⌝ }
     ensures { λ r. ⌜ r ≡ Check.formed (now (sheet .entry)) ⌝ }
 {
-    if sheet.len() != 8 * n + FIXED {
+    if sheet.len() != 8 * n + FRAME {
         return false;
     }
-    if 8 * n >= 4294967296 {
+    if n >= ITEMS_BOUND {
         return false;
     }
-    let mut t = [0u8; 16];
+    let mut t = [0u8; TRAILER];
     put_trailer(&mut t, 0, n);
     same_at(sheet, sheet.len() - TRAILER, &t)
 }
@@ -131,14 +134,14 @@ fn check_request(s: &[u8], request: &[u8], work: &mut [f64], n: usize) -> Checke
 fn inspect(sheet: &[u8], work: &mut [f64]) -> Checked
     ensures { λ r. ⌜ Check.answer-of r ≡ Check.answer (now (sheet .entry)) (length (now (work .entry))) ⌝ }
 {
-    if sheet.len() < FIXED {
+    if sheet.len() < LEAST {
         return Checked::Refused(Fault::Length);
     }
     let n = count_of(sheet);
     if !formed(sheet, n) {
         return Checked::Refused(Fault::Trailer);
     }
-    let at = sheet.len() - FIXED;
+    let at = sheet.len() - FRAME;
     let end = at + REQUEST;
     check_request(&sheet[..at], &sheet[at..end], work, n)
 }

@@ -26,7 +26,7 @@ fn sign_of(b: u8) -> f64
 
 // The float of a field.
 pub(crate) fn field_at(request: &[u8], f: Field, j: usize) -> f64
-    requires { ⌜ (length (now request) ≡ Request.request-size) × (1 ≤ j) × (j ≤ 6) ⌝ }
+    requires { ⌜ (Request.core-size ≤ length (now request)) × (1 ≤ j) × (j ≤ 6) ⌝ }
     ensures { λ r. ⌜ r ≡ Fields.field (now (request .entry)) f j ⌝ }
 {
     float_in(request, place(f, j))
@@ -34,7 +34,7 @@ pub(crate) fn field_at(request: &[u8], f: Field, j: usize) -> f64
 
 // A joint's sign, offset, reference and limits.
 fn joint_at(request: &[u8], j: usize) -> Joint
-    requires { ⌜ (length (now request) ≡ Request.request-size) × (1 ≤ j) × (j ≤ 6) ⌝ }
+    requires { ⌜ (Request.core-size ≤ length (now request)) × (1 ≤ j) × (j ≤ 6) ⌝ }
     ensures { λ r. ⌜ r ≡ Fields.joint-at (now (request .entry)) j ⌝ }
 {
     let at = place(Field::Sign, j);
@@ -49,7 +49,7 @@ fn joint_at(request: &[u8], j: usize) -> Joint
 
 // The rotation.
 pub(crate) fn rotation_of(request: &[u8]) -> Quaternion
-    requires { ⌜ length (now request) ≡ Request.request-size ⌝ }
+    requires { ⌜ Request.core-size ≤ length (now request) ⌝ }
     ensures { λ r. ⌜ r ≡ Fields.rotation-of (now (request .entry)) ⌝ }
 {
     Quaternion {
@@ -62,7 +62,7 @@ pub(crate) fn rotation_of(request: &[u8]) -> Quaternion
 
 // The arm's angles.
 fn arm_of(request: &[u8]) -> Arm
-    requires { ⌜ length (now request) ≡ Request.request-size ⌝ }
+    requires { ⌜ Request.core-size ≤ length (now request) ⌝ }
     ensures { λ r. ⌜ r ≡ Fields.arm-of (now (request .entry)) ⌝ }
 {
     Arm {
@@ -74,7 +74,7 @@ fn arm_of(request: &[u8]) -> Arm
 
 // The job, every field as given.
 pub(crate) fn job_of(request: &[u8]) -> Job
-    requires { ⌜ length (now request) ≡ Request.request-size ⌝ }
+    requires { ⌜ Request.core-size ≤ length (now request) ⌝ }
     ensures { λ r. ⌜ r ≡ Fields.job-of (now (request .entry)) ⌝ }
 {
     Job {

@@ -10,7 +10,10 @@ ghost use Rattle.sheet.specs.Request as Request;
 use crate::view::byte_in;
 
 // Sizes and positions, in bytes; specs/Request.antt has the same.
-pub(crate) const REQUEST: usize = 264;
+// What every request has.
+pub(crate) const CORE: usize = 264;
+
+pub(crate) const REQUEST: usize = CORE;
 
 pub(crate) const SIGNS: usize = 4;
 
@@ -80,7 +83,7 @@ pub(crate) fn shape_from(kind: u8, limits: u8, fixed: u8) -> Shape
 
 // The shape of a request.
 pub(crate) fn shape_of(request: &[u8]) -> Shape
-    requires { ⌜ length (now request) ≡ Request.request-size ⌝ }
+    requires { ⌜ Request.core-size ≤ length (now request) ⌝ }
     ensures { λ r. ⌜ r ≡ Request.shape-of (now (request .entry)) ⌝ }
 {
     let kind = byte_in(request, 0);

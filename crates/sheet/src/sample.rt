@@ -8,6 +8,7 @@ ghost use lib.Seq.{sets};
 ghost use Rattle.sampling.specs.Promises.Stream.{start};
 ghost use Rattle.sampling.specs.Promises.Plan.{to-come, Ready};
 ghost use Rattle.sheet.specs.Bytes as Bytes;
+ghost use Rattle.sheet.specs.Promises.Floats as Floats;
 ghost use Rattle.sheet.specs.Request as Request;
 ghost use Rattle.sheet.specs.Sheet as Sheet;
 ghost use Rattle.sheet.specs.Sampling as Sampling;
@@ -21,7 +22,7 @@ use crate::plan::plan_request;
 use crate::refusals::Refusal;
 use crate::request::REQUEST;
 use crate::request::put_blank;
-use crate::trailer::FIXED;
+use crate::trailer::FRAME;
 use crate::trailer::put_trailer;
 use crate::validate::Tested;
 use crate::validate::validate;
@@ -41,7 +42,7 @@ pub enum Sampled {
 fn put_stream(output: &mut [u8], work: &[f64], plan: Plan)
     requires { ⌜ Ready plan (now work) ⌝ }
     requires { ⌜ 8 * length (to-come plan (now work) start) ≤ length (now output) ⌝ }
-    ensures { λ _. ⌜ now (output .exit) ≡ sets (now (output .entry)) 0 (Bytes.floats-bytes (to-come plan (now (work .entry)) start)) ⌝ }
+    ensures { λ _. ⌜ now (output .exit) ≡ sets (now (output .entry)) 0 (Floats.floats-bytes (to-come plan (now (work .entry)) start)) ⌝ }
 {
     let mut c = start();
     let mut at = 0usize;
@@ -64,7 +65,7 @@ fn put_stream(output: &mut [u8], work: &[f64], plan: Plan)
 fn put_angles(output: &mut [u8], work: &[f64], plan: Plan)
     requires { ⌜ Ready plan (now work) ⌝ }
     requires { ⌜ 8 * length (to-come plan (now work) start) ≤ length (now output) ⌝ }
-    ensures { λ _. ⌜ now (output .exit) ≡ sets (now (output .entry)) 0 (Bytes.floats-bytes (to-come plan (now (work .entry)) start)) ⌝ }
+    ensures { λ _. ⌜ now (output .exit) ≡ sets (now (output .entry)) 0 (Floats.floats-bytes (to-come plan (now (work .entry)) start)) ⌝ }
 {
     if let Plan::One(n) = plan {
         put_lists(output, work, n);
@@ -79,7 +80,7 @@ fn fill(output: &mut [u8], request: &[u8], work: &[f64], plan: Plan, n: usize)
     requires { ⌜ Ready plan (now work) ⌝ }
     requires { ⌜ n ≡ length (to-come plan (now work) start) ⌝ }
     requires { ⌜ Sampling.sheet-size n ≤ length (now output) ⌝ }
-    ensures { λ _. ⌜ now (output .exit) ≡ sets (now (output .entry)) 0 (Bytes.floats-bytes (to-come plan (now (work .entry)) start) ++ (Request.blank (now (request .entry)) ++ Sheet.trailer n)) ⌝ }
+    ensures { λ _. ⌜ now (output .exit) ≡ sets (now (output .entry)) 0 (Floats.floats-bytes (to-come plan (now (work .entry)) start) ++ (Request.blank (now (request .entry)) ++ Sheet.trailer n)) ⌝ }
 {
     put_angles(output, work, plan);
     put_blank(output, 8 * n, request);
@@ -90,10 +91,10 @@ fn fill(output: &mut [u8], request: &[u8], work: &[f64], plan: Plan, n: usize)
 fn has_room(n: usize, room: usize) -> bool
     ensures { λ r. ⌜ r ≡ leb (Sampling.sheet-size n) room ⌝ }
 {
-    if room < FIXED {
+    if room < FRAME {
         return false;
     }
-    if n <= (room - FIXED) / 8 {
+    if n <= (room - FRAME) / 8 {
         return true;
     }
     false

@@ -59,7 +59,7 @@ fn zeros_from(request: &[u8], at: usize, n: usize) -> bool
 
 // 2: kind, flags and reserved bytes.
 fn head_right(request: &[u8]) -> bool
-    requires { ⌜ length (now request) ≡ Request.request-size ⌝ }
+    requires { ⌜ Request.core-size ≤ length (now request) ⌝ }
     ensures { λ r. ⌜ r ≡ Validate.head-right (now (request .entry)) ⌝ }
 {
     if right(shape_of(request)) {
@@ -69,7 +69,7 @@ fn head_right(request: &[u8]) -> bool
 }
 
 fn sign_right(s: Shape, request: &[u8], j: usize) -> bool
-    requires { ⌜ (length (now request) ≡ Request.request-size) × (1 ≤ j) × (j ≤ 6) ⌝ }
+    requires { ⌜ (Request.core-size ≤ length (now request)) × (1 ≤ j) × (j ≤ 6) ⌝ }
     ensures { λ r. ⌜ r ≡ Validate.sign-right s (now (request .entry)) j ⌝ }
 {
     if field_read(s, Field::Sign, j) {
@@ -82,7 +82,7 @@ fn sign_right(s: Shape, request: &[u8], j: usize) -> bool
 
 // 3: a read sign is 1 or 255.
 fn signs_right(request: &[u8]) -> bool
-    requires { ⌜ length (now request) ≡ Request.request-size ⌝ }
+    requires { ⌜ Request.core-size ≤ length (now request) ⌝ }
     ensures { λ r. ⌜ r ≡ Validate.signs-right (now (request .entry)) ⌝ }
 {
     let s = shape_of(request);
@@ -118,7 +118,7 @@ fn passes(f: Field, x: f64) -> bool
 }
 
 fn field_right(s: Shape, f: Field, request: &[u8], j: usize) -> bool
-    requires { ⌜ (length (now request) ≡ Request.request-size) × (1 ≤ j) × (j ≤ 6) ⌝ }
+    requires { ⌜ (Request.core-size ≤ length (now request)) × (1 ≤ j) × (j ≤ 6) ⌝ }
     ensures { λ r. ⌜ r ≡ Validate.field-right s f (now (request .entry)) j ⌝ }
 {
     if field_read(s, f, j) {
@@ -129,7 +129,7 @@ fn field_right(s: Shape, f: Field, request: &[u8], j: usize) -> bool
 
 // Whether the read fields of a class, of which there are n, pass.
 fn fields_right(f: Field, request: &[u8], n: usize) -> bool
-    requires { ⌜ (length (now request) ≡ Request.request-size) × (n ≤ 6) ⌝ }
+    requires { ⌜ (Request.core-size ≤ length (now request)) × (n ≤ 6) ⌝ }
     ensures { λ r. ⌜ r ≡ Validate.all-from n 1 (Validate.field-right (Request.shape-of (now (request .entry))) f (now (request .entry))) ⌝ }
 {
     let s = shape_of(request);
@@ -145,7 +145,7 @@ fn fields_right(f: Field, request: &[u8], n: usize) -> bool
 
 // 6: a read arm angle is within ±8.
 fn arm_within(request: &[u8]) -> bool
-    requires { ⌜ length (now request) ≡ Request.request-size ⌝ }
+    requires { ⌜ Request.core-size ≤ length (now request) ⌝ }
     ensures { λ r. ⌜ r ≡ Validate.arm-within (now (request .entry)) ⌝ }
 {
     fields_right(Field::Arm, request, 3)
@@ -153,7 +153,7 @@ fn arm_within(request: &[u8]) -> bool
 
 // 7: a read reference is finite.
 fn references_finite(request: &[u8]) -> bool
-    requires { ⌜ length (now request) ≡ Request.request-size ⌝ }
+    requires { ⌜ Request.core-size ≤ length (now request) ⌝ }
     ensures { λ r. ⌜ r ≡ Validate.references-finite (now (request .entry)) ⌝ }
 {
     fields_right(Field::Reference, request, 6)
@@ -161,7 +161,7 @@ fn references_finite(request: &[u8]) -> bool
 
 // 8: a read offset is within ±2P.
 fn offsets_within(request: &[u8]) -> bool
-    requires { ⌜ length (now request) ≡ Request.request-size ⌝ }
+    requires { ⌜ Request.core-size ≤ length (now request) ⌝ }
     ensures { λ r. ⌜ r ≡ Validate.offsets-within (now (request .entry)) ⌝ }
 {
     fields_right(Field::Offset, request, 6)
@@ -169,7 +169,7 @@ fn offsets_within(request: &[u8]) -> bool
 
 // 6 to 8, for a rotation that is normalized to q.
 fn validate_fields(request: &[u8], q: Quaternion) -> Tested
-    requires { ⌜ length (now request) ≡ Request.request-size ⌝ }
+    requires { ⌜ Request.core-size ≤ length (now request) ⌝ }
     ensures { λ t. ⌜ t ≡ Promise.tested-fields (now (request .entry)) q ⌝ }
 {
     if !arm_within(request) {
@@ -186,7 +186,7 @@ fn validate_fields(request: &[u8], q: Quaternion) -> Tested
 
 // 4 to 8.
 fn validate_rotation(request: &[u8]) -> Tested
-    requires { ⌜ length (now request) ≡ Request.request-size ⌝ }
+    requires { ⌜ Request.core-size ≤ length (now request) ⌝ }
     ensures { λ t. ⌜ t ≡ Promise.tested-rotation (now (request .entry)) (Pose.try-normalize (Fields.rotation-of (now (request .entry)))) ⌝ }
 {
     let n = try_normalize(rotation_of(request));

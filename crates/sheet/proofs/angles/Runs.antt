@@ -8,7 +8,7 @@ use lib.Seq.{sets, drop-cons, length-take-le}
 use lib.Ieee.{Float, nan}
 use Rattle.sampling.specs.Samples.{between, all-between, samples, sample-count, three-samples}
 use Rattle.sampling.specs.Laws.Samples.{samples-length}
-use Rattle.sheet.specs.Bytes.{float-bytes, floats-bytes}
+use Rattle.sheet.specs.Promises.Floats.{float-bytes, floats-bytes}
 use Rattle.sheet.specs.Laws.Bytes.{sets-append, floats-bytes-cons, floats-bytes-nil, length-floats-bytes}
 use Rattle.sheet.specs.Laws.Sampling.{floats-turn, floats-end}
 

@@ -9,7 +9,8 @@ use lib.Seq.{drop-cons, drop-drop}
 use lib.Dec.{eqb}
 use lib.Ieee.{Float, toBits, binary64}
 use borrow.Author.Tests.{eqb-true, eqb-false}
-use Rattle.sheet.specs.Bytes.{part, float-bytes, floats-bytes, same-bytes}
+use Rattle.sheet.specs.Bytes.{part, same-bytes}
+use Rattle.sheet.specs.Promises.Floats.{float-bytes, floats-bytes}
 use Rattle.sheet.specs.Laws.Bytes.{length-part, length-bytes, floats-bytes-cons, floats-bytes-nil, same-is}
 
 same-append : (a b x y : List ℕ) → length a ≡ length b → same-bytes (a ++ x) (b ++ y) ≡ (same-bytes a b && same-bytes x y)

@@ -2,11 +2,11 @@
 use Prim.Native.Nat.{ℕ, _≤_}
 use native.Mathlib.Omega.{arith}
 use mathlib.Core.Path.{_≡_, refl, sym, ap, subst, _∙_}
-use mathlib.Core.List.{List}
+use mathlib.Core.List.{List, map}
 use mathlib.Core.Bool.{Bool, true, false, cond, false≢true}
 use lib.ListN.{length, getD}
 use lib.Dec.{eqb, leb}
-use lib.Ieee.{Float}
+use lib.Ieee.{toBits, binary64}
 use borrow.Author.Tests.{eqb-true}
 use Rattle.sampling.specs.declared.pose.Quaternion.{Quaternion}
 use Rattle.sheet.specs.declared.request.Shape.{Shape}
@@ -16,7 +16,7 @@ use Rattle.sheet.specs.Request.{shape-by, shape-fixed, shape-from, shape
 use Rattle.sheet.specs.Fields.{sign-of, joint-at, arm-of, job-of, rotation-of, matrix}
 use Rattle.sheet.specs.Validate.{right, head-right, validate}
 use Rattle.sheet.specs.Refusals.{Answer, accepted, need}
-use Rattle.sheet.specs.Sampling.{angles, cut-count, holds, by-request, by-work, answer, before-output, sheet-size}
+use Rattle.sheet.specs.Sampling.{angles, items, cut-count, holds, by-request, by-work, answer, before-output, sheet-size}
 use Rattle.float.specs.Laws.Tests.{and-left}
 use Rattle.sheet.specs.Laws.Agree.{same-first, same-sign, same-float}
 use Rattle.sheet.specs.Laws.Validate.{rotation-same, validate-same}
@@ -99,6 +99,10 @@ module _ (r s : List ℕ) (g : Agree r s) where
     unfolding angles
     angles-same = angles-alike (job-of r) (job-of s) (matrix (rotation-of r)) own-right own-alike ∙ ap (λ (q : Quaternion). Angles.angles (job-of s) (matrix q)) (rotation-same r s g)
 
+    pub items-same : items r ≡ items s
+    unfolding items
+    items-same = ap (map (toBits binary64)) angles-same
+
     cuts-same : cut-count r ≡ cut-count s
     unfolding cut-count
     cuts-same = cuts-alike (job-of r) (job-of s) (matrix (rotation-of r)) own-right own-alike ∙ ap (λ (q : Quaternion). Angles.cut-count (job-of s) (matrix q)) (rotation-same r s g)
@@ -125,7 +129,7 @@ module _ (r s : List ℕ) (g : Agree r s) where
   pub answer-same : (places room : ℕ) → answer r places room ≡ answer s places room
   unfolding answer
   answer-same places room =
-      by-work-same places _ _ (λ e. ap (λ (l : List Float). need (leb (sheet-size (length l)) room) 11 (accepted (length l))) (angles-same e))
+      by-work-same places _ _ (λ e. ap (λ (l : List ℕ). need (leb (sheet-size (length l)) room) 11 (accepted (length l))) (items-same e))
 
   pub before-same : (places : ℕ) → before-output r places ≡ before-output s places
-  before-same places = by-work-same places _ _ (λ e. ap (λ (l : List Float). accepted (length l)) (angles-same e))
+  before-same places = by-work-same places _ _ (λ e. ap (λ (l : List ℕ). accepted (length l)) (items-same e))

@@ -31,8 +31,12 @@ use Rattle.sheet.specs.Request.{shape-by, shape-fixed, shape-from, shape
 use Rattle.sheet.specs.Fields.{sign-of, joint-at, job-of, rotation-of, matrix, matrix-by}
 use Rattle.sheet.specs.Refusals.{accepted, need, number}
 use Rattle.sheet.specs.Validate.{right, head-right, within}
-use Rattle.sheet.specs.Sampling.{angles, cut-count, holds, by-request, by-work, answer}
+use Rattle.sheet.specs.Sampling.{angles, items, cut-count, holds, by-request, by-work, answer}
 use Rattle.sheet.specs.Check.{is-accepted, meets-none}
+use Rattle.sheet.specs.Bytes.{words-bytes}
+use Rattle.sheet.specs.Promises.Floats.{floats-bytes}
+use Rattle.sheet.specs.Laws.Bytes.{floats-words}
+use Rattle.sheet.specs.Laws.Sampling.{length-items}
 use Rattle.sheet.specs.Promises.Tested.{tested, Passed}
 use Rattle.sheet.specs.Promises.Plan.{is-refused, is-short, PlannedFor, planned-answer}
 use Rattle.sheet.specs.Laws.Tested.{passed-validate, tested-refused, passed-reference, passed-offset}
@@ -158,6 +162,13 @@ module _ (r : List ℕ) (p : Plan) (w : List Float) (g : PlannedFor r p w) where
       pub found-angles : to-come p w start ≡ angles r
       unfolding angles
       found-angles = g .yields (found-is (came p) e f)
+
+      pub found-count : length (to-come p w start) ≡ length (items r)
+      found-count = ap length found-angles ∙ sym (length-items r)
+
+      pub found-items : floats-bytes (to-come p w start) ≡ words-bytes (items r)
+      unfolding items
+      found-items = ap floats-bytes found-angles ∙ floats-words (angles r)
 
 -- ---- Sampling
 

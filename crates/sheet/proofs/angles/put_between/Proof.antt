@@ -8,7 +8,7 @@ use lib.ListN.{length, drop}
 use lib.Seq.{sets}
 use borrow.Author.Needs.{needs}
 use Rattle.sampling.specs.Samples.{all-between}
-use Rattle.sheet.specs.Bytes.{floats-bytes}
+use Rattle.sheet.specs.Promises.Floats.{floats-bytes}
 use Rattle.sheet.proofs.angles.Runs.{between-turn, between-end}
 use Rattle.sheet.proofs.angles.put_between.Statement.{statement}
 use Rattle.sheet.proofs.angles.put_between.Tie as tie

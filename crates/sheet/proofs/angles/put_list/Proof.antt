@@ -7,7 +7,7 @@ use mathlib.Core.List.{List}
 use lib.ListN.{length, drop, drop-of-length-le}
 use lib.Seq.{sets}
 use borrow.Author.Needs.{needs}
-use Rattle.sheet.specs.Bytes.{floats-bytes}
+use Rattle.sheet.specs.Promises.Floats.{floats-bytes}
 use Rattle.sheet.specs.Laws.Sampling.{floats-end}
 use Rattle.sheet.proofs.angles.Runs.{list-turn}
 use Rattle.sheet.proofs.angles.put_list.Statement.{statement}

@@ -4,7 +4,7 @@ use mathlib.Core.List.{List}
 use lib.Ieee.{Float}
 use lib.Seq.{sets}
 use borrow.Author.Needs.{needs}
-use Rattle.sheet.specs.Bytes.{floats-bytes}
+use Rattle.sheet.specs.Promises.Floats.{floats-bytes}
 use Rattle.sheet.proofs.angles.Runs.{three}
 use Rattle.sheet.proofs.angles.put_three.Statement.{statement}
 use Rattle.sheet.proofs.angles.put_three.Tie as tie

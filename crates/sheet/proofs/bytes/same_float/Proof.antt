@@ -3,7 +3,7 @@ use mathlib.Core.Path.{_∙_}
 use lib.Ieee.{toBits, binary64}
 use lib.ListN.{replicate}
 use borrow.Author.Needs.{needs}
-use Rattle.sheet.specs.Bytes.{float-bytes}
+use Rattle.sheet.specs.Promises.Floats.{float-bytes}
 use Rattle.sheet.specs.Laws.Bytes.{length-bytes}
 use Rattle.sheet.proofs.bytes.Same.{over-same}
 use Rattle.sheet.proofs.bytes.same_float.Statement.{statement}

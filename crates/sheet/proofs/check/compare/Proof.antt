@@ -5,7 +5,7 @@ use mathlib.Core.Bool.{true, false}
 use borrow.Author.Tests.{not-true, not-false}
 use Rattle.sheet.specs.Refusals.{need}
 use Rattle.sheet.specs.Promises.Plan.{compared}
-use Rattle.sheet.specs.Laws.Plan.{fits-no, fits-yes, found-angles}
+use Rattle.sheet.specs.Laws.Plan.{fits-no, fits-yes, found-items}
 use Rattle.sheet.proofs.check.compare.Statement.{statement}
 use Rattle.sheet.proofs.check.compare.Tie as tie
 
@@ -38,7 +38,7 @@ returns-3 c =
     let u = sym (c .before .before .before .before .before .unread-zero .ensures) ∙ not-false _ (c .before .before .before .before .if1 .left) in
     let f = sym (c .before .before .before .is-short .ensures) ∙ c .before .before .if2 .left in
     let k = fits-yes (a .request .now) (a .plan) (a .work .now) (s .pre .1 .0) (s .pre .1 .1) f in
-    let t = found-angles (a .request .now) (a .plan) (a .work .now) (s .pre .1 .0) (s .pre .1 .1) f in
+    let t = found-items (a .request .now) (a .plan) (a .work .now) (s .pre .1 .0) (s .pre .1 .1) f in
     let q = sym (c .before .same-angles .ensures) ∙ not-true _ (c .if3 .taken) in
     rw (u, k, ← t, q)
 
@@ -50,7 +50,7 @@ returns-4 c =
     let u = sym (c .before .before .before .before .before .unread-zero .ensures) ∙ not-false _ (c .before .before .before .before .if1 .left) in
     let f = sym (c .before .before .before .is-short .ensures) ∙ c .before .before .if2 .left in
     let k = fits-yes (a .request .now) (a .plan) (a .work .now) (s .pre .1 .0) (s .pre .1 .1) f in
-    let t = found-angles (a .request .now) (a .plan) (a .work .now) (s .pre .1 .0) (s .pre .1 .1) f in
+    let t = found-items (a .request .now) (a .plan) (a .work .now) (s .pre .1 .0) (s .pre .1 .1) f in
     let q = sym (c .before .same-angles .ensures) ∙ not-false _ (c .if3 .left) in
     rw (u, k, ← t, q)
 

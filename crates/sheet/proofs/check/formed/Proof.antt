@@ -14,9 +14,6 @@ add-if1 c = search needs
 returns : tie.Need-returns
 returns c = formed-no (c .before .before .args .sheet .now) (c .before .before .args .n) (c .before .before .pre .1 .0) (c .if1 .taken)
 
-mul-if2 : tie.Need-mul-if2
-mul-if2 c = search needs
-
 returns-2 : tie.Need-returns-2
 returns-2 c = formed-wide (c .before .before .before .args .sheet .now) (c .before .before .before .args .n) (c .before .before .before .pre .1 .0) (c .before .if1 .left) (c .if2 .taken)
 
@@ -39,4 +36,4 @@ returns-3 : tie.Need-returns-3
 returns-3 c = (c .same-at .ensures) ∙ formed-by (c .before .before .before .before .before .before .before .before .args .sheet .now) _ _ (c .before .before .before .before .before .before .before .before .args .n) (c .before .before .before .before .before .before .before .before .pre .1 .0) (c .before .before .before .before .before .before .if1 .left) (c .before .before .before .before .before .if2 .left) refl (c .before .before .before .put-trailer .ensures)
 
 pub formed-spec : {M : Type 1} → statement M
-formed-spec = tie.close (tie.spec mul-if1 add-if1 returns mul-if2 returns-2 slice-aggregate-put-trailer put-trailer-requires sub-same-at slice-aggregate-same-at same-at-requires returns-3)
+formed-spec = tie.close (tie.spec mul-if1 add-if1 returns returns-2 slice-aggregate-put-trailer put-trailer-requires sub-same-at slice-aggregate-same-at same-at-requires returns-3)

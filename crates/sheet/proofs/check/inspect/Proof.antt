@@ -7,7 +7,8 @@ use mathlib.Core.Path.{sym, ap, refl, _∙_}
 use lib.ListN.{length}
 use lib.Seq.{length-take-le}
 use borrow.Author.Tests.{not-true, not-false}
-use Rattle.sheet.specs.Check.{angles-of, request-of}
+use Rattle.sheet.specs.Sheet.{frame-size}
+use Rattle.sheet.specs.Check.{items-of, request-of}
 use Rattle.sheet.specs.Promises.Plan.{checked}
 use Rattle.sheet.specs.Laws.Check.{answer-short, answer-trailer, answer-formed, request-is}
 use Rattle.sheet.proofs.check.inspect.Statement.{statement}
@@ -34,7 +35,7 @@ add-end : tie.Need-add-end
 add-end c = search needs
 
 slice-aggregate-check-request : tie.Need-slice-aggregate-check-request
-slice-aggregate-check-request c = sym (length-take-le (length (c .before .before .before .before .before .before .before .args .sheet .now) - 280) (c .before .before .before .before .before .before .before .args .sheet .now) (omega arith))
+slice-aggregate-check-request c = sym (length-take-le (length (c .before .before .before .before .before .before .before .args .sheet .now) - frame-size) (c .before .before .before .before .before .before .before .args .sheet .now) (omega arith))
 
 sub-check-request : tie.Need-sub-check-request
 sub-check-request c = search needs
@@ -57,8 +58,8 @@ returns-3 c =
     let p = length (a .work .now) in
     let n = c .before .before .before .before .before .before .before .before .count-of .ensures .0 in
     c .before .before .check-request .ensures
-    ∙ ap (λ (q : List ℕ). checked q (angles-of (a .sheet .now)) (c .before .before .before .before .before .before .before .before .count-of .result) p) (request-is (a .sheet .now) _ refl)
-    ∙ ap (λ (m : ℕ). checked (request-of (a .sheet .now)) (angles-of (a .sheet .now)) m p) n
+    ∙ ap (λ (q : List ℕ). checked q (items-of (a .sheet .now)) (c .before .before .before .before .before .before .before .before .count-of .result) p) (request-is (a .sheet .now) _ refl)
+    ∙ ap (λ (m : ℕ). checked (request-of (a .sheet .now)) (items-of (a .sheet .now)) m p) n
     ∙ sym (answer-formed (a .sheet .now) p (c .before .before .before .before .before .before .before .before .before .if1 .left) (sym (c .before .before .before .before .before .before .before .formed .ensures) ∙ not-false _ (c .before .before .before .before .before .before .if2 .left)))
 
 pub inspect-spec : {M : Type 1} → statement M

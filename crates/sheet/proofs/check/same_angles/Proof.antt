@@ -11,7 +11,8 @@ use Rattle.sampling.specs.Promises.Stream.{start}
 use Rattle.sampling.specs.Promises.Plan.{to-come, Gives}
 use Rattle.sampling.specs.declared.stream.Cursor.{Cursor}
 use Rattle.sampling.specs.declared.stream.Step.{Step}
-use Rattle.sheet.specs.Bytes.{floats-bytes, same-bytes}
+use Rattle.sheet.specs.Bytes.{same-bytes}
+use Rattle.sheet.specs.Promises.Floats.{floats-bytes}
 use Rattle.sheet.proofs.check.Floats.{float-short, float-turn, float-stop, float-end}
 use Rattle.sheet.proofs.check.same_angles.Statement.{statement}
 use Rattle.sheet.proofs.check.same_angles.Tie as tie

@@ -5,7 +5,7 @@ use lib.ListN.{length}
 use borrow.Author.Needs.{needs}
 use mir.Syntax.{w64}
 use mir.ValLaws.{toZ-ofZ}
-use Rattle.sheet.specs.Laws.Demands.{answer-room}
+use Rattle.sheet.specs.Laws.Accepted.{answer-room}
 use Rattle.sheet.specs.Refusals.{Answer, signed}
 use Rattle.sheet.specs.Sampling.{output-after}
 use Rattle.sheet.proofs.interface.sheet_sample.Statement.{statement}

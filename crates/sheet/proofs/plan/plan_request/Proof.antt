@@ -1,5 +1,6 @@
 -- `sheet::plan::plan_request` meets its contract: at each return, what the calls and the tests on the way to it say.
 use borrow.Author.Needs.{needs}
+use native.Mathlib.Omega.{arith}
 use mathlib.Core.Bool.{false}
 use mathlib.Core.Path.{subst⁻¹, _≡_}
 use lib.Dec.{eqb}
@@ -11,7 +12,7 @@ use Rattle.sheet.proofs.plan.plan_request.Statement.{statement}
 use Rattle.sheet.proofs.plan.plan_request.Tie as tie
 
 job-of-requires : tie.Need-job-of-requires
-job-of-requires c = λ κs. c .before .before .pre .0 .whole
+job-of-requires c = λ κs. omega (arith, c .before .before .pre .0 .whole)
 
 from-quat-requires : tie.Need-from-quat-requires
 from-quat-requires c = search needs

@@ -8,7 +8,7 @@ use Rattle.sampling.specs.Promises.Plan.{to-come}
 use Rattle.sampling.specs.Promises.Stream.{start}
 use Rattle.sheet.specs.Refusals.{need}
 use Rattle.sheet.specs.Promises.Plan.{planned-answer}
-use Rattle.sheet.specs.Laws.Plan.{holds-no, holds-yes, fits-no, fits-yes, found-angles}
+use Rattle.sheet.specs.Laws.Plan.{holds-no, holds-yes, fits-no, fits-yes, found-angles, found-count}
 use Rattle.sheet.specs.Laws.Sampling.{sheet-stands}
 use Rattle.sheet.proofs.sample.finish.Statement.{statement}
 use Rattle.sheet.proofs.sample.finish.Tie as tie
@@ -58,7 +58,7 @@ returns-3 c =
     let t = found-angles (a .request .now) (a .plan) (a .work .now) (s .pre .1) e f in
     let n = c .before .before .before .before .before .before .count .ensures in
     let r = sym (c .before .before .before .before .before .has-room .ensures) ∙ c .before .before .before .before .if3 .taken in
-    let q = n ∙ ap length t in (
+    let q = n ∙ found-count (a .request .now) (a .plan) (a .work .now) (s .pre .1) e f in (
       rw (h, k, ← q, r),
       c .before .before .fill .ensures ∙ sheet-stands (a .request .now) (a .output .now) (to-come (a .plan) (a .work .now) start) _ (s .pre .0) n t (leb-true _ _ r),
     )
@@ -72,8 +72,7 @@ returns-4 c =
     let f = sym (c .before .before .before .before .is-short .ensures) ∙ c .before .before .before .if2 .left in
     let h = holds-yes (a .request .now) (a .plan) (a .work .now) (s .pre .1) e in
     let k = fits-yes (a .request .now) (a .plan) (a .work .now) (s .pre .1) e f in
-    let t = found-angles (a .request .now) (a .plan) (a .work .now) (s .pre .1) e f in
-    let q = c .before .before .count .ensures ∙ ap length t in
+    let q = c .before .before .count .ensures ∙ found-count (a .request .now) (a .plan) (a .work .now) (s .pre .1) e f in
     let r = sym (c .before .has-room .ensures) ∙ c .if3 .left in
     (rw (h, k, ← q, r), refl)
 

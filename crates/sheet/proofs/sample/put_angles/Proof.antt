@@ -7,7 +7,7 @@ use borrow.Author.Needs.{needs}
 use Rattle.sampling.specs.Promises.Stream.{start}
 use Rattle.sampling.specs.Promises.Plan.{to-come, Ready}
 use Rattle.sampling.specs.declared.plan.Plan.{Plan}
-use Rattle.sheet.specs.Bytes.{floats-bytes}
+use Rattle.sheet.specs.Promises.Floats.{floats-bytes}
 use Rattle.sheet.proofs.sample.put_angles.Statement.{statement}
 use Rattle.sheet.proofs.sample.put_angles.Tie as tie
 

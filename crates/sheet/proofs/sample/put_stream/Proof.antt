@@ -11,7 +11,7 @@ use Rattle.sampling.specs.Promises.Stream.{start}
 use Rattle.sampling.specs.Promises.Plan.{to-come, Gives}
 use Rattle.sampling.specs.declared.stream.Cursor.{Cursor}
 use Rattle.sampling.specs.declared.stream.Step.{Step}
-use Rattle.sheet.specs.Bytes.{floats-bytes}
+use Rattle.sheet.specs.Promises.Floats.{floats-bytes}
 use Rattle.sheet.specs.Laws.Sampling.{floats-turn, floats-end}
 use Rattle.sheet.proofs.sample.put_stream.Statement.{statement}
 use Rattle.sheet.proofs.sample.put_stream.Tie as tie
