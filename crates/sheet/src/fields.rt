@@ -4,11 +4,11 @@ ghost use Prim.Native.Nat.{_≤_};
 ghost use lib.ListN.{length};
 ghost use Rattle.sheet.specs.Request as Request;
 ghost use Rattle.sheet.specs.Fields as Fields;
+use crate::bytes::byte_at;
+use crate::bytes::float_at;
 use crate::request::Field;
 use crate::request::ROTATION;
 use crate::request::place;
-use crate::view::byte_in;
-use crate::view::float_in;
 use sampling::job::Arm;
 use sampling::job::Job;
 use sampling::job::Joint;
@@ -29,7 +29,7 @@ pub(crate) fn field_at(request: &[u8], f: Field, j: usize) -> f64
     requires { ⌜ (Request.core-size ≤ length (now request)) × (1 ≤ j) × (j ≤ 6) ⌝ }
     ensures { λ r. ⌜ r ≡ Fields.field (now (request .entry)) f j ⌝ }
 {
-    float_in(request, place(f, j))
+    float_at(request, place(f, j))
 }
 
 // A joint's sign, offset, reference and limits.
@@ -39,7 +39,7 @@ fn joint_at(request: &[u8], j: usize) -> Joint
 {
     let at = place(Field::Sign, j);
     Joint {
-        sign: sign_of(byte_in(request, at)),
+        sign: sign_of(byte_at(request, at)),
         offset: field_at(request, Field::Offset, j),
         reference: field_at(request, Field::Reference, j),
         from: field_at(request, Field::From, j),
@@ -53,10 +53,10 @@ pub(crate) fn rotation_of(request: &[u8]) -> Quaternion
     ensures { λ r. ⌜ r ≡ Fields.rotation-of (now (request .entry)) ⌝ }
 {
     Quaternion {
-        x: float_in(request, ROTATION),
-        y: float_in(request, ROTATION + 8),
-        z: float_in(request, ROTATION + 16),
-        w: float_in(request, ROTATION + 24),
+        x: float_at(request, ROTATION),
+        y: float_at(request, ROTATION + 8),
+        z: float_at(request, ROTATION + 16),
+        w: float_at(request, ROTATION + 24),
     }
 }
 
@@ -78,9 +78,9 @@ pub(crate) fn job_of(request: &[u8]) -> Job
     ensures { λ r. ⌜ r ≡ Fields.job-of (now (request .entry)) ⌝ }
 {
     Job {
-        kind: byte_in(request, 0),
-        limited: byte_in(request, 1) == 1,
-        fixed: byte_in(request, 2) == 1,
+        kind: byte_at(request, 0),
+        limited: byte_at(request, 1) == 1,
+        fixed: byte_at(request, 2) == 1,
         rotation: rotation_of(request),
         arm: arm_of(request),
         j1: joint_at(request, 1),

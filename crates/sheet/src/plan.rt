@@ -6,7 +6,7 @@ ghost use Rattle.sheet.specs.Promises.Tested.{Passed};
 ghost use Rattle.sheet.specs.Fields.{rotation-of};
 ghost use Rattle.sampling.specs.Pose.{try-normalize};
 ghost use Rattle.sampling.specs.declared.pose.Normalized.the-variants.{Unit};
-use crate::fields::job_of;
+use crate::view::read_job;
 use sampling::plan::Plan;
 use sampling::plan::plan_of;
 use sampling::pose::Quaternion;
@@ -44,7 +44,7 @@ pub(crate) fn plan_request(work: &mut [f64], request: &[u8], q: Quaternion) -> P
     requires { ⌜ try-normalize (rotation-of (now request)) ≡ Unit q ⌝ }
     ensures { λ p. ⌜ Promise.PlannedFor (now (request .entry)) p (now (work .exit)) ⌝ }
 {
-    let job = job_of(request);
+    let job = read_job(request);
     let m = from_quat(q);
     plan_of(work, job, m)
 }

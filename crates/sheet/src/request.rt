@@ -7,7 +7,7 @@ ghost use lib.ListN.{length};
 ghost use lib.Seq.{sets};
 ghost use Rattle.sheet.specs.Bytes as Bytes;
 ghost use Rattle.sheet.specs.Request as Request;
-use crate::view::byte_in;
+use crate::bytes::byte_at;
 
 // Sizes and positions, in bytes; specs/Request.antt has the same.
 // What every request has.
@@ -86,9 +86,9 @@ pub(crate) fn shape_of(request: &[u8]) -> Shape
     requires { ⌜ Request.core-size ≤ length (now request) ⌝ }
     ensures { λ r. ⌜ r ≡ Request.shape-of (now (request .entry)) ⌝ }
 {
-    let kind = byte_in(request, 0);
-    let limits = byte_in(request, 1);
-    let fixed = byte_in(request, 2);
+    let kind = byte_at(request, 0);
+    let limits = byte_at(request, 1);
+    let fixed = byte_at(request, 2);
     shape_from(kind, limits, fixed)
 }
 

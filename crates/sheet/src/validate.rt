@@ -7,6 +7,7 @@ ghost use Rattle.sheet.specs.Request as Request;
 ghost use Rattle.sheet.specs.Fields as Fields;
 ghost use Rattle.sheet.specs.Validate as Validate;
 ghost use Rattle.sheet.specs.Promises.Tested as Promise;
+use crate::bytes::byte_at;
 use crate::fields::field_at;
 use crate::fields::rotation_of;
 use crate::refusals::Refusal;
@@ -17,7 +18,6 @@ use crate::request::Shape;
 use crate::request::field_read;
 use crate::request::place;
 use crate::request::shape_of;
-use crate::view::byte_in;
 use float::number::is_finite;
 use sampling::pose::Normalized;
 use sampling::pose::Quaternion;
@@ -49,7 +49,7 @@ fn zeros_from(request: &[u8], at: usize, n: usize) -> bool
 {
     let mut i = 0usize;
     while i < n {
-        if byte_in(request, at + i) != 0 {
+        if byte_at(request, at + i) != 0 {
             return false;
         }
         i += 1;
@@ -63,7 +63,7 @@ fn head_right(request: &[u8]) -> bool
     ensures { λ r. ⌜ r ≡ Validate.head-right (now (request .entry)) ⌝ }
 {
     if right(shape_of(request)) {
-        return (byte_in(request, 3) == 0) & zeros_from(request, RESERVED, 6);
+        return (byte_at(request, 3) == 0) & zeros_from(request, RESERVED, 6);
     }
     false
 }
@@ -74,7 +74,7 @@ fn sign_right(s: Shape, request: &[u8], j: usize) -> bool
 {
     if field_read(s, Field::Sign, j) {
         let at = place(Field::Sign, j);
-        let b = byte_in(request, at);
+        let b = byte_at(request, at);
         return (b == 1) | (b == 255);
     }
     true

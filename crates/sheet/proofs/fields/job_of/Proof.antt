@@ -5,14 +5,14 @@ use Rattle.sheet.specs.Fields.{job-of}
 use Rattle.sheet.proofs.fields.job_of.Statement.{statement}
 use Rattle.sheet.proofs.fields.job_of.Tie as tie
 
-byte-in-requires : tie.Need-byte-in-requires
-byte-in-requires c = search needs
+byte-at-requires : tie.Need-byte-at-requires
+byte-at-requires c = search needs
 
-byte-in-requires-2 : tie.Need-byte-in-requires-2
-byte-in-requires-2 c = search needs
+byte-at-requires-2 : tie.Need-byte-at-requires-2
+byte-at-requires-2 c = search needs
 
-byte-in-requires-3 : tie.Need-byte-in-requires-3
-byte-in-requires-3 c = search needs
+byte-at-requires-3 : tie.Need-byte-at-requires-3
+byte-at-requires-3 c = search needs
 
 rotation-of-requires : tie.Need-rotation-of-requires
 rotation-of-requires c = search needs
@@ -41,7 +41,7 @@ joint-at-requires-6 c = λ κs. (c .before .before .before .before .before .befo
 
 returns : tie.Need-returns
 unfolding job-of
-returns c = simp (← c .before .before .before .before .before .before .before .before .before .before .byte-in .ensures, ← c .before .before .before .before .before .before .before .before .before .byte-in2 .ensures, ← c .before .before .before .before .before .before .before .before .byte-in3 .ensures, ← c .before .before .before .before .before .before .before .rotation-of .ensures, ← c .before .before .before .before .before .before .arm-of .ensures, ← c .before .before .before .before .before .joint-at .ensures, ← c .before .before .before .before .joint-at2 .ensures, ← c .before .before .before .joint-at3 .ensures, ← c .before .before .joint-at4 .ensures, ← c .before .joint-at5 .ensures, ← c .joint-at6 .ensures)
+returns c = simp (← c .before .before .before .before .before .before .before .before .before .before .byte-at .ensures, ← c .before .before .before .before .before .before .before .before .before .byte-at2 .ensures, ← c .before .before .before .before .before .before .before .before .byte-at3 .ensures, ← c .before .before .before .before .before .before .before .rotation-of .ensures, ← c .before .before .before .before .before .before .arm-of .ensures, ← c .before .before .before .before .before .joint-at .ensures, ← c .before .before .before .before .joint-at2 .ensures, ← c .before .before .before .joint-at3 .ensures, ← c .before .before .joint-at4 .ensures, ← c .before .joint-at5 .ensures, ← c .joint-at6 .ensures)
 
 pub job-of-spec : {M : Type 1} → statement M
-job-of-spec = tie.close (tie.spec byte-in-requires byte-in-requires-2 byte-in-requires-3 rotation-of-requires arm-of-requires joint-at-requires joint-at-requires-2 joint-at-requires-3 joint-at-requires-4 joint-at-requires-5 joint-at-requires-6 returns)
+job-of-spec = tie.close (tie.spec byte-at-requires byte-at-requires-2 byte-at-requires-3 rotation-of-requires arm-of-requires joint-at-requires joint-at-requires-2 joint-at-requires-3 joint-at-requires-4 joint-at-requires-5 joint-at-requires-6 returns)

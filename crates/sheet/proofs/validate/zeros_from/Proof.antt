@@ -18,17 +18,17 @@ abbrev μ-loop : tie.MeasureT-loop
 loop-holds : tie.Need-loop-holds Inv-loop μ-loop
 loop-holds c = (omega arith, rw (sub-zero, add-zero))
 
-add-byte-in : tie.Need-add-byte-in Inv-loop μ-loop
-add-byte-in c = omega arith
+add-byte-at : tie.Need-add-byte-at Inv-loop μ-loop
+add-byte-at c = omega arith
 
-byte-in-requires : tie.Need-byte-in-requires Inv-loop μ-loop
-byte-in-requires c = omega arith
+byte-at-requires : tie.Need-byte-at-requires Inv-loop μ-loop
+byte-at-requires c = omega arith
 
 returns : tie.Need-returns Inv-loop μ-loop
 returns c =
     let b = c .before .before .before in
     let a = b .before .before .args in
-    all-stop (zero-at (a .request .now)) (a .n - (b .loop .i + 1)) _ _ (omega arith) (ne-eqb _ _ (λ q. c .if1 .taken (c .before .byte-in .ensures ∙ q))) ∙ b .loop .inv .1
+    all-stop (zero-at (a .request .now)) (a .n - (b .loop .i + 1)) _ _ (omega arith) (ne-eqb _ _ (λ q. c .if1 .taken (c .before .byte-at .ensures ∙ q))) ∙ b .loop .inv .1
 
 add-i : tie.Need-add-i Inv-loop μ-loop
 add-i c = omega arith
@@ -40,7 +40,7 @@ loop-again : tie.Need-loop-again Inv-loop μ-loop
 loop-again c =
     let b = c .before .before .before in
     let a = b .before .before .args in
-    (omega arith, all-turn (zero-at (a .request .now)) _ _ _ _ (omega arith) (omega arith) (eq-eqb _ _ (sym (c .before .byte-in .ensures) ∙ c .if1 .left)) ∙ b .loop .inv .1)
+    (omega arith, all-turn (zero-at (a .request .now)) _ _ _ _ (omega arith) (omega arith) (eq-eqb _ _ (sym (c .before .byte-at .ensures) ∙ c .if1 .left)) ∙ b .loop .inv .1)
 
 returns-2 : tie.Need-returns-2 Inv-loop μ-loop
 returns-2 c =
@@ -54,8 +54,8 @@ zeros-from-spec =
     Inv-loop
     μ-loop
     loop-holds
-    add-byte-in
-    byte-in-requires
+    add-byte-at
+    byte-at-requires
     returns
     add-i
     loop-less
