@@ -17,12 +17,15 @@ abbrev pub answer-of : Checked → Answer
 answer-of (checked.Accepted n) = accepted n
 answer-of (checked.Refused f) = refused (fault-number f)
 
--- the trailer, the n that it says, and the request inside, before it
+-- the trailer, the n and the edition that it says, and the request inside, before it
 abbrev pub trailer-of : List ℕ → List ℕ
 trailer-of s = part (length s - trailer-size) trailer-size s
 
 abbrev pub count-of : List ℕ → ℕ
 count-of s = le (part (length s - trailer-size) 4 s)
+
+abbrev pub edition-of : List ℕ → ℕ
+edition-of s = le (part 8 2 (trailer-of s))
 
 abbrev pub request-of : List ℕ → List ℕ
 request-of s = part (length s - frame-size) request-size s

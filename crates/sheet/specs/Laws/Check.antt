@@ -1,22 +1,22 @@
 -- The refusals of Check one by one, and the parts of a sheet.
 use Prim.Native.Nat.{ℕ, _+_, _-_, _*_, _≤_, _<_}
 use native.Mathlib.Omega.{arith}
-use mathlib.Core.Path.{_≡_, sym, ap, _∙_}
-use mathlib.Core.List.{List}
-use mathlib.Core.Bool.{true, false}
-use lib.ListN.{length, take, drop}
-use lib.Seq.{sets}
+use mathlib.Core.Path.{_≡_, refl, sym, ap, _∙_}
+use mathlib.Core.List.{List, _++_, append-assoc}
+use mathlib.Core.Bool.{Bool, true, false}
+use lib.ListN.{length, take, drop, length-append}
+use lib.Seq.{sets, take-at, drop-at}
 use lib.Dec.{eqb, ltb}
 use borrow.Author.Tests.{eqb-true, eq-eqb, ne-eqb, le-leb, lt-leb, lt-ltb, le-ltb}
-use Rattle.sheet.specs.Bytes.{part, same-bytes}
+use Rattle.sheet.specs.Bytes.{le, bytes, part, same-bytes}
 use Rattle.sheet.specs.Refusals.{refused, need}
-use Rattle.sheet.specs.Sheet.{trailer, trailer-size, frame-size, items-bound}
+use Rattle.sheet.specs.Sheet.{trailer, trailer-size, frame-size, edition, items-bound}
 use Rattle.sheet.specs.Request.{core-size, request-size}
 use Rattle.sheet.specs.Sampling.{sheet-size}
-use Rattle.sheet.specs.Check.{count-of, request-of, items-of, formed, answer}
+use Rattle.sheet.specs.Check.{trailer-of, count-of, edition-of, request-of, items-of, formed, answer}
 use Rattle.sheet.specs.Promises.Plan.{compared, checked}
-use Rattle.float.specs.Laws.Tests.{and-left}
-use Rattle.sheet.specs.Laws.Bytes.{sets-all}
+use Rattle.float.specs.Laws.Tests.{and-left, and-right}
+use Rattle.sheet.specs.Laws.Bytes.{sets-all, length-bytes, same-is}
 use Rattle.sheet.specs.Laws.Sheet.{length-trailer}
 
 -- ---- 31 and 32
@@ -56,6 +56,32 @@ formed-by s z b n e h w l f =
     let k : length s ≡ sheet-size (count-of s) = h ∙ ap sheet-size e in
     let v : ltb (count-of s) items-bound ≡ true = lt-ltb (count-of s) items-bound (omega (arith, e)) in
     rw (eq-eqb (length s) (sheet-size (count-of s)) k, v, g, length-trailer n) (ap (λ (m : ℕ). same-bytes (part (length s - trailer-size) trailer-size s) (trailer m)) e)
+
+-- ---- the edition
+
+-- the trailer's bytes 8 and 9
+edition-in : (n : ℕ) → part 8 2 (trailer n) ≡ bytes 2 edition
+unfolding trailer
+edition-in n =
+    let a = bytes 4 n ++ bytes 4 (8 * n) in
+    let l : length a ≡ 8 = omega (arith, length-append (bytes 4 n) (bytes 4 (8 * n)), length-bytes 4 n, length-bytes 4 (8 * n)) in
+    ap (take 2) (ap (drop 8) (append-assoc a (bytes 2 edition) (bytes 6 0)) ∙ drop-at a (bytes 2 edition ++ bytes 6 0) 8 l)
+    ∙ take-at (bytes 2 edition) (bytes 6 0) 2 (length-bytes 2 edition)
+
+-- a formed sheet says this edition
+formed-edition : (s : List ℕ) → formed s ≡ true → edition-of s ≡ edition
+unfolding formed le bytes
+formed-edition s e =
+    let t : trailer-of s ≡ trailer (count-of s) =
+    same-is _ _ (and-right (ltb (count-of s) items-bound) _ (and-right (eqb (length s) (sheet-size (count-of s))) _ e)) in
+    ap (λ (l : List ℕ). le (part 8 2 l)) t ∙ ap le (edition-in (count-of s))
+
+pub other-edition : (s : List ℕ) (places : ℕ) → core-size + trailer-size ≤ length s → (edition-of s ≡ edition → ⊥) → answer s places ≡ refused 32
+other-edition s places h n = go (formed s) refl
+  where
+    go : (b : Bool) → formed s ≡ b → answer s places ≡ refused 32
+    go true e = absurd (n (formed-edition s e))
+    go false e = sym (answer-trailer s places h e)
 
 -- ---- the parts of a sheet
 

@@ -4,7 +4,7 @@ use native.Mathlib.Omega.{arith}
 use mathlib.Core.Path.{_≡_, refl, sym, ap, _∙_}
 use mathlib.Core.Logic.{_↔_}
 use mathlib.Core.List.{List}
-use mathlib.Core.Bool.{true}
+use mathlib.Core.Bool.{Bool, true, false}
 use lib.ListN.{length, take, drop}
 use lib.Seq.{take-at, length-take-le}
 use lib.Dec.{eqb, leb, ltb}
@@ -14,12 +14,12 @@ use Rattle.sampling.specs.Laws.Angles.{angles-few}
 use Rattle.sheet.specs.Bytes.{words-bytes, same-bytes}
 use Rattle.sheet.specs.Request.{core-size, blank, Agree}
 use Rattle.sheet.specs.Fields.{job-of, rotation-of, matrix}
-use Rattle.sheet.specs.Validate.{head-right}
+use Rattle.sheet.specs.Validate.{head-right, validate}
 use Rattle.sheet.specs.Refusals.{Answer, accepted, need}
 use Rattle.sheet.specs.Sheet.{trailer, trailer-size, frame-size, items-bound}
-use Rattle.sheet.specs.Sampling.{angles, items, cut-count, answer, before-output, sheet, sheet-size, output-after}
+use Rattle.sheet.specs.Sampling.{angles, items, cut-count, by-request, by-work, answer, before-output, sheet, sheet-size, output-after}
 use Rattle.sheet.specs.Check.{trailer-of, count-of, request-of, items-of, formed, meets-none, clean}
-use Rattle.sheet.specs.Demands.{Leaves, Counted, Sound, Complete, Exact, Few, SameAnswer, SameAngles, SameSheet, Together}
+use Rattle.sheet.specs.Demands.{Within, Answers, Leaves, Counted, OtherEdition, Sound, Complete, Exact, Few, SameAnswer, SameAngles, SameSheet, Together}
 use Rattle.sheet.specs.Promises.Plan.{compared, checked}
 use Rattle.sheet.specs.Laws.Bytes.{length-words-bytes, same-is, same-itself}
 use Rattle.sheet.specs.Laws.Agree.{agree-blank, blank-agree, agree-own, blank-twice}
@@ -31,8 +31,51 @@ use Rattle.sheet.specs.Laws.Alike.{angles-same, items-same, answer-same,
 use Rattle.sheet.specs.Laws.Accepted.{work-passed, work-holds, work-fits, work-on, before-passed, before-count, answer-passed, answer-count, meets-passed}
 use Rattle.sheet.specs.Laws.Written.{cut, size, items-in, request-in, count-in, formed-in}
 use Rattle.sheet.specs.Check as Check
+use Rattle.sheet.specs.Laws.Check as checks
 
 -- ---- demands 1 and 2
+
+need-within : (least most : ℕ) (b : Bool) (k : ℕ) (v : Answer) → least ≤ k → k ≤ most → Within least most v → Within least most (need b k v)
+unfolding need
+need-within least most true k v l m w = w
+need-within least most false k v l m w = (l, m)
+
+-- one refusal of Sampling, and one of Check
+sampling-within : (b : Bool) (k : ℕ) (v : Answer) → 1 ≤ k → k ≤ 11 → Within 1 11 v → Within 1 11 (need b k v)
+sampling-within = need-within 1 11
+
+check-within : (b : Bool) (k : ℕ) (v : Answer) → 31 ≤ k → k ≤ 36 → Within 31 36 v → Within 31 36 (need b k v)
+check-within = need-within 31 36
+
+validate-within : (r : List ℕ) (v : Answer) → Within 1 11 v → Within 1 11 (validate r v)
+unfolding validate
+validate-within r v w =
+    sampling-within _ 1 _ (omega arith) (omega arith)
+    (sampling-within _ 2 _ (omega arith) (omega arith)
+    (sampling-within _ 3 _ (omega arith) (omega arith)
+    (sampling-within _ 4 _ (omega arith) (omega arith)
+    (sampling-within _ 5 _ (omega arith) (omega arith)
+    (sampling-within _ 6 _ (omega arith) (omega arith)
+    (sampling-within _ 7 _ (omega arith) (omega arith)
+    (sampling-within _ 8 v (omega arith) (omega arith) w)))))))
+
+pub answers : Answers
+unfolding answer by-work by-request Check.answer
+answers =
+    record {
+      sampling = λ r places room.
+          validate-within r _
+          (sampling-within _ 9 _ (omega arith) (omega arith)
+          (sampling-within _ 10 _ (omega arith) (omega arith)
+          (sampling-within _ 11 (accepted (length (items r))) (omega arith) (omega arith) tt)));
+      check = λ s places.
+          check-within _ 31 _ (omega arith) (omega arith)
+          (check-within _ 32 _ (omega arith) (omega arith)
+          (check-within _ 33 _ (omega arith) (omega arith)
+          (check-within _ 34 _ (omega arith) (omega arith)
+          (check-within _ 35 _ (omega arith) (omega arith)
+          (check-within _ 36 (accepted (count-of s)) (omega arith) (omega arith) tt)))));
+    }
 
 pub leaves : Leaves
 leaves r output k = refl
@@ -116,6 +159,9 @@ complete r places n e =
     ∙ checked-own (blank r) (count-of (sheet r)) n places (sym (before-same r (blank r) own places) ∙ e) (blank-twice r (p .whole))
     ∙ ap accepted c
 
+pub other-edition : OtherEdition
+other-edition = checks.other-edition
+
 pub exact : Exact
 exact s places n = (sound s places n, λ h. ap (λ (x : List ℕ). Check.answer x places) (h .0) ∙ complete (request-of s) places n (h .1))
 
@@ -148,12 +194,14 @@ sheet-first r x x₀ places room n a p q e =
     ap (take (sheet-size n)) (q ∙ ap (λ (v : Answer). output-after v r x₀) e)
     ∙ take-at (sheet r) (drop (sheet-size n) x₀) (sheet-size n) (counted r places room n (sym p ∙ e) .1)
 
-pub together : (r s x y x₀ y₀ : List ℕ) (places : ℕ) (a b : Answer) → length x ≡ length x₀ → length y ≡ length y₀
-    → a ≡ answer r places (length x₀) → b ≡ answer s places (length y₀) → x ≡ output-after a r x₀ → y ≡ output-after b s y₀ → Together r s a b x y
-together r s x y x₀ y₀ places a b k l p q e f =
+pub together : (r s x y x₀ y₀ : List ℕ) (places places′ : ℕ) (a b : Answer) → length x ≡ length x₀ → length y ≡ length y₀
+    → a ≡ answer r places (length x₀) → b ≡ answer s places′ (length y₀) → x ≡ output-after a r x₀ → y ≡ output-after b s y₀
+    → Together r s places places′ a b x y
+together r s x y x₀ y₀ places places′ a b k l p q e f =
     record {
-      answers = λ h g. p ∙ same-answer r s g places (length x₀) ∙ ap (answer s places) (sym k ∙ h ∙ l) ∙ sym q;
+      answers = λ j h g.
+          p ∙ same-answer r s g places (length x₀) ∙ ap (answer s places) (sym k ∙ h ∙ l) ∙ ap (λ (i : ℕ). answer s i (length y₀)) j ∙ sym q;
       sheets = λ n m h i.
-          let t : (sheet r ≡ sheet s) ↔ Agree r s = same-sheet r s places (length x₀) n places (length y₀) m (sym p ∙ h) (sym q ∙ i) in
-          rw (sheet-first r x x₀ places (length x₀) n a p e h, sheet-first s y y₀ places (length y₀) m b q f i) t;
+          let t : (sheet r ≡ sheet s) ↔ Agree r s = same-sheet r s places (length x₀) n places′ (length y₀) m (sym p ∙ h) (sym q ∙ i) in
+          rw (sheet-first r x x₀ places (length x₀) n a p e h, sheet-first s y y₀ places′ (length y₀) m b q f i) t;
     }
