@@ -22,3 +22,4 @@ pub mod FewCuts
 pub mod SmallCuts
 pub mod Reference
 pub mod Angles
+pub mod Reads

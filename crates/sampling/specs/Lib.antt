@@ -23,6 +23,7 @@ pub mod CriticalSlices
 pub mod Slices
 pub mod J1j2free
 pub mod Angles
+pub mod Reads
 pub mod Laws
 pub mod Promises
 mod Examples

@@ -209,9 +209,9 @@ module _ (f : Free) where
       either (finite (f .near)) (interval-cuts (f .near) (One.roots f) range) [] most (omega arith)
 
   -- A free joint has at most 2,544 cuts: 4,096 places of work always do.
-  pub cut-count-few : One.cut-count f ≤ 2544
+  pub free-cuts-few : One.cut-count f ≤ 2544
   unfolding One.cut-count One.first-cuts One.second-cuts One.third-cuts
-  cut-count-few = omega (arith, one-few (One.intervals f .first), one-few (One.intervals f .second), one-few (One.intervals f .third))
+  free-cuts-few = omega (arith, one-few (One.intervals f .first), one-few (One.intervals f .second), one-few (One.intervals f .third))
 
   pub sample-angles-length : length (One.sample-angles f)
       ≡ sample-count (length (One.first-cuts f)) + sample-count (length (One.second-cuts f)) + sample-count (length (One.third-cuts f))
@@ -229,4 +229,4 @@ module _ (f : Free) where
       let a = sample-count-most (length (One.first-cuts f)) in
       let b = sample-count-most (length (One.second-cuts f)) in
       let c = sample-count-most (length (One.third-cuts f)) in
-      omega (arith, sample-angles-length, cut-count-few, a, b, c)
+      omega (arith, sample-angles-length, free-cuts-few, a, b, c)

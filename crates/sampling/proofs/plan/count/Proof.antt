@@ -16,9 +16,6 @@ enum-told c = search needs
 enum-told-2 : tie.Need-enum-told-2
 enum-told-2 c = search needs
 
-enum-told-3 : tie.Need-enum-told-3
-enum-told-3 c = search needs
-
 enum-known-plan : tie.Need-enum-known-plan
 enum-known-plan c = search needs
 
@@ -38,13 +35,10 @@ returns-2 : tie.Need-returns-2
 returns-2 c = search needs
 
 returns-3 : tie.Need-returns-3
-returns-3 c = search needs
+returns-3 c = let a = c .before .before .before .before .before .args in c .angle-count .ensures ∙ sym (all-samples-length (c .before .before .plan .given .0 .0) (a .work .now) (subst (λ (p : Plan). Ready p (a .work .now)) (c .before .before .plan .given .1) (c .before .before .before .before .before .pre))) ∙ ap (λ (p : Plan). length (to-come p (a .work .now) start)) (sym (c .before .before .plan .given .1))
 
 returns-4 : tie.Need-returns-4
-returns-4 c = let a = c .before .before .before .before .before .args in c .angle-count .ensures ∙ sym (all-samples-length (c .before .before .plan .given .0 .0) (a .work .now) (subst (λ (p : Plan). Ready p (a .work .now)) (c .before .before .plan .given .1) (c .before .before .before .before .before .pre))) ∙ ap (λ (p : Plan). length (to-come p (a .work .now) start)) (sym (c .before .before .plan .given .1))
-
-returns-5 : tie.Need-returns-5
-returns-5 c = let a = c .before .before .before .before .before .args in c .count-slices .ensures ∙ ap (λ (p : Plan). length (to-come p (a .work .now) start)) (sym (c .before .before .plan2 .given .1))
+returns-4 c = let a = c .before .before .before .before .before .args in c .count-slices .ensures ∙ ap (λ (p : Plan). length (to-come p (a .work .now) start)) (sym (c .before .before .plan2 .given .1))
 
 pub count-spec : {M : Type 1} → statement M
-count-spec = tie.close (tie.spec enum-told enum-told-2 enum-told-3 enum-known-plan angle-count-requires enum-known-plan-2 count-slices-requires returns returns-2 returns-3 returns-4 returns-5)
+count-spec = tie.close (tie.spec enum-told enum-told-2 enum-known-plan angle-count-requires enum-known-plan-2 count-slices-requires returns returns-2 returns-3 returns-4)

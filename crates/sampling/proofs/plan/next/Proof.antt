@@ -12,9 +12,6 @@ enum-told c = search needs
 enum-told-2 : tie.Need-enum-told-2
 enum-told-2 c = search needs
 
-enum-told-3 : tie.Need-enum-told-3
-enum-told-3 c = search needs
-
 enum-known-plan : tie.Need-enum-known-plan
 enum-known-plan c = search needs
 
@@ -34,13 +31,10 @@ returns-2 : tie.Need-returns-2
 returns-2 c = search needs
 
 returns-3 : tie.Need-returns-3
-returns-3 c = search needs
+returns-3 c = let a = c .before .before .before .before .before .args in subst (λ (p : Plan). Gives (to-come p (a .work .now) (a .c)) (to-come p (a .work .now)) (c .next-sample .result)) (sym (c .before .before .plan .given .1)) (c .next-sample .ensures)
 
 returns-4 : tie.Need-returns-4
-returns-4 c = let a = c .before .before .before .before .before .args in subst (λ (p : Plan). Gives (to-come p (a .work .now) (a .c)) (to-come p (a .work .now)) (c .next-sample .result)) (sym (c .before .before .plan .given .1)) (c .next-sample .ensures)
-
-returns-5 : tie.Need-returns-5
-returns-5 c = let a = c .before .before .before .before .before .args in subst (λ (p : Plan). Gives (to-come p (a .work .now) (a .c)) (to-come p (a .work .now)) (c .next-slice .result)) (sym (c .before .before .plan2 .given .1)) (c .next-slice .ensures)
+returns-4 c = let a = c .before .before .before .before .before .args in subst (λ (p : Plan). Gives (to-come p (a .work .now) (a .c)) (to-come p (a .work .now)) (c .next-slice .result)) (sym (c .before .before .plan2 .given .1)) (c .next-slice .ensures)
 
 pub next-spec : {M : Type 1} → statement M
-next-spec = tie.close (tie.spec enum-told enum-told-2 enum-told-3 enum-known-plan next-sample-requires enum-known-plan-2 next-slice-requires returns returns-2 returns-3 returns-4 returns-5)
+next-spec = tie.close (tie.spec enum-told enum-told-2 enum-known-plan next-sample-requires enum-known-plan-2 next-slice-requires returns returns-2 returns-3 returns-4)
