@@ -36,9 +36,7 @@ fn right(s: Shape) -> bool
 {
     match s {
         Shape::Bad => false,
-        Shape::One(_, _) => true,
-        Shape::Two(_, _) => true,
-        Shape::Three(_, _) => true,
+        Shape::Right(_, _, _) => true,
     }
 }
 
