@@ -5,7 +5,7 @@
 -- `Samples` (roots one by one, the sample at each position), `Few` (how many boundary angles, cuts and angles of one free joint at most), `CriticalSlices` (roots and curves one by one),
 -- `Weave` (a list with the middles of its neighbours: its values, its length, its places),
 -- `Slices` (the values at which joint 1 is tried are what the stream has; how many at most; the reference is among them),
--- `Woven` (the cuts of values within ±64 can be streamed), `Plan` (angles read off cuts one at a time), `Cutting` (lists of cuts that stand one after the other), `J1j2free` (the cuts of a half as those of one list),
+-- `Least`, `Heads` and `Step` (a step of the stream gives the first of what is to come), `Woven` (the cuts of values within ±64 can be streamed), `Plan` (angles read off cuts one at a time), `Cutting` (lists of cuts that stand one after the other), `J1j2free` (the cuts of a half as those of one list),
 -- `FewCuts` (how many curves, bends and cuts of two free joints at most), `SmallCuts` (the cuts of both halves can be streamed), `Reference` (joint 1's reference as a model angle lies within P), `Planned` (what came of a job's cuts is the job's),
 -- `Angles` (a job has fewer than 2 ^ 29 angles; kind 3 tries the reference).
 pub mod Intervals
@@ -15,6 +15,9 @@ pub mod Samples
 pub mod Few
 pub mod Weave
 pub mod Slices
+pub mod Least
+pub mod Heads
+pub mod Step
 pub mod Woven
 pub mod Plan
 pub mod J1j2free

@@ -4,9 +4,9 @@ ghost use mathlib.Core.List.{[], _++_};
 ghost use Prim.Native.Nat.{_+_, _≤_};
 ghost use lib.ListN.{length, drop, take};
 ghost use Rattle.sampling.specs.Angles.{first-free, second-free, cut-count};
-ghost use Rattle.sampling.specs.Promises.Plan.{all-samples, to-come, Streamable, Ready, Gives, all-cuts, where-laid, zeros};
+ghost use Rattle.sampling.specs.Promises.Plan.{to-come, Streamable, Ready, all-cuts, where-laid, zeros};
 ghost use Rattle.sampling.specs.Promises.Plan as Of;
-ghost use Rattle.sampling.specs.Promises.Stream.{distinct, start};
+ghost use Rattle.sampling.specs.Promises.Stream.{distinct, next, start};
 use crate::j1free;
 use crate::j1j2free;
 use crate::j1j2free::folded_of;
@@ -42,7 +42,7 @@ pub enum Plan {
 
 fn next_sample(work: &[f64], n: Lists, c: Cursor) -> Step
     requires { ⌜ n .first + n .second + n .third ≤ length (now work) ⌝ }
-    ensures { λ s. ⌜ Gives (drop (c .i) (all-samples n (now (work .entry)))) (λ d. drop (d .i) (all-samples n (now (work .entry)))) s ⌝ }
+    ensures { λ s. ⌜ s ≡ Of.sample-step n (now (work .entry)) c ⌝ }
 {
     let i = c.i;
     if i < angle_count(n) {
@@ -55,8 +55,8 @@ fn next_sample(work: &[f64], n: Lists, c: Cursor) -> Step
 }
 
 fn next_slice(work: &[f64], h: Halves, c: Cursor) -> Step
-    requires { ⌜ Streamable h (now work) ⌝ }
-    ensures { λ s. ⌜ Gives (distinct (take (h .first) (now (work .entry))) (take (h .second) (drop (h .first) (now (work .entry)))) (h .reference) c) (distinct (take (h .first) (now (work .entry))) (take (h .second) (drop (h .first) (now (work .entry)))) (h .reference)) s ⌝ }
+    requires { ⌜ h .first + h .second ≤ length (now work) ⌝ }
+    ensures { λ s. ⌜ s ≡ next (take (h .first) (now (work .entry))) (take (h .second) (drop (h .first) (now (work .entry)))) (h .reference) c ⌝ }
 {
     let first = h.first;
     let end = first + h.second;
@@ -82,7 +82,7 @@ pub fn start() -> Cursor
 // The next angle.
 pub fn next(work: &[f64], plan: Plan, c: Cursor) -> Step
     requires { ⌜ Ready plan (now work) ⌝ }
-    ensures { λ s. ⌜ Gives (to-come plan (now (work .entry)) c) (to-come plan (now (work .entry))) s ⌝ }
+    ensures { λ s. ⌜ s ≡ Of.step plan (now (work .entry)) c ⌝ }
 {
     match plan {
         Plan::Refused => Step::Done,

@@ -6,9 +6,9 @@ use Prim.Native.Nat.{ℕ, zero, suc, _+_, _≤_, _<_}
 use native.Mathlib.Nat.{add-zero, zero-add, suc-add}
 use native.Mathlib.Numerals.{add-one}
 use native.Mathlib.Omega.{arith}
-use borrow.Author.Tests.{le-leb}
-use lib.Dec.{T, leb}
-use lib.ListN.{length, take, drop, getD, length-append, length-drop, take-append-drop}
+use borrow.Author.Tests.{le-leb, ltb-true, ltb-false}
+use lib.Dec.{T, leb, ltb}
+use lib.ListN.{length, take, drop, getD, length-append, length-drop, drop-of-length-le}
 use lib.Seq.{length-take-le, drop-cons, take-at, drop-at, take-take}
 use lib.Ieee.{Float, nan, binary64, fits, isNan}
 use lib.Ieee.Fits.{add-fits}
@@ -19,14 +19,15 @@ use Rattle.sampling.specs.Slices.{slices}
 use Rattle.sampling.specs.SampleAngles as One
 use Rattle.sampling.specs.J1j2free as Two
 use Rattle.sampling.specs.Angles.{first-free, second-free, by-kind, angles, cut-count, hold}
-use Rattle.sampling.specs.Promises.Stream.{distinct, start, Woven, Steps}
-use Rattle.sampling.specs.Promises.Plan.{Moderate, lists-of, halves-of, free-plan, folded-plan, laid, free-cuts, folded-cuts, all-cuts, granted, plan, filled, zeros, where-laid, work-after, all-samples, to-come, Ready, Gives}
+use Rattle.sampling.specs.Promises.Stream.{distinct, start, next, Woven, Steps}
+use Rattle.sampling.specs.Promises.Plan.{Moderate, lists-of, halves-of, free-plan, folded-plan, laid, free-cuts, folded-cuts, all-cuts, granted, plan, by-plan, filled, zeros, where-laid, work-after, all-samples, to-come, Ready, sample-step, step, Gives}
 use Rattle.sampling.specs.Laws.Samples.{samples-length}
 use Rattle.sampling.specs.Laws.J1j2free.{half-fit, half-cuts-are}
 use Rattle.sampling.specs.Laws.Limits.{Ends, limits-ends}
 use Rattle.sampling.specs.Laws.Reference.{reference-fits, reference-number}
 use Rattle.sampling.specs.Laws.Slices.{halves-slices}
 use Rattle.sampling.specs.Laws.SmallCuts.{halves-woven}
+use Rattle.sampling.specs.Laws.Step.{next-steps}
 use Rattle.sampling.specs.declared.intervals.Range.{Range}
 use Rattle.sampling.specs.declared.intervals.Range.the-variants.{Nothing, Between}
 use Rattle.sampling.specs.declared.j1j2free.Folded.{Folded}
@@ -66,7 +67,7 @@ pub step-here : (l : List Float) (i : ℕ) → i < length l → drop i l ≡ get
 step-here l i h = rw add-one (drop-cons l i nan h)
 
 -- a step of the stream
-pub gives : (s : List Float) (f : Cursor → List Float) (t : Step) → Steps s f t → Gives s f t
+gives : (s : List Float) (f : Cursor → List Float) (t : Step) → Steps s f t → Gives s f t
 gives s f Done e = e
 gives s f (Yield y c) e = e .0
 
@@ -120,6 +121,7 @@ record Streams (t : Folded) (lower upper : Float) : Type 0 where
   first : Woven (Two.first-half t lower upper)
   second : Woven (Two.second-half t lower upper)
   number : T (not (isNan (t .reference)))
+  fit : T (fits binary64 (t .reference))
   same : distinct (Two.first-half t lower upper) (Two.second-half t lower upper) (t .reference) start ≡ slices (t .reference) lower upper (Two.first-half t lower upper) (Two.second-half t lower upper)
 
 -- the limits were pushed into the halves
@@ -135,6 +137,7 @@ streams t lower upper e fit real =
       first = woven .0;
       second = woven .1;
       number = real;
+      fit = fit;
       same =
           rw (p, q)
           (halves-slices (t .reference) lower upper m _ _ _ _ refl refl fit (finite-number lower (e .lower-within .real)) (finite-number upper (e .upper-within .real))
@@ -156,6 +159,7 @@ two-drawn holds t lower upper w h =
       first = subst Woven (sym (parts .0)) (h .first);
       second = subst Woven (sym (parts .1)) (h .second);
       number = h .number;
+      fit = h .fit;
     })
     (ap₂ (λ (x y : List Float). distinct x y (t .reference) start) (parts .0) (parts .1) ∙ h .same) (λ x y. refl) holds
 
@@ -209,6 +213,32 @@ module _ (w : List Float) where
     pub plan-yields : hold job ≡ true → cut-count job ≤ length w → to-come (plan job (length w)) (work-after job w) start ≡ angles job
     unfolding plan work-after
     plan-yields = job-drawn .yields
+
+-- ---- what came of the cuts
+
+module _ {A : Type 0} (refused short found : A) where
+  laid-by : (job : Job) → by-plan (laid job) refused short found ≡ found
+  unfolding laid free-plan folded-plan
+  laid-by job = go (job .kind)
+    where
+      both : (t : Folded) (g : Range)
+          → by-plan (Two.on-interval g (lists-of [] [] []) (λ lower upper. halves-of (t .reference) (Two.first-half t lower upper) (Two.second-half t lower upper))) refused short found ≡ found
+      both t Nothing = refl
+      both t (Between lower upper) = refl
+
+      go : (k : Kind) → by-plan (by-kind k (free-plan (first-free job)) (free-plan (second-free job)) (folded-plan (Two.folded job))) refused short found ≡ found
+      go J1free = refl
+      go J2free = refl
+      go J1j2free = both (Two.folded job) (Two.folded job .range1)
+
+  pub plan-by : (job : Job) (places : ℕ) → by-plan (plan job places) refused short found ≡ cond (hold job) (cond (leb (cut-count job) places) found short) refused
+  unfolding plan
+  plan-by job places = go (hold job) (leb (cut-count job) places)
+    where
+      go : (h t : Bool) → by-plan (cond h (cond t (laid job) of.Short) of.Refused) refused short found ≡ cond h (cond t found short) refused
+      go false t = refl
+      go true false = refl
+      go true true = laid-by job
 
 -- ---- how many places the cuts take
 
@@ -266,3 +296,25 @@ to-come-front (of.Halves h) w c =
     let a = take-take (h .first) k w (omega arith) in
     let b = part-front (h .first) (h .second) k w (omega arith) in
     rw (a, b)
+
+-- ---- a step
+
+sample-gives : (n : Lists) (w : List Float) (c : Cursor) → Gives (drop (c .i) (all-samples n w)) (λ d. drop (d .i) (all-samples n w)) (sample-step n w c)
+unfolding sample-step
+sample-gives n w c = go (ltb (c .i) (length (all-samples n w))) refl
+  where
+    go : (b : Bool) → ltb (c .i) (length (all-samples n w)) ≡ b
+        → Gives (drop (c .i) (all-samples n w)) (λ d. drop (d .i) (all-samples n w))
+        (cond b (Yield (getD (all-samples n w) (c .i) nan) (record { i = c .i + 1; j = c .j; used = c .used; last = c .last })) Done)
+    go true e = step-here (all-samples n w) (c .i) (ltb-true (c .i) (length (all-samples n w)) e)
+    go false e = drop-of-length-le (all-samples n w) (ltb-false (c .i) (length (all-samples n w)) e)
+
+-- THEOREM: A step gives the first of what is to come, and leaves the rest.
+pub step-gives : (p : Plan) (w : List Float) (c : Cursor) → Ready p w → Gives (to-come p w c) (to-come p w) (step p w c)
+step-gives of.Refused w c g = refl
+step-gives of.Short w c g = refl
+step-gives (of.Lists n) w c g = sample-gives n w c
+step-gives (of.Halves h) w c g =
+    let a = take (h .first) w in
+    let b = take (h .second) (drop (h .first) w) in
+    gives (distinct a b (h .reference) c) (distinct a b (h .reference)) (next a b (h .reference) c) (next-steps a b (h .reference) (g .first) (g .second) (g .number) (g .fit) c)

@@ -4,9 +4,9 @@ use mathlib.Core.Logic.{_⊎_}
 use mathlib.Core.Bool.{Bool, not, cond}
 use mathlib.Core.List.{List, [], _∷_, _++_}
 use Prim.Native.Nat.{ℕ, _+_, _≤_}
-use lib.Dec.{T, leb}
-use lib.ListN.{length, take, drop, replicate}
-use lib.Ieee.{Float, neg, isNan}
+use lib.Dec.{T, leb, ltb}
+use lib.ListN.{length, getD, take, drop, replicate}
+use lib.Ieee.{Float, binary64, nan, neg, isNan, fits}
 use lib.Ieee.Scale.{finite}
 use Rattle.float.specs.Number.{zero-float, one-float}
 use Rattle.float.specs.Promises.Order.{Within}
@@ -15,7 +15,7 @@ use Rattle.sampling.specs.Samples.{three-samples}
 use Rattle.sampling.specs.SampleAngles.{first-cuts, second-cuts, third-cuts}
 use Rattle.sampling.specs.J1j2free.{folded, first-half, second-half, on-interval}
 use Rattle.sampling.specs.Angles.{first-free, second-free, by-kind, cut-count, hold}
-use Rattle.sampling.specs.Promises.Stream.{distinct, Woven}
+use Rattle.sampling.specs.Promises.Stream.{distinct, next, Woven}
 use Rattle.sampling.specs.declared.j1j2free.Folded.{Folded}
 use Rattle.sampling.specs.declared.job.Job.{Job}
 use Rattle.sampling.specs.declared.job.Joint.{Joint}
@@ -71,6 +71,13 @@ granted holds count l places = cond holds (cond (leb count places) l of.Short) o
 unfoldable pub plan : Job → ℕ → Plan
 plan job places = granted (hold job) (cut-count job) (laid job) places
 
+-- what a plan has, by what came: refused, short, laid
+abbrev pub by-plan : {A : Type 0} → Plan → A → A → A → A
+by-plan of.Refused refused short found = refused
+by-plan of.Short refused short found = short
+by-plan (of.Lists n) refused short found = found
+by-plan (of.Halves h) refused short found = found
+
 -- how many places the cuts take
 abbrev pub filled : Plan → ℕ
 filled of.Refused = 0
@@ -86,10 +93,7 @@ zeros n = replicate n zero-float
 
 -- l where there are cuts to read, and other where the plan is refused or short
 abbrev pub where-laid : Plan → List Float → List Float → List Float
-where-laid of.Refused l other = other
-where-laid of.Short l other = other
-where-laid (of.Lists n) l other = l
-where-laid (of.Halves h) l other = l
+where-laid p l other = by-plan p other other l
 
 -- the cuts in front, and the rest as it was
 unfoldable pub work-after : Job → List Float → List Float
@@ -114,12 +118,27 @@ pub record Streamable (h : Halves) (w : List Float) : Type 0 where
   pub first : Woven (take (h .first) w)
   pub second : Woven (take (h .second) (drop (h .first) w))
   pub number : T (not (isNan (h .reference)))
+  pub fit : T (fits binary64 (h .reference))
 
 abbrev pub Ready : Plan → List Float → Type 0
 Ready of.Refused w = Unit {0}
 Ready of.Short w = Unit {0}
 Ready (of.Lists n) w = n .first + n .second + n .third ≤ length w
 Ready (of.Halves h) w = Streamable h w
+
+-- the sample at the cursor, and the cursor behind it
+unfoldable pub sample-step : Lists → List Float → Cursor → Step
+sample-step n w c =
+    cond (ltb (c .i) (length (all-samples n w)))
+    (Yield (getD (all-samples n w) (c .i) nan) (record { i = c .i + 1; j = c .j; used = c .used; last = c .last }))
+    Done
+
+-- the next angle and the cursor behind it, or the end; `Laws.Plan` has that it gives the first of what is to come
+abbrev pub step : Plan → List Float → Cursor → Step
+step of.Refused w c = Done
+step of.Short w c = Done
+step (of.Lists n) w c = sample-step n w c
+step (of.Halves h) w c = next (take (h .first) w) (take (h .second) (drop (h .first) w)) (h .reference) c
 
 -- a step from what was to come, s: its first value, with what is to come at the cursor behind it; or the end
 abbrev pub Gives : List Float → (Cursor → List Float) → Step → Type 0
