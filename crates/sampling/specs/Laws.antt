@@ -7,7 +7,7 @@
 -- `Slices` (the values at which joint 1 is tried are what the stream has; how many at most; the reference is among them),
 -- `Least`, `Heads` and `Step` (a step of the stream gives the first of what is to come), `Woven` (the cuts of values within ±64 can be streamed), `Plan` (angles read off cuts one at a time), `Cutting` (lists of cuts that stand one after the other), `J1j2free` (the cuts of a half as those of one list),
 -- `FewCuts` (how many curves, bends and cuts of two free joints at most), `SmallCuts` (the cuts of both halves can be streamed), `Reference` (joint 1's reference as a model angle lies within P), `Planned` (what came of a job's cuts is the job's),
--- `Angles` (a job has fewer than 2 ^ 29 angles; kind 3 tries the reference).
+-- `Fit` (the format holds every angle), `Angles` (a job has fewer than 2 ^ 29 angles; kind 3 tries the reference).
 pub mod Intervals
 pub mod Limits
 pub mod Pose
@@ -26,3 +26,4 @@ pub mod SmallCuts
 pub mod Reference
 pub mod Angles
 pub mod Reads
+pub mod Fit

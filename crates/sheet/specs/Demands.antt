@@ -1,4 +1,5 @@
--- The three demands as statements about the definitions that the contracts of Sampling and Check cite; `Laws.Demands` proves each. What stays with the contracts: that the code's answer, output and work are these definitions' (`sample::sample`, `check::check`).
+-- The three demands as statements about the definitions that the contracts of Sampling and Check cite; `Laws.Demands` proves each. What stays with the
+-- contracts: that the code's answer, output and work are these definitions' (`sample::sample`, `check::check`).
 use Prim.Native.Nat.{ℕ, _+_, _*_, _≤_, _<_}
 use mathlib.Core.Path.{_≡_}
 use mathlib.Core.List.{List}
@@ -70,9 +71,11 @@ SameAngles = (r s : List ℕ) → Agree r s → head-right r ≡ true → angles
 -- Two accepted requests give equal sheets exactly when they agree in what is read.
 abbrev pub SameSheet : Type 0
 SameSheet =
-    (r s : List ℕ) (places room n places′ room′ n′ : ℕ) → answer r places room ≡ accepted n → answer s places′ room′ ≡ accepted n′ → (sheet r ≡ sheet s) ↔ Agree r s
+    (r s : List ℕ) (places room n places′ room′ n′ : ℕ) → answer r places room ≡ accepted n → answer s places′ room′ ≡ accepted n′ → (sheet r ≡ sheet s) ↔
+    Agree r s
 
--- The same of two calls with requests r and s and so many work places each: their answers a and b, and their outputs x and y afterwards, of which a sheet is the first 8n + 280 bytes.
+-- The same of two calls with requests r and s and so many work places each: their answers a and b, and their outputs x and y afterwards, of which a sheet is
+-- the first 8n + 280 bytes.
 pub record Together (r s : List ℕ) (places places′ : ℕ) (a b : Answer) (x y : List ℕ) : Type 0 where
   pub answers : places ≡ places′ → length x ≡ length y → Agree r s → a ≡ b
   pub sheets : (n m : ℕ) → a ≡ accepted n → b ≡ accepted m → (take (sheet-size n) x ≡ take (sheet-size m) y) ↔ Agree r s

@@ -79,7 +79,8 @@ shape-from kind limits fixed = cond (eqb limits 0) (shape-fixed kind false fixed
 unfoldable pub shape-of : List ℕ → Shape
 shape-of r = shape-from (getD r 0 0) (getD r 1 0) (getD r 2 0)
 
--- ---- which fields are read: by kind and flags what sampling's `Reads` says, and limits, if present, for the joints whose signs are; under a wrong kind or flag none
+-- ---- which fields are read: by kind and flags what sampling's `Reads` says, and limits, if present, for the joints whose signs are; under a wrong kind or
+-- flag none
 
 unfoldable pub reads : Shape → Field → ℕ → Bool
 reads Bad f j = false

@@ -25,12 +25,14 @@ use Rattle.sampling.specs.Laws.Reads as Reads
 -- ---- what the job's kind and flags read is what the shape reads
 
 module _ (s : Shape) (h : right s ≡ true) where
-  pub job-reads : (k : ℕ) → (joint-read (kind-of s) (limited-of s) (fixed-of s) k ≡ reads s Sign k) × (joint-read (kind-of s) (limited-of s) (fixed-of s) k ≡ reads s Offset k)
+  pub job-reads : (k : ℕ) → (joint-read (kind-of s) (limited-of s) (fixed-of s) k ≡ reads s Sign k) ×
+    (joint-read (kind-of s) (limited-of s) (fixed-of s) k ≡ reads s Offset k)
   unfolding right reads kind-of limited-of fixed-of
   job-reads k = go s h
     where
       go : (s : Shape) → right s ≡ true
-          → (joint-read (kind-of s) (limited-of s) (fixed-of s) k ≡ reads s Sign k) × (joint-read (kind-of s) (limited-of s) (fixed-of s) k ≡ reads s Offset k)
+          → (joint-read (kind-of s) (limited-of s) (fixed-of s) k ≡ reads s Sign k) ×
+          (joint-read (kind-of s) (limited-of s) (fixed-of s) k ≡ reads s Offset k)
       go Bad e = absurd (false≢true e)
       go (Right kind limits fixed) e = (refl, refl)
 
@@ -51,12 +53,14 @@ module _ (s : Shape) (h : right s ≡ true) where
       go (Right kind limits fixed) e = refl
 
   job-limits : (k : ℕ)
-      → (limited-of s && joint-read (kind-of s) (limited-of s) (fixed-of s) k ≡ reads s From k) × (limited-of s && joint-read (kind-of s) (limited-of s) (fixed-of s) k ≡ reads s To k)
+      → (limited-of s && joint-read (kind-of s) (limited-of s) (fixed-of s) k ≡ reads s From k) ×
+      (limited-of s && joint-read (kind-of s) (limited-of s) (fixed-of s) k ≡ reads s To k)
   unfolding right reads kind-of limited-of fixed-of
   job-limits k = go s h
     where
       go : (s : Shape) → right s ≡ true
-          → (limited-of s && joint-read (kind-of s) (limited-of s) (fixed-of s) k ≡ reads s From k) × (limited-of s && joint-read (kind-of s) (limited-of s) (fixed-of s) k ≡ reads s To k)
+          → (limited-of s && joint-read (kind-of s) (limited-of s) (fixed-of s) k ≡ reads s From k) ×
+          (limited-of s && joint-read (kind-of s) (limited-of s) (fixed-of s) k ≡ reads s To k)
       go Bad e = absurd (false≢true e)
       go (Right kind limits fixed) e = (refl, refl)
 

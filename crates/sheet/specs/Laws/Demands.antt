@@ -119,7 +119,8 @@ sound s places n e =
     let h : frame-size ≤ length s = leb-true (core-size + trailer-size) (length s) (need-holds (leb (core-size + trailer-size) (length s)) 31 n _ e) in
     let g : formed s ≡ true = need-holds (formed s) 32 n _ f in
     let p = checked-parts (request-of s) (items-of s) (count-of s) n places (need-accepted (formed s) 32 n _ f) in
-    let t : trailer-of s ≡ trailer (count-of s) = same-is _ _ (and-right (ltb (count-of s) items-bound) _ (and-right (eqb (length s) (sheet-size (count-of s))) _ g)) in
+    let t : trailer-of s ≡ trailer (count-of s) = same-is _ _
+    (and-right (ltb (count-of s) items-bound) _ (and-right (eqb (length s) (sheet-size (count-of s))) _ g)) in
     let m : count-of s ≡ length (items (request-of s)) =
     omega
     (arith, formed-length s g, length-words-bytes (items (request-of s)), ap length (p .bytes), length-take-le (length s - frame-size) s (omega arith)) in

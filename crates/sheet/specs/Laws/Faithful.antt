@@ -17,7 +17,7 @@ use Rattle.sheet.specs.Sheet.{trailer}
 use Rattle.sheet.specs.Sampling.{angles, items, sheet}
 use Rattle.sheet.specs.Laws.Bytes.{length-bytes, le-bytes}
 use Rattle.sheet.specs.Laws.Sampling.{length-items}
-use Rattle.sheet.specs.Laws.Fit.{angles-fit}
+use Rattle.sampling.specs.Laws.Fit.{angles-fit}
 
 -- the i-th of several words
 word-in : (ws rest : List ℕ) (i d : ℕ) → i < length ws → part (8 * i) 8 (words-bytes ws ++ rest) ≡ bytes 8 (getD ws i d)

@@ -1,9 +1,9 @@
 -- What inner functions find of a request that passed its tests is what the definitions say of it.
 use Prim.Native.Nat.{ℕ, _≤_}
 use native.Mathlib.Omega.{arith}
-use mathlib.Core.Path.{_≡_, refl, sym, ap, _∙_}
+use mathlib.Core.Path.{_≡_, refl, sym, ap, subst, _∙_}
 use mathlib.Core.Logic.{_⊎_, inl, inr}
-use mathlib.Core.List.{List}
+use mathlib.Core.List.{List, [], _∷_}
 use mathlib.Core.Bool.{Bool, true, false, cond, _&&_, false≢true}
 use lib.ListN.{length, getD}
 use lib.Dec.{T, eqb, leb}
@@ -19,10 +19,12 @@ use Rattle.float.specs.Laws.Within.{Le→within}
 use Rattle.polynomial.specs.Angle.{turn}
 use Rattle.sampling.specs.Reads.{joint-read, reference-read}
 use Rattle.sampling.specs.Promises.Stream.{start}
-use Rattle.sampling.specs.Promises.Plan.{Moderate, plan, work-after, to-come}
-use Rattle.sampling.specs.Laws.Plan.{plan-ready, plan-yields}
-use Rattle.sheet.specs.Laws.Tmp.{plan-by}
+use Rattle.sampling.specs.Promises.Plan.{Moderate, plan, work-after, to-come, Ready, Gives, step}
+use Rattle.sampling.specs.Laws.Plan.{plan-by, plan-ready, plan-yields, step-gives}
 use Rattle.sampling.specs.declared.plan.Plan.{Plan}
+use Rattle.sampling.specs.declared.stream.Cursor.{Cursor}
+use Rattle.sampling.specs.declared.stream.Step.{Step}
+use Rattle.sampling.specs.declared.stream.Step.the-variants.{Yield, Done}
 use Rattle.sampling.specs.declared.job.Kind.the-variants.{J1free, J2free, J1j2free}
 use Rattle.sheet.specs.declared.refusals.Refusal.{Refusal}
 use Rattle.sheet.specs.declared.request.Shape.{Shape}
@@ -154,6 +156,18 @@ module _ (r : List ℕ) (p : Plan) (w : List Float) (g : PlannedFor r p w) where
       pub found-items : floats-bytes (to-come p w start) ≡ words-bytes (items r)
       unfolding items
       found-items = ap floats-bytes found-angles ∙ floats-words (angles r)
+
+-- ---- the angles one at a time
+
+module _ (p : Plan) (w : List Float) (c : Cursor) (t : Step) (g : Ready p w) (e : t ≡ step p w c) where
+  gives : (s : Step) → t ≡ s → Gives (to-come p w c) (to-come p w) s
+  gives s f = subst (Gives (to-come p w c) (to-come p w)) (sym e ∙ f) (step-gives p w c g)
+
+  pub step-yields : (y : Float) (d : Cursor) → t ≡ Yield y d → to-come p w c ≡ y ∷ to-come p w d
+  step-yields y d f = gives (Yield y d) f
+
+  pub step-done : t ≡ Done → to-come p w c ≡ []
+  step-done f = gives Done f
 
 -- ---- Sampling
 

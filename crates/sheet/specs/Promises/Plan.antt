@@ -7,8 +7,7 @@ use lib.ListN.{length}
 use lib.Dec.{leb}
 use lib.Ieee.{Float}
 use Rattle.sampling.specs.Promises.Stream.{start}
-use Rattle.sampling.specs.Promises.Plan.{plan, Ready, to-come}
-use Rattle.sheet.specs.Promises.Tmp.{by-plan}
+use Rattle.sampling.specs.Promises.Plan.{by-plan, plan, Ready, to-come}
 use Rattle.sampling.specs.declared.plan.Plan.{Plan}
 use Rattle.sheet.specs.Bytes.{words-bytes, same-bytes}
 use Rattle.sheet.specs.Fields.{job-of}

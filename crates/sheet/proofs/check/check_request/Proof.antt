@@ -29,7 +29,8 @@ same-length c = search needs
 returns : tie.Need-returns
 unfolding checked need
 returns c =
-    let e = sym (c .before .before .before .before .before .before .before .before .before .validate .ensures) ∙ c .before .before .before .before .before .before .before .t .given .1 in
+    let e = sym (c .before .before .before .before .before .before .before .before .before .validate .ensures)
+    ∙ c .before .before .before .before .before .before .before .t .given .1 in
     let p = c .before .before .before .before .plan-request in
     let g = tested-passed _ _ e in
     let f = planned-for _ g (p .result) (c .before .before .before .before .before .before .before .before .before .before .before .before .before .args .work .now) (p .last .0) (p .ensures .0) (p .ensures .1) (p .kept .0) in
@@ -37,7 +38,8 @@ returns c =
 
 compare-requires : tie.Need-compare-requires
 compare-requires c =
-    let e = sym (c .before .before .before .before .before .before .before .before .before .before .validate .ensures) ∙ c .before .before .before .before .before .before .before .before .t .given .1 in
+    let e = sym (c .before .before .before .before .before .before .before .before .before .before .validate .ensures)
+    ∙ c .before .before .before .before .before .before .before .before .t .given .1 in
     let p = c .before .before .before .before .before .plan-request in
     let g = tested-passed _ _ e in
     let f = planned-for _ g (p .result) (c .before .before .before .before .before .before .before .before .before .before .before .before .before .before .args .work .now) (p .last .0) (p .ensures .0) (p .ensures .1) (p .kept .0) in
@@ -52,11 +54,13 @@ same-length-2 c = search needs
 returns-2 : tie.Need-returns-2
 unfolding checked need
 returns-2 c =
-    let e = sym (c .before .before .before .before .before .before .before .before .before .before .before .validate .ensures) ∙ c .before .before .before .before .before .before .before .before .before .t .given .1 in
+    let e = sym (c .before .before .before .before .before .before .before .before .before .before .before .validate .ensures)
+    ∙ c .before .before .before .before .before .before .before .before .before .t .given .1 in
     let p = c .before .before .before .before .before .before .plan-request in
     let g = tested-passed _ _ e in
     let f = planned-for _ g (p .result) (c .before .before .before .before .before .before .before .before .before .before .before .before .before .before .before .args .work .now) (p .last .0) (p .ensures .0) (p .ensures .1) (p .kept .0) in
-    rw (holds-meets _ g ∙ holds-yes _ _ _ f (sym (c .before .before .before .is-refused .ensures) ∙ c .before .before .if1 .left), ← p .kept .0) (c .compare .ensures)
+    rw (holds-meets _ g ∙ holds-yes _ _ _ f (sym (c .before .before .before .is-refused .ensures) ∙ c .before .before .if1 .left), ← p .kept .0)
+    (c .compare .ensures)
 
 returns-3 : tie.Need-returns-3
 unfolding checked need
@@ -65,4 +69,5 @@ returns-3 c =
     rw (refused-meets (a .request .now) _ (sym (c .before .before .validate .ensures) ∙ c .enum-told .given .1))
 
 pub check-request-spec : {M : Type 1} → statement M
-check-request-spec = tie.close (tie.spec validate-requires enum-known-t plan-request-requires is-refused-requires same-length returns compare-requires enum-told same-length-2 returns-2 returns-3)
+check-request-spec = tie.close (tie.spec validate-requires enum-known-t plan-request-requires is-refused-requires same-length returns compare-requires
+    enum-told same-length-2 returns-2 returns-3)

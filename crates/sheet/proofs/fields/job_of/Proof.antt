@@ -54,4 +54,5 @@ returns c =
     )
 
 pub job-of-spec : {M : Type 1} → statement M
-job-of-spec = tie.close (tie.spec shape-of-requires kind-of-requires limited-of-requires fixed-of-requires arm-of-requires joint-at-requires joint-at-requires-2 joint-at-requires-3 joint-at-requires-4 joint-at-requires-5 returns)
+job-of-spec = tie.close (tie.spec shape-of-requires kind-of-requires limited-of-requires fixed-of-requires arm-of-requires joint-at-requires
+    joint-at-requires-2 joint-at-requires-3 joint-at-requires-4 joint-at-requires-5 returns)

@@ -65,4 +65,5 @@ unfolding reads
 returns-6 c = simp (c .before .enum-told6 .given .1, ← c .joint-read4 .ensures)
 
 pub right-read-spec : {M : Type 1} → statement M
-right-read-spec = tie.close (tie.spec enum-told joint-read-requires enum-told-2 arm-read-requires enum-told-3 reference-read-requires enum-told-4 joint-read-requires-2 enum-told-5 joint-read-requires-3 enum-told-6 joint-read-requires-4 returns returns-2 returns-3 returns-4 returns-5 returns-6)
+right-read-spec = tie.close (tie.spec enum-told joint-read-requires enum-told-2 arm-read-requires enum-told-3 reference-read-requires enum-told-4
+    joint-read-requires-2 enum-told-5 joint-read-requires-3 enum-told-6 joint-read-requires-4 returns returns-2 returns-3 returns-4 returns-5 returns-6)

@@ -21,10 +21,13 @@ plan-request-requires c =
 
 finish-requires : tie.Need-finish-requires
 finish-requires c =
-    let e = sym (c .before .before .before .before .before .before .before .before .before .validate .ensures) ∙ c .before .before .before .before .before .before .before .t .given .1 in
+    let e = sym (c .before .before .before .before .before .before .before .before .before .validate .ensures)
+    ∙ c .before .before .before .before .before .before .before .t .given .1 in
     let p = c .before .before .before .before .plan-request in
     let g = tested-passed _ _ e in
-    λ κs. (g .whole, planned-for _ g (p .result) (c .before .before .before .before .before .before .before .before .before .before .before .before .before .args .work .now) (p .last .0) (p .ensures .0) (p .ensures .1) (p .kept .0))
+    λ κs. (g .whole, planned-for _ g (p .result)
+    (c .before .before .before .before .before .before .before .before .before .before .before .before .before .args .work .now) (p .last .0) (p .ensures .0)
+    (p .ensures .1) (p .kept .0))
 
 enum-known-t-2 : tie.Need-enum-known-t-2
 enum-known-t-2 c = search needs
@@ -38,7 +41,8 @@ same-length-2 c = search needs
 returns : tie.Need-returns
 returns c =
     let a = c .before .before .before .before .before .before .before .before .before .before .before .before .before .before .before .before .args in
-    let e = sym (c .before .before .before .before .before .before .before .before .before .before .before .before .validate .ensures) ∙ c .before .before .before .before .before .before .before .before .before .before .t .given .1 in
+    let e = sym (c .before .before .before .before .before .before .before .before .before .before .before .before .validate .ensures)
+    ∙ c .before .before .before .before .before .before .before .before .before .before .t .given .1 in
     let k = c .before .before .before .before .before .before .before .plan-request .kept .0 in
     let f = c .before .before .finish .ensures in (
       f .0 ∙ rw k (passed-answer (a .request .now) (length (a .work .now)) (length (a .output .now)) (tested-passed _ _ e)),
@@ -52,4 +56,5 @@ returns-2 c =
     (refused-answer (a .request .now) _ (length (a .work .now)) (length (a .output .now)) e, refl)
 
 pub run-spec : {M : Type 1} → statement M
-run-spec = tie.close (tie.spec validate-requires enum-known-t plan-request-requires finish-requires enum-known-t-2 same-length same-length-2 returns returns-2)
+run-spec = tie.close (tie.spec validate-requires enum-known-t plan-request-requires finish-requires enum-known-t-2 same-length same-length-2 returns
+    returns-2)

@@ -1,4 +1,4 @@
--- `sheet::validate::arm_within` meets its contract: at each return, what the calls and the tests on the way to it say. Assumes nothing.
+-- `sheet::validate::arm_within` meets its contract: at each return, what the calls and the tests on the way to it say.
 use borrow.Author.Needs.{needs}
 use Rattle.sheet.specs.Validate.{arm-within}
 use Rattle.sheet.proofs.validate.arm_within.Statement.{statement}

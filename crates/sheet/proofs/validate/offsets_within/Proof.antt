@@ -1,4 +1,4 @@
--- `sheet::validate::offsets_within` meets its contract: at each return, what the calls and the tests on the way to it say. Assumes nothing.
+-- `sheet::validate::offsets_within` meets its contract: at each return, what the calls and the tests on the way to it say.
 use borrow.Author.Needs.{needs}
 use Rattle.sheet.specs.Validate.{offsets-within}
 use Rattle.sheet.proofs.validate.offsets_within.Statement.{statement}

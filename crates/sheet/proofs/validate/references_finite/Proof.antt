@@ -1,4 +1,4 @@
--- `sheet::validate::references_finite` meets its contract: at each return, what the calls and the tests on the way to it say. Assumes nothing.
+-- `sheet::validate::references_finite` meets its contract: at each return, what the calls and the tests on the way to it say.
 use borrow.Author.Needs.{needs}
 use Rattle.sheet.specs.Validate.{references-finite}
 use Rattle.sheet.proofs.validate.references_finite.Statement.{statement}

@@ -49,7 +49,8 @@ unfolding turns
 turns-fit lower upper angle =
     let at : Float → List Float = λ w. inside lower upper (angle ⊕ w ⊗ turn) in
     let fit : (w : Float) → Fit (at w) = λ w. inside-fit lower upper (angle ⊕ w ⊗ turn) (add-fits binary64 angle (w ⊗ turn)) in
-    fit-append (at (neg one-float) ++ at zero-float) (at one-float) (fit-append (at (neg one-float)) (at zero-float) (fit (neg one-float)) (fit zero-float)) (fit one-float)
+    fit-append (at (neg one-float) ++ at zero-float) (at one-float) (fit-append (at (neg one-float)) (at zero-float) (fit (neg one-float)) (fit zero-float))
+    (fit one-float)
 
 windings-fit : (lower upper root : Float) → Fit (windings lower upper root)
 unfolding windings
@@ -58,7 +59,8 @@ windings-fit lower upper root = picked (finite root) (turns lower upper root) (t
 all-windings-fit : (lower upper : Float) (l : List Float) → Fit (all-windings lower upper l)
 unfolding all-windings
 all-windings-fit lower upper [] = tt
-all-windings-fit lower upper (a ∷ l) = fit-append (windings lower upper a) (all-windings lower upper l) (windings-fit lower upper a) (all-windings-fit lower upper l)
+all-windings-fit lower upper (a ∷ l) = fit-append (windings lower upper a) (all-windings lower upper l) (windings-fit lower upper a)
+    (all-windings-fit lower upper l)
 
 values-fit : (near : Float) (l : List Float) (g : Range) → Fit (interval-values near l g)
 unfolding interval-values
@@ -114,7 +116,8 @@ slices-fit t lower upper r f g =
     let b = half-cuts t (middle lower upper) upper in
     let p : Fit a = half-cuts-fit t lower (middle lower upper) f (middle-fits lower upper) in
     let q : Fit b = half-cuts-fit t (middle lower upper) upper (middle-fits lower upper) g in
-    let h : Fit ((a ++ mids a) ++ (b ++ mids b)) = fit-append (a ++ mids a) (b ++ mids b) (fit-append a (mids a) p (mids-fit a)) (fit-append b (mids b) q (mids-fit b)) in
+    let h : Fit ((a ++ mids a) ++ (b ++ mids b)) = fit-append (a ++ mids a) (b ++ mids b) (fit-append a (mids a) p (mids-fit a))
+    (fit-append b (mids b) q (mids-fit b)) in
     fit-cuts (t .reference ∷ lower ∷ upper ∷ ((a ++ mids a) ++ (b ++ mids b))) (r, (f, (g, h)))
 
 abbrev RangeFits : Range → Type 0
@@ -132,7 +135,8 @@ limits-fit c sign offset = go (isNan (c .tolerance)) (lt (c .tolerance) zero-flo
   where
     go : (x y z : Bool)
         → RangeFits (cond x Nothing (cond y Nothing (cond z
-        (Between (wrapped-angle (wrapped-angle (c .center) ⊗ sign ⊖ offset) ⊖ minimum (c .tolerance) P) (wrapped-angle (wrapped-angle (c .center) ⊗ sign ⊖ offset) ⊕ minimum (c .tolerance) P))
+        (Between (wrapped-angle (wrapped-angle (c .center) ⊗ sign ⊖ offset) ⊖ minimum (c .tolerance) P)
+        (wrapped-angle (wrapped-angle (c .center) ⊗ sign ⊖ offset) ⊕ minimum (c .tolerance) P))
         Nothing)))
     go true y z = tt
     go false true z = tt
@@ -151,4 +155,5 @@ angles-fit job = go (job .kind)
     go J1free = sample-angles-fit (first-free job)
     go J2free = sample-angles-fit (second-free job)
     go J1j2free =
-        all-slices-fit (folded job) (limits (job .limited) (job .j1)) (reference-fits (job .j1)) (limits-fit (centered (job .limited) (job .j1)) (job .j1 .sign) (job .j1 .offset))
+        all-slices-fit (folded job) (limits (job .limited) (job .j1)) (reference-fits (job .j1))
+        (limits-fit (centered (job .limited) (job .j1)) (job .j1 .sign) (job .j1 .offset))
