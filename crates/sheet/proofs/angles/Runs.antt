@@ -94,7 +94,7 @@ module _ (out : List ℕ) (w : List Float) (f g h k m : ℕ) (b : f + g + h ≤ 
 
   second-length : length second ≡ m
   second-length = samples-length (take g (drop f w)) ∙ ap (λ (x : ℕ). sample-count x) (length-take-le g (drop f w) (omega (arith, b, length-drop f w))) ∙ sym
-    q
+      q
 
   in-turn : sets (sets (sets out 0 (floats-bytes first)) (8 * k) (floats-bytes second)) (8 * (k + m)) (floats-bytes third)
       ≡ sets out 0 (floats-bytes ((first ++ second) ++ third))
@@ -104,7 +104,7 @@ module _ (out : List ℕ) (w : List Float) (f g h k m : ℕ) (b : f + g + h ≤ 
       ap (λ (o : List ℕ). sets o (8 * (k + m)) (floats-bytes third)) (runs out 0 (8 * k) first second e) ∙ runs out 0 (8 * (k + m)) (first ++ second) third d
 
   pub lists-laid : sets (sets (sets out 0 (floats-bytes (samples (take (f - 0) w)))) (8 * k) (floats-bytes (samples (take (f + g - f) (drop f w)))))
-    (8 * (k + m)) (floats-bytes (samples (take (f + g + h - (f + g)) (drop (f + g) w))))
+      (8 * (k + m)) (floats-bytes (samples (take (f + g + h - (f + g)) (drop (f + g) w))))
       ≡ sets out 0 (floats-bytes (three-samples (take f w) (take g (drop f w)) (take h (drop (f + g) w))))
   unfolding three-samples
   lists-laid =

@@ -39,7 +39,7 @@ module _ (s : List ℕ) (at : ℕ) (y : Float) (xs ys : List Float) (e : xs ≡ 
           absurd (omega (arith, l, length-drop at s, length-append (float-bytes y) (floats-bytes ys), length-bytes 8 (toBits binary64 y)))
 
   both : at + 8 ≤ length s → same-bytes (drop at s) (floats-bytes xs) ≡
-    (same-bytes (part at 8 s) (float-bytes y) && same-bytes (drop (at + 8) s) (floats-bytes ys))
+      (same-bytes (part at 8 s) (float-bytes y) && same-bytes (drop (at + 8) s) (floats-bytes ys))
   both h =
       let d : drop at s ≡ part at 8 s ++ drop (at + 8) s = sym (take-append-drop 8 (drop at s)) ∙ rw (drop-drop 8 at s) in
       ap (λ (l : List ℕ). same-bytes l (floats-bytes xs)) d ∙ ap (same-bytes (part at 8 s ++ drop (at + 8) s)) first
@@ -47,7 +47,7 @@ module _ (s : List ℕ) (at : ℕ) (y : Float) (xs ys : List Float) (e : xs ≡ 
 
   -- the bytes of a float are the same, or not
   pub float-turn : at + 8 ≤ length s → same-bytes (part at 8 s) (float-bytes y) ≡ true → same-bytes (drop (at + 8) s) (floats-bytes ys) ≡ same-bytes
-    (drop at s) (floats-bytes xs)
+      (drop at s) (floats-bytes xs)
   float-turn h q = sym (both h ∙ rw q)
 
   pub float-stop : at + 8 ≤ length s → same-bytes (part at 8 s) (float-bytes y) ≡ false → false ≡ same-bytes (drop at s) (floats-bytes xs)

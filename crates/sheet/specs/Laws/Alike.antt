@@ -26,7 +26,7 @@ use Rattle.sampling.specs.Laws.Reads as Reads
 
 module _ (s : Shape) (h : right s ≡ true) where
   pub job-reads : (k : ℕ) → (joint-read (kind-of s) (limited-of s) (fixed-of s) k ≡ reads s Sign k) ×
-    (joint-read (kind-of s) (limited-of s) (fixed-of s) k ≡ reads s Offset k)
+      (joint-read (kind-of s) (limited-of s) (fixed-of s) k ≡ reads s Offset k)
   unfolding right reads kind-of limited-of fixed-of
   job-reads k = go s h
     where

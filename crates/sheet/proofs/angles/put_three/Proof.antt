@@ -35,7 +35,9 @@ returns c =
     let b = c .before .before .before .before .before .before .before .before .before .before .before .before in
     let a = b .before .before .args in
     let r = b .between .result in
-    rw (c .before .before .put-float3 .ensures, c .before .before .before .before .before .before .put-float2 .ensures, c .before .before .before .before .before .before .before .before .before .before .put-float .ensures)
+    let x = c .before .before .before .before .before .before .before .before .before .before .put-float .ensures in
+    let y = c .before .before .before .before .before .before .put-float2 .ensures in
+    rw (c .before .before .put-float3 .ensures, y, x)
     (three (a .output .now) (a .at) (r .first) (r .second) (r .third) ∙ ap (λ (l : List Float). sets (a .output .now) (a .at) (floats-bytes l))
     (b .between .ensures))
 

@@ -33,7 +33,8 @@ returns c =
     ∙ c .before .before .before .before .before .before .before .t .given .1 in
     let p = c .before .before .before .before .plan-request in
     let g = tested-passed _ _ e in
-    let f = planned-for _ g (p .result) (c .before .before .before .before .before .before .before .before .before .before .before .before .before .args .work .now) (p .last .0) (p .ensures .0) (p .ensures .1) (p .kept .0) in
+    let w = c .before .before .before .before .before .before .before .before .before .before .before .before .before .args .work .now in
+    let f = planned-for _ g (p .result) w (p .last .0) (p .ensures .0) (p .ensures .1) (p .kept .0) in
     rw (holds-meets _ g ∙ holds-no _ _ _ f (sym (c .before .is-refused .ensures) ∙ c .if1 .taken))
 
 compare-requires : tie.Need-compare-requires
@@ -42,7 +43,8 @@ compare-requires c =
     ∙ c .before .before .before .before .before .before .before .before .t .given .1 in
     let p = c .before .before .before .before .before .plan-request in
     let g = tested-passed _ _ e in
-    let f = planned-for _ g (p .result) (c .before .before .before .before .before .before .before .before .before .before .before .before .before .before .args .work .now) (p .last .0) (p .ensures .0) (p .ensures .1) (p .kept .0) in
+    let w = c .before .before .before .before .before .before .before .before .before .before .before .before .before .before .args .work .now in
+    let f = planned-for _ g (p .result) w (p .last .0) (p .ensures .0) (p .ensures .1) (p .kept .0) in
     λ κs. (g .whole, (f, sym (c .before .before .is-refused .ensures) ∙ c .before .if1 .left))
 
 enum-told : tie.Need-enum-told
@@ -58,7 +60,8 @@ returns-2 c =
     ∙ c .before .before .before .before .before .before .before .before .before .t .given .1 in
     let p = c .before .before .before .before .before .before .plan-request in
     let g = tested-passed _ _ e in
-    let f = planned-for _ g (p .result) (c .before .before .before .before .before .before .before .before .before .before .before .before .before .before .before .args .work .now) (p .last .0) (p .ensures .0) (p .ensures .1) (p .kept .0) in
+    let w = c .before .before .before .before .before .before .before .before .before .before .before .before .before .before .before .args .work .now in
+    let f = planned-for _ g (p .result) w (p .last .0) (p .ensures .0) (p .ensures .1) (p .kept .0) in
     rw (holds-meets _ g ∙ holds-yes _ _ _ f (sym (c .before .before .before .is-refused .ensures) ∙ c .before .before .if1 .left), ← p .kept .0)
     (c .compare .ensures)
 

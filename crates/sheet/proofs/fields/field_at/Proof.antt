@@ -9,8 +9,11 @@ place-requires : tie.Need-place-requires
 place-requires c = search needs
 
 float-at-requires : tie.Need-float-at-requires
-float-at-requires c = λ κs. omega (arith, place-fits (c .before .before .args .f) (c .before .before .args .j) (c .before .before .pre .1)
-    (c .before .before .pre .2))
+float-at-requires c = λ κs. omega (
+  arith,
+  place-fits (c .before .before .args .f) (c .before .before .args .j) (c .before .before .pre .1)
+      (c .before .before .pre .2),
+)
 
 returns : tie.Need-returns
 returns c = simp (← c .before .place .ensures, ← c .float-at .ensures)

@@ -27,9 +27,15 @@ field-at-requires-4 c = search needs
 
 returns : tie.Need-returns
 unfolding joint-at
-returns c = simp (← c .before .before .before .before .before .before .place .ensures, ← c .before .before .before .before .before .byte-at .ensures,
-    ← c .before .before .before .before .sign-of .ensures, ← c .before .before .before .field-at .ensures, ← c .before .before .field-at2 .ensures,
-    ← c .before .field-at3 .ensures, ← c .field-at4 .ensures)
+returns c = simp (
+  ← c .before .before .before .before .before .before .place .ensures,
+  ← c .before .before .before .before .before .byte-at .ensures,
+  ← c .before .before .before .before .sign-of .ensures,
+  ← c .before .before .before .field-at .ensures,
+  ← c .before .before .field-at2 .ensures,
+  ← c .before .field-at3 .ensures,
+  ← c .field-at4 .ensures,
+)
 
 pub joint-at-spec : {M : Type 1} → statement M
 joint-at-spec = tie.close (tie.spec place-requires byte-at-requires sign-of-requires field-at-requires field-at-requires-2 field-at-requires-3

@@ -18,8 +18,12 @@ shape-from-requires c = search needs
 
 returns : tie.Need-returns
 unfolding shape-of
-returns c = simp (← c .before .before .before .byte-at .ensures, ← c .before .before .byte-at2 .ensures, ← c .before .byte-at3 .ensures,
-    ← c .shape-from .ensures)
+returns c = simp (
+  ← c .before .before .before .byte-at .ensures,
+  ← c .before .before .byte-at2 .ensures,
+  ← c .before .byte-at3 .ensures,
+  ← c .shape-from .ensures,
+)
 
 pub shape-of-spec : {M : Type 1} → statement M
 shape-of-spec = tie.close (tie.spec byte-at-requires byte-at-requires-2 byte-at-requires-3 shape-from-requires returns)

@@ -42,9 +42,13 @@ has-room-requires : tie.Need-has-room-requires
 has-room-requires c = search needs
 
 fill-requires : tie.Need-fill-requires
-fill-requires c = λ κs. (c .before .before .before .before .before .before .before .before .before .before .before .pre .0,
-    (c .before .before .before .before .before .before .before .before .before .before .before .pre .1 .ready,
-    (c .before .before .before .count .ensures, leb-true _ _ (sym (c .before .before .has-room .ensures) ∙ c .before .if3 .taken))))
+fill-requires c = λ κs. (
+  c .before .before .before .before .before .before .before .before .before .before .before .pre .0,
+  (
+    c .before .before .before .before .before .before .before .before .before .before .before .pre .1 .ready,
+    (c .before .before .before .count .ensures, leb-true _ _ (sym (c .before .before .has-room .ensures) ∙ c .before .if3 .taken)),
+  ),
+)
 
 same-length : tie.Need-same-length
 same-length c = search needs
@@ -66,7 +70,7 @@ returns-3 c =
     let q = n ∙ found-count (a .request .now) (a .plan) (a .work .now) (s .pre .1) e f in (
       rw (h, k, ← q, r),
       c .before .before .fill .ensures ∙ sheet-stands (a .request .now) (a .output .now) (to-come (a .plan) (a .work .now) start) _ (s .pre .0) n t
-      (leb-true _ _ r),
+          (leb-true _ _ r),
     )
 
 returns-4 : tie.Need-returns-4

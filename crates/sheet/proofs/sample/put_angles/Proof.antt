@@ -18,9 +18,11 @@ put-lists-requires : tie.Need-put-lists-requires
 put-lists-requires c κs =
     let s = c .before .before .before .before .before .before in
     let a = s .args in
-    let e = c .before .before .plan .given .1 in
-    (subst (λ (p : Plan). Ready p (a .work .now)) e (s .pre .0), subst (λ (p : Plan). 8 * length (to-come p (a .work .now) start) ≤ length (a .output .now)) e
-    (s .pre .1))
+    let e = c .before .before .plan .given .1 in (
+      subst (λ (p : Plan). Ready p (a .work .now)) e (s .pre .0),
+      subst (λ (p : Plan). 8 * length (to-come p (a .work .now) start) ≤ length (a .output .now)) e
+          (s .pre .1),
+    )
 
 same-length : tie.Need-same-length
 same-length c = search needs

@@ -49,9 +49,12 @@ loop-holds : tie.Need-loop-holds Inv-loop μ-loop
 loop-holds c =
     let b = c .before .before .before in
     let p = b .args in
-    let e = c .start .ensures in
-    (refl, omega (arith, ap (λ (z : Cursor). length (to-come (p .plan) (p .work .now) z)) e, b .pre .1), ap
-    (λ (z : Cursor). sets (p .output .now) 0 (floats-bytes (to-come (p .plan) (p .work .now) z))) e)
+    let e = c .start .ensures in (
+      refl,
+      omega (arith, ap (λ (z : Cursor). length (to-come (p .plan) (p .work .now) z)) e, b .pre .1),
+      ap
+          (λ (z : Cursor). sets (p .output .now) 0 (floats-bytes (to-come (p .plan) (p .work .now) z))) e,
+    )
 
 next-requires : tie.Need-next-requires Inv-loop μ-loop
 next-requires c κs = c .before .before .before .before .pre .0
@@ -103,7 +106,7 @@ loop-again c =
       n ∙ l .inv .0,
       omega (arith, n),
       ap (λ (o : List ℕ). sets o (l .at + 8) (floats-bytes (left v (v .s .given .0 .1 .0)))) (c .before .before .put-float .ensures) ∙ floats-turn (l .output)
-      (l .at) (y v) (left v (l .c)) _ (came v) ∙ l .inv .2,
+          (l .at) (y v) (left v (l .c)) _ (came v) ∙ l .inv .2,
     )
 
 pub put-stream-spec : {M : Type 1} → statement M

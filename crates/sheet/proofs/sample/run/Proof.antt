@@ -25,9 +25,12 @@ finish-requires c =
     ∙ c .before .before .before .before .before .before .before .t .given .1 in
     let p = c .before .before .before .before .plan-request in
     let g = tested-passed _ _ e in
-    λ κs. (g .whole, planned-for _ g (p .result)
-    (c .before .before .before .before .before .before .before .before .before .before .before .before .before .args .work .now) (p .last .0) (p .ensures .0)
-    (p .ensures .1) (p .kept .0))
+    λ κs. (
+      g .whole,
+      planned-for _ g (p .result)
+          (c .before .before .before .before .before .before .before .before .before .before .before .before .before .args .work .now) (p .last .0) (p .ensures .0)
+          (p .ensures .1) (p .kept .0),
+    )
 
 enum-known-t-2 : tie.Need-enum-known-t-2
 enum-known-t-2 c = search needs

@@ -25,7 +25,8 @@ same-length-4 c = search needs
 
 returns : tie.Need-returns
 returns c =
-    let a = c .before .before .before .before .before .before .before .before .before .before .before .before .before .before .before .before .before .before .before .before .args in
+    let b = c .before .before .before .before .before .before .before .before .before .before in
+    let a = b .before .before .before .before .before .before .before .before .before .before .args in
     let p = c .before .before .before .before .before .before .before .before .before .before .before .sample .ensures in
     let q = c .before .before .before .before .sample2 .ensures in
     let k = c .before .before .before .before .before .before .before .before .before .before .before .sample .kept .1 .1 .0 in

@@ -51,7 +51,7 @@ loop-again c =
       omega arith,
       omega arith,
       all-turn (field-right s (a .f) (a .request .now)) _ _ _ _ (omega arith) (omega arith)
-      (sym (c .before .field-right .ensures) ∙ not-false _ (c .if1 .left)) ∙ b .loop .inv .2,
+          (sym (c .before .field-right .ensures) ∙ not-false _ (c .if1 .left)) ∙ b .loop .inv .2,
     )
 
 returns-2 : tie.Need-returns-2 Inv-loop μ-loop

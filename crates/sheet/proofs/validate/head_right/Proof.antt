@@ -18,8 +18,13 @@ zeros-from-requires c = search needs
 
 returns : tie.Need-returns
 unfolding head-right
-returns c = simp (← c .before .before .before .before .shape-of .ensures, ← c .before .before .before .right .ensures, c .before .before .if1 .taken,
-    ← c .before .byte-at .ensures, ← c .zeros-from .ensures)
+returns c = simp (
+  ← c .before .before .before .before .shape-of .ensures,
+  ← c .before .before .before .right .ensures,
+  c .before .before .if1 .taken,
+  ← c .before .byte-at .ensures,
+  ← c .zeros-from .ensures,
+)
 
 returns-2 : tie.Need-returns-2
 unfolding head-right

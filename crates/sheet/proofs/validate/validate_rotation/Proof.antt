@@ -24,8 +24,12 @@ enum-told-2 c = search needs
 
 returns : tie.Need-returns
 unfolding tested-rotation
-returns c = simp (← c .before .before .before .before .before .rotation-of .ensures,
-    ← c .before .before .before .before .try-normalize .ensures, c .before .before .n .given .1, ← c .validate-fields .ensures)
+returns c = simp (
+  ← c .before .before .before .before .before .rotation-of .ensures,
+  ← c .before .before .before .before .try-normalize .ensures,
+  c .before .before .n .given .1,
+  ← c .validate-fields .ensures,
+)
 
 returns-2 : tie.Need-returns-2
 unfolding tested-rotation
