@@ -1,11 +1,10 @@
 // One free joint: `sample_angles` of src/singularity/continuum.rs, up to the cuts; `lists` reads the
 // samples off them.
-ghost use mathlib.Core.Bool.{true};
 ghost use mathlib.Core.Path.{_≡_};
 ghost use mathlib.Core.List.{[], _++_};
-ghost use Prim.Native.Nat.{_+_, _≤_};
+ghost use Prim.Native.Nat.{_≤_};
 ghost use lib.ListN.{length, take, drop};
-ghost use Rattle.sampling.specs.Promises.Plan.{lists-of, free-plan, free-cuts, granted, where-laid};
+ghost use Rattle.sampling.specs.Promises.Plan.{ListsLaid, free-plan, free-cuts, granted, where-laid};
 ghost use Rattle.sampling.specs.Samples.{interval-cuts};
 ghost use Rattle.sampling.specs.SampleAngles as Of;
 use crate::bends::all_roots;
@@ -89,8 +88,7 @@ pub(crate) fn free_of(axes: Axes, job: Job, j: Joint) -> Free
 // The cuts of three intervals, one list after the other in the front of work.
 fn cut_intervals(work: &mut [f64], near: f64, three: Intervals, roots: &[f64], n: usize) -> Plan
     requires { ⌜ n ≤ length (now roots) ⌝ }
-    ensures { λ r. ⌜ r ≡ granted true (length (interval-cuts near (take n (now (roots .entry))) (three .first)) + length (interval-cuts near (take n (now (roots .entry))) (three .second)) + length (interval-cuts near (take n (now (roots .entry))) (three .third))) (lists-of (interval-cuts near (take n (now (roots .entry))) (three .first)) (interval-cuts near (take n (now (roots .entry))) (three .second)) (interval-cuts near (take n (now (roots .entry))) (three .third))) (length (now (work .entry))) ⌝ }
-    ensures { λ r. ⌜ where-laid r (now (work .exit)) [] ≡ where-laid r (((interval-cuts near (take n (now (roots .entry))) (three .first) ++ interval-cuts near (take n (now (roots .entry))) (three .second)) ++ interval-cuts near (take n (now (roots .entry))) (three .third)) ++ drop (length (interval-cuts near (take n (now (roots .entry))) (three .first)) + length (interval-cuts near (take n (now (roots .entry))) (three .second)) + length (interval-cuts near (take n (now (roots .entry))) (three .third))) (now (work .entry))) [] ⌝ }
+    ensures { λ r. ⌜ ListsLaid (interval-cuts near (take n (now (roots .entry))) (three .first)) (interval-cuts near (take n (now (roots .entry))) (three .second)) (interval-cuts near (take n (now (roots .entry))) (three .third)) (now (work .entry)) r (now (work .exit)) ⌝ }
 {
     let range1 = three.first;
     let Put::Count(first) = interval_cuts(work, near, range1, roots, n) else {

@@ -90,9 +90,11 @@ module _ (t : Folded) (lower upper m : Float) (f : T (fits binary64 lower)) (g :
     behind = rw (← en) (subst (λ (d : List Float). Kept (half-values cs bs m upper) d last r) (tail-part n v) l)
 
     pub holds : (x && (y && z)) ≡ true → (q : Plan) → q ≡ both (t .reference) s r
-        → (q ≡ granted (halves-hold t lower upper) (length (first-half t lower upper) + length (second-half t lower upper)) (halves-of (t .reference) (first-half t lower upper) (second-half t lower upper)) (length w))
+        → (q ≡ granted (halves-hold t lower upper) (length (first-half t lower upper) + length (second-half t lower upper))
+        (halves-of (t .reference) (first-half t lower upper) (second-half t lower upper)) (length w))
         × (where-laid q (take n v ++ (last ++ drop (length v - n) (drop n v))) []
-        ≡ where-laid q ((first-half t lower upper ++ second-half t lower upper) ++ drop (length (first-half t lower upper) + length (second-half t lower upper)) w) [])
+        ≡ where-laid q
+        ((first-half t lower upper ++ second-half t lower upper) ++ drop (length (first-half t lower upper) + length (second-half t lower upper)) w) [])
     holds e q eq = (
       eq ∙ rw (sym hold ∙ e, first, second) (answers (t .reference) (half-values cs bs lower m) (half-values cs bs m upper) w v last s r k behind),
       rw (eq, tail-post n v last, en, first, second) (lists (t .reference) (half-values cs bs lower m) (half-values cs bs m upper) w v last s r k behind),

@@ -23,7 +23,8 @@ module _ (job : Job) (p : Plan) (w after : List Float) where
       let cuts = by-kind k (free-cuts (first-free job)) (free-cuts (second-free job)) (folded-cuts (Two.folded job)) in
       (p ≡ granted holds count l (length w)) × (where-laid p after [] ≡ where-laid p (cuts ++ drop count w) [])
 
-  pub by-cut : (k : Kind) → job .kind ≡ k → by k → (p ≡ plan job (length w)) × (where-laid p after [] ≡ where-laid p (all-cuts job ++ drop (cut-count job) w) [])
+  pub by-cut : (k : Kind) → job .kind ≡ k → by k
+      → (p ≡ plan job (length w)) × (where-laid p after [] ≡ where-laid p (all-cuts job ++ drop (cut-count job) w) [])
   unfolding plan laid all-cuts hold cut-count
   by-cut k e d = subst by (sym e) d
 

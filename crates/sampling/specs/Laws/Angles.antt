@@ -2,7 +2,7 @@
 use mathlib.Core.Path.{_≡_, refl, sym, subst}
 use mathlib.Core.Bool.{true, not}
 use mathlib.Core.List.{List, []}
-use Prim.Native.Nat.{_+_, _^_, _≤_, _<_}
+use Prim.Native.Nat.{ℕ, _+_, _^_, _≤_, _<_}
 use native.Mathlib.Omega.{arith}
 use lib.Dec.{T}
 use lib.ListN.{length}
@@ -14,7 +14,7 @@ use Rattle.sampling.specs.Promises.Plan.{Moderate}
 use Rattle.sampling.specs.SampleAngles.{sample-angles}
 use Rattle.sampling.specs.Slices.{slices, among}
 use Rattle.sampling.specs.Laws.Few.{sample-angles-few}
-use Rattle.sampling.specs.Laws.FewCuts.{both-cuts-few}
+use Rattle.sampling.specs.Laws.FewCuts.{most-both-cuts, both-cuts-few}
 use Rattle.sampling.specs.Laws.Reference.{reference-number}
 use Rattle.sampling.specs.Laws.Slices.{slices-few, reference-in}
 use Rattle.sampling.specs.declared.intervals.Range.{Range}
@@ -25,31 +25,38 @@ use Rattle.sampling.specs.declared.job.Kind.{Kind}
 use Rattle.sampling.specs.declared.job.Kind.the-variants.{J1free, J2free, J1j2free}
 
 -- twice the cuts of both halves, the reference and the limits
-all-slices-few : (t : Folded) → length (all-slices t) ≤ 351239
+abbrev pub most-angles : ℕ
+most-angles = 351239
+
+all-slices-few : (t : Folded) → length (all-slices t) ≤ most-angles
 unfolding all-slices cut-count
 all-slices-few t = go (t .range1) refl
   where
     go : (range : Range) → t .range1 ≡ range
-        → length (on-interval range [] (λ lower upper. slices (t .reference) lower upper (first-half t lower upper) (second-half t lower upper))) ≤ 351239
+        → length (on-interval range [] (λ lower upper. slices (t .reference) lower upper (first-half t lower upper) (second-half t lower upper))) ≤ most-angles
     go Nothing e = omega arith
     go (Between lower upper) e =
         let a = first-half t lower upper in
         let b = second-half t lower upper in
-        let h = subst (λ (g : Range). on-interval g 0 (λ x y. length (first-half t x y) + length (second-half t x y)) ≤ 175618) e (both-cuts-few t) in
+        let h = subst (λ (g : Range). on-interval g 0 (λ x y. length (first-half t x y) + length (second-half t x y)) ≤ most-both-cuts) e (both-cuts-few t) in
         omega (arith, slices-few (t .reference) lower upper a b, h)
 
-most : (job : Job) → length (angles job) ≤ 351239
+-- THEOREM: A job has at most 351239 angles, whatever its fields are.
+pub angles-most : (job : Job) → length (angles job) ≤ most-angles
 unfolding angles
-most job = go (job .kind)
+angles-most job = go (job .kind)
   where
-    go : (k : Kind) → length (by-kind k (sample-angles (first-free job)) (sample-angles (second-free job)) (all-slices (folded job))) ≤ 351239
+    go : (k : Kind) → length (by-kind k (sample-angles (first-free job)) (sample-angles (second-free job)) (all-slices (folded job))) ≤ most-angles
     go J1free = omega (arith, sample-angles-few (first-free job))
     go J2free = omega (arith, sample-angles-few (second-free job))
     go J1j2free = all-slices-few (folded job)
 
--- THEOREM: A job has fewer than 2 ^ 29 angles, whatever its fields are.
-pub angles-few : (job : Job) → length (angles job) < 2 ^ 29
-angles-few job = omega (arith, most job)
+-- eight bytes for each of fewer angles have their number in 32 bits
+abbrev pub angle-limit : ℕ
+angle-limit = 2 ^ 29
+
+pub angles-few : (job : Job) → length (angles job) < angle-limit
+angles-few job = omega (arith, angles-most job)
 
 slices-have : (t : Folded) (lower upper : Float) → t .range1 ≡ Between lower upper → T (not (isNan (t .reference))) → among (t .reference) (all-slices t) ≡ true
 unfolding all-slices

@@ -223,11 +223,14 @@ half-cuts-few t lower upper =
     let h = length-append (lower ∷ [] ++ upper ∷ []) c in
     omega (arith, a, b, d, e, f, g, h)
 
--- Both halves have at most 175618 cuts, far fewer than 2^29.
-pub both-cuts-few : (t : Folded) → cut-count t ≤ 175618
+-- two halves
+abbrev pub most-both-cuts : ℕ
+most-both-cuts = 175618
+
+pub both-cuts-few : (t : Folded) → cut-count t ≤ most-both-cuts
 unfolding cut-count first-half second-half
 both-cuts-few t = go (t .range1)
   where
-    go : (range : Range) → on-interval range 0 (λ lower upper. length (first-half t lower upper) + length (second-half t lower upper)) ≤ 175618
+    go : (range : Range) → on-interval range 0 (λ lower upper. length (first-half t lower upper) + length (second-half t lower upper)) ≤ most-both-cuts
     go Nothing = omega arith
     go (Between lower upper) = omega (arith, half-cuts-few t lower (middle lower upper), half-cuts-few t (middle lower upper) upper)

@@ -81,7 +81,8 @@ split a b rest =
       ap (take (length b)) (ap (drop (length a)) s ∙ drop-at a (b ++ rest) (length a) refl) ∙ take-at b rest (length b) refl,
     )
 
-three-parts : (a b c rest : List Float) → all-samples (record { first = length a; second = length b; third = length c }) (((a ++ b) ++ c) ++ rest) ≡ three-samples a b c
+three-parts : (a b c rest : List Float)
+    → all-samples (record { first = length a; second = length b; third = length c }) (((a ++ b) ++ c) ++ rest) ≡ three-samples a b c
 three-parts a b c rest =
     let s = split a b (c ++ rest) in
     let e = append-assoc (a ++ b) c rest in
@@ -94,13 +95,18 @@ three-parts a b c rest =
 -- of the plan l of so many cuts, in work w
 record Drawn (holds : Bool) (count : ℕ) (l : Plan) (cuts s w : List Float) : Type 0 where
   ready : Ready (granted holds count l (length w)) (where-laid (granted holds count l (length w)) (cuts ++ drop count w) (zeros (length w)))
-  yields : holds ≡ true → count ≤ length w → to-come (granted holds count l (length w)) (where-laid (granted holds count l (length w)) (cuts ++ drop count w) (zeros (length w))) start ≡ s
+  yields : holds ≡ true → count ≤ length w
+      → to-come (granted holds count l (length w)) (where-laid (granted holds count l (length w)) (cuts ++ drop count w) (zeros (length w))) start ≡ s
 
 module _ (count : ℕ) (l : Plan) (cuts s w : List Float) (ready : Ready l (cuts ++ drop count w)) (yields : to-come l (cuts ++ drop count w) start ≡ s)
     (same : (x y : List Float) → where-laid l x y ≡ x) where
   drawn : (holds : Bool) → Drawn holds count l cuts s w
   drawn false = record { ready = tt; yields = λ e h. absurd (false≢true e) }
-  drawn true = record { ready = go (leb count (length w)); yields = λ e h. rw (le-leb count (length w) h, same (cuts ++ drop count w) (zeros (length w))) yields }
+  drawn true =
+      record {
+        ready = go (leb count (length w));
+        yields = λ e h. rw (le-leb count (length w) h, same (cuts ++ drop count w) (zeros (length w))) yields;
+      }
     where
       go : (t : Bool) → Ready (cond t l of.Short) (where-laid (cond t l of.Short) (cuts ++ drop count w) (zeros (length w)))
       go false = tt
@@ -122,7 +128,8 @@ record Streams (t : Folded) (lower upper : Float) : Type 0 where
   second : Woven (Two.second-half t lower upper)
   number : T (not (isNan (t .reference)))
   fit : T (fits binary64 (t .reference))
-  same : distinct (Two.first-half t lower upper) (Two.second-half t lower upper) (t .reference) start ≡ slices (t .reference) lower upper (Two.first-half t lower upper) (Two.second-half t lower upper)
+  same : distinct (Two.first-half t lower upper) (Two.second-half t lower upper) (t .reference) start
+      ≡ slices (t .reference) lower upper (Two.first-half t lower upper) (Two.second-half t lower upper)
 
 -- the limits were pushed into the halves
 streams : (t : Folded) (lower upper : Float) → Ends lower upper → T (fits binary64 (t .reference)) → T (not (isNan (t .reference))) → Streams t lower upper
@@ -146,8 +153,10 @@ streams t lower upper e fit real =
     }
 
 two-drawn : (holds : Bool) (t : Folded) (lower upper : Float) (w : List Float) → Streams t lower upper
-    → Drawn holds (length (Two.first-half t lower upper) + length (Two.second-half t lower upper)) (halves-of (t .reference) (Two.first-half t lower upper) (Two.second-half t lower upper))
-    (Two.first-half t lower upper ++ Two.second-half t lower upper) (slices (t .reference) lower upper (Two.first-half t lower upper) (Two.second-half t lower upper)) w
+    → Drawn holds (length (Two.first-half t lower upper) + length (Two.second-half t lower upper))
+    (halves-of (t .reference) (Two.first-half t lower upper) (Two.second-half t lower upper))
+    (Two.first-half t lower upper ++ Two.second-half t lower upper)
+    (slices (t .reference) lower upper (Two.first-half t lower upper) (Two.second-half t lower upper)) w
 two-drawn holds t lower upper w h =
     let a = Two.first-half t lower upper in
     let b = Two.second-half t lower upper in
@@ -188,7 +197,8 @@ module _ (w : List Float) where
     job-streams : job .kind ≡ J1j2free → (lower upper : Float) → Two.folded job .range1 ≡ Between lower upper → Streams (Two.folded job) lower upper
     unfolding Two.folded
     job-streams k lower upper e =
-        streams (Two.folded job) lower upper (limits-ends (job .limited) (job .j1) lower upper fit (m k .sign) (m k .offset) e) (reference-fits (job .j1)) (reference-number (job .j1) fit (m k))
+        streams (Two.folded job) lower upper (limits-ends (job .limited) (job .j1) lower upper fit (m k .sign) (m k .offset) e)
+        (reference-fits (job .j1)) (reference-number (job .j1) fit (m k))
 
     by-drawn : (k : Kind) → job .kind ≡ k
         → Drawn (by-kind k (One.hold (first-free job)) (One.hold (second-free job)) (Two.hold (Two.folded job)))
@@ -222,16 +232,19 @@ module _ {A : Type 0} (refused short found : A) where
   laid-by job = go (job .kind)
     where
       both : (t : Folded) (g : Range)
-          → by-plan (Two.on-interval g (lists-of [] [] []) (λ lower upper. halves-of (t .reference) (Two.first-half t lower upper) (Two.second-half t lower upper))) refused short found ≡ found
+          → by-plan (Two.on-interval g (lists-of [] [] []) (λ lower upper. halves-of (t .reference) (Two.first-half t lower upper) (Two.second-half t lower upper)))
+          refused short found ≡ found
       both t Nothing = refl
       both t (Between lower upper) = refl
 
-      go : (k : Kind) → by-plan (by-kind k (free-plan (first-free job)) (free-plan (second-free job)) (folded-plan (Two.folded job))) refused short found ≡ found
+      go : (k : Kind)
+          → by-plan (by-kind k (free-plan (first-free job)) (free-plan (second-free job)) (folded-plan (Two.folded job))) refused short found ≡ found
       go J1free = refl
       go J2free = refl
       go J1j2free = both (Two.folded job) (Two.folded job .range1)
 
-  pub plan-by : (job : Job) (places : ℕ) → by-plan (plan job places) refused short found ≡ cond (hold job) (cond (leb (cut-count job) places) found short) refused
+  pub plan-by : (job : Job) (places : ℕ)
+      → by-plan (plan job places) refused short found ≡ cond (hold job) (cond (leb (cut-count job) places) found short) refused
   unfolding plan
   plan-by job places = go (hold job) (leb (cut-count job) places)
     where
@@ -246,7 +259,8 @@ folded-filled : (t : Folded) → filled (folded-plan t) ≡ Two.cut-count t
 unfolding folded-plan Two.cut-count
 folded-filled t = go (t .range1)
   where
-    go : (g : Range) → filled (Two.on-interval g (lists-of [] [] []) (λ lower upper. halves-of (t .reference) (Two.first-half t lower upper) (Two.second-half t lower upper)))
+    go : (g : Range)
+        → filled (Two.on-interval g (lists-of [] [] []) (λ lower upper. halves-of (t .reference) (Two.first-half t lower upper) (Two.second-half t lower upper)))
         ≡ Two.on-interval g 0 (λ lower upper. length (Two.first-half t lower upper) + length (Two.second-half t lower upper))
     go Nothing = refl
     go (Between lower upper) = refl
@@ -317,4 +331,5 @@ step-gives (of.Lists n) w c g = sample-gives n w c
 step-gives (of.Halves h) w c g =
     let a = take (h .first) w in
     let b = take (h .second) (drop (h .first) w) in
-    gives (distinct a b (h .reference) c) (distinct a b (h .reference)) (next a b (h .reference) c) (next-steps a b (h .reference) (g .first) (g .second) (g .number) (g .fit) c)
+    gives (distinct a b (h .reference) c) (distinct a b (h .reference)) (next a b (h .reference) c)
+    (next-steps a b (h .reference) (g .first) (g .second) (g .number) (g .fit) c)

@@ -102,7 +102,8 @@ module _ (a b : Job) (g : SameRead a b) where
   abbrev f : Bool
   f = a .fixed
 
-  free-same : (x y : Axes) (i j : Joint) → x ≡ y → Whole l i j → Whole l (a .j4) (b .j4) → Whole l (a .j5) (b .j5) → (T (not f) → Whole l (a .j6) (b .j6)) → One.free x a i ≡ One.free y b j
+  free-same : (x y : Axes) (i j : Joint) → x ≡ y → Whole l i j
+      → Whole l (a .j4) (b .j4) → Whole l (a .j5) (b .j5) → (T (not f) → Whole l (a .j6) (b .j6)) → One.free x a i ≡ One.free y b j
   unfolding One.free
   free-same x y i j e h fourth fifth sixth =
       rw (
@@ -169,7 +170,8 @@ module _ (a b : Job) (g : SameRead a b) where
     kinds-same J2free e = ap one (second-same e)
     kinds-same J1j2free e = ap two (both-same e)
 
-    by-same : by-kind (a .kind) (one (first-free a)) (one (second-free a)) (two (Two.folded a)) ≡ by-kind (b .kind) (one (first-free b)) (one (second-free b)) (two (Two.folded b))
+    by-same : by-kind (a .kind) (one (first-free a)) (one (second-free a)) (two (Two.folded a))
+        ≡ by-kind (b .kind) (one (first-free b)) (one (second-free b)) (two (Two.folded b))
     by-same = kinds-same (a .kind) refl ∙ ap (λ (k : Kind). by-kind k (one (first-free b)) (one (second-free b)) (two (Two.folded b))) (g .kind)
 
   -- THEOREM: What is not read changes no angle, no number of cuts and no refusal.

@@ -143,7 +143,8 @@ module _ (a b : List Float) (r last : Float) (k : ℕ) (c d : Cursor) (y : Float
   -- what `next-of` does with a value
   keep-or-skip : (t : Bool) → ne y last ≡ t → (stream a b r c ≡ y ∷ stream a b r d) × T (not (isNan y))
       → (ne y last ≡ false → Steps (rest last (stream a b r d)) (distinct a b r) (next-of k a b r last d))
-      → Steps (rest last (stream a b r c)) (distinct a b r) (cond t (Yield y (record { i = d .i; j = d .j; used = d .used; last = y })) (next-of k a b r last d))
+      → Steps (rest last (stream a b r c)) (distinct a b r)
+      (cond t (Yield y (record { i = d .i; j = d .j; used = d .used; last = y })) (next-of k a b r last d))
   unfolding distinct stream
   keep-or-skip true t e g = (rest-keep last y (stream a b r c) (stream a b r d) (e .0) t, e .1)
   keep-or-skip false t e g = rw (rest-skip last y (stream a b r c) (stream a b r d) (e .0) t) (g t)
@@ -160,7 +161,8 @@ module _ (a b : List Float) (r : Float) (wa : Woven a) (wb : Woven b) (n : T (no
   skips : (k : ℕ) (last : Float) (c : Cursor) → left a b c ≤ k → Steps (rest last (stream a b r c)) (distinct a b r) (next-of (suc k) a b r last c)
   unfolding next-of
   skips zero last c h =
-      turned a b r last 0 c (advance a b r c) (advance-steps a b r wa wb n f c) (advance-drops a b r c) (λ d g. absurd (not-suc-le-zero (subst (λ (m : ℕ). m ≤ 0) g h)))
+      turned a b r last 0 c (advance a b r c) (advance-steps a b r wa wb n f c) (advance-drops a b r c)
+      (λ d g. absurd (not-suc-le-zero (subst (λ (m : ℕ). m ≤ 0) g h)))
   skips (suc k) last c h =
       turned a b r last (suc k) c (advance a b r c) (advance-steps a b r wa wb n f c) (advance-drops a b r c)
       (λ d g. skips k last d (le-of-suc-le-suc (subst (λ (m : ℕ). m ≤ suc k) g h)))

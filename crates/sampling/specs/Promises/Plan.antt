@@ -1,9 +1,9 @@
 -- What `plan_of` makes of a job and leaves in the lent work slice, and how the angles are read off the cuts there, one at a time.
 use mathlib.Core.Path.{_≡_}
 use mathlib.Core.Logic.{_⊎_}
-use mathlib.Core.Bool.{Bool, not, cond}
+use mathlib.Core.Bool.{Bool, true, not, cond}
 use mathlib.Core.List.{List, [], _∷_, _++_}
-use Prim.Native.Nat.{ℕ, _+_, _≤_}
+use Prim.Native.Nat.{ℕ, _+_, _^_, _≤_}
 use lib.Dec.{T, leb, ltb}
 use lib.ListN.{length, getD, take, drop, replicate}
 use lib.Ieee.{Float, binary64, nan, neg, isNan, fits}
@@ -95,11 +95,21 @@ zeros n = replicate n zero-float
 abbrev pub where-laid : Plan → List Float → List Float → List Float
 where-laid p l other = by-plan p other other l
 
+-- a, b and c one after the other in w, which becomes after, where r says that there are places
+abbrev pub ListsLaid : List Float → List Float → List Float → List Float → Plan → List Float → Type 0
+ListsLaid a b c w r after =
+    let count = length a + length b + length c in
+    (r ≡ granted true count (lists-of a b c) (length w)) × (where-laid r after [] ≡ where-laid r (((a ++ b) ++ c) ++ drop count w) [])
+
 -- the cuts in front, and the rest as it was
 unfoldable pub work-after : Job → List Float → List Float
 work-after job w = where-laid (plan job (length w)) (all-cuts job ++ drop (cut-count job) w) (zeros (length w))
 
 -- ---- the angles
+
+-- as many cuts, with four samples each, can be counted in a usize
+abbrev pub countable : ℕ
+countable = 2 ^ 60
 
 -- the samples of three lists of cuts that stand one after the other in w
 abbrev pub all-samples : Lists → List Float → List Float

@@ -36,7 +36,8 @@ same-length c = search needs
 
 returns : tie.Need-returns
 returns c =
-    by-cut (c .before .before .before .before .before .before .before .before .args .job) _ _ _ _ (c .before .before .before .before .before .enum-told .given .1)
+    let start = c .before .before .before .before .before .before .before .before in
+    by-cut (start .args .job) _ _ _ _ (c .before .before .before .before .before .enum-told .given .1)
     (rw (← c .before .before .before .first-free .ensures) (c .before .before .cut .ensures))
 
 same-length-2 : tie.Need-same-length-2
@@ -44,7 +45,8 @@ same-length-2 c = search needs
 
 returns-2 : tie.Need-returns-2
 returns-2 c =
-    by-cut (c .before .before .before .before .before .before .before .before .args .job) _ _ _ _ (c .before .before .before .before .before .enum-told2 .given .1)
+    let start = c .before .before .before .before .before .before .before .before in
+    by-cut (start .args .job) _ _ _ _ (c .before .before .before .before .before .enum-told2 .given .1)
     (rw (← c .before .before .before .second-free .ensures) (c .before .before .cut2 .ensures))
 
 same-length-3 : tie.Need-same-length-3
@@ -52,8 +54,12 @@ same-length-3 c = search needs
 
 returns-3 : tie.Need-returns-3
 returns-3 c =
-    by-cut (c .before .before .before .before .before .before .before .before .args .job) _ _ _ _ (c .before .before .before .before .before .enum-told3 .given .1)
+    let start = c .before .before .before .before .before .before .before .before in
+    by-cut (start .args .job) _ _ _ _ (c .before .before .before .before .before .enum-told3 .given .1)
     (rw (← c .before .before .before .folded-of .ensures) (c .before .before .cut3 .ensures))
 
 pub cut-spec : {M : Type 1} → statement M
-cut-spec = tie.close (tie.spec enum-told first-free-requires cut-requires enum-told-2 second-free-requires cut-requires-2 enum-told-3 folded-of-requires cut-requires-3 same-length returns same-length-2 returns-2 same-length-3 returns-3)
+cut-spec =
+    tie.close
+    (tie.spec enum-told first-free-requires cut-requires enum-told-2 second-free-requires cut-requires-2 enum-told-3 folded-of-requires cut-requires-3
+    same-length returns same-length-2 returns-2 same-length-3 returns-3)

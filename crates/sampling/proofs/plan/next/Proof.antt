@@ -22,7 +22,9 @@ enum-known-plan-2 : tie.Need-enum-known-plan-2
 enum-known-plan-2 c = search needs
 
 next-slice-requires : tie.Need-next-slice-requires
-next-slice-requires c κs = let s = c .before .before .before .before in subst (λ (p : Plan). Ready p (s .args .work .now)) (c .before .plan2 .given .1) (s .pre) .room
+next-slice-requires c κs =
+    let s = c .before .before .before .before in
+    subst (λ (p : Plan). Ready p (s .args .work .now)) (c .before .plan2 .given .1) (s .pre) .room
 
 returns : tie.Need-returns
 returns c = search needs
@@ -31,10 +33,16 @@ returns-2 : tie.Need-returns-2
 returns-2 c = search needs
 
 returns-3 : tie.Need-returns-3
-returns-3 c = let a = c .before .before .before .before .before .args in c .next-sample .ensures ∙ ap (λ (p : Plan). step p (a .work .now) (a .c)) (sym (c .before .before .plan .given .1))
+returns-3 c =
+    let a = c .before .before .before .before .before .args in
+    c .next-sample .ensures ∙ ap (λ (p : Plan). step p (a .work .now) (a .c)) (sym (c .before .before .plan .given .1))
 
 returns-4 : tie.Need-returns-4
-returns-4 c = let a = c .before .before .before .before .before .args in c .next-slice .ensures ∙ ap (λ (p : Plan). step p (a .work .now) (a .c)) (sym (c .before .before .plan2 .given .1))
+returns-4 c =
+    let a = c .before .before .before .before .before .args in
+    c .next-slice .ensures ∙ ap (λ (p : Plan). step p (a .work .now) (a .c)) (sym (c .before .before .plan2 .given .1))
 
 pub next-spec : {M : Type 1} → statement M
-next-spec = tie.close (tie.spec enum-told enum-told-2 enum-known-plan next-sample-requires enum-known-plan-2 next-slice-requires returns returns-2 returns-3 returns-4)
+next-spec =
+    tie.close
+    (tie.spec enum-told enum-told-2 enum-known-plan next-sample-requires enum-known-plan-2 next-slice-requires returns returns-2 returns-3 returns-4)

@@ -1,6 +1,7 @@
 -- `sampling::plan::next_sample` meets its contract. Assumes nothing.
 use borrow.Author.Needs.{needs}
 use borrow.Author.Tests.{lt-ltb, le-ltb}
+use Prim.Native.Nat.{_<_}
 use native.Mathlib.Omega.{arith}
 use lib.ListN.{length}
 use Rattle.sampling.specs.Promises.Plan.{all-samples, sample-step}
@@ -23,7 +24,8 @@ returns c =
     let s = c .before .before .before .before in
     let a = s .args in
     let e = all-samples-length (a .n) (a .work .now) (s .pre) in
-    rw (lt-ltb (a .c .i) (length (all-samples (a .n) (a .work .now))) (omega (arith, e, c .before .before .angle-count .ensures, c .before .if1 .taken)), ← c .angle-at .ensures)
+    let h : a .c .i < length (all-samples (a .n) (a .work .now)) = omega (arith, e, c .before .before .angle-count .ensures, c .before .if1 .taken) in
+    rw (lt-ltb (a .c .i) (length (all-samples (a .n) (a .work .now))) h, ← c .angle-at .ensures)
 
 returns-2 : tie.Need-returns-2
 unfolding sample-step

@@ -35,7 +35,8 @@ returns : tie.Need-returns
 returns c =
     let a = c .before .before .before .before .before .args in
     let w = a .work .now in
-    c .next .ensures ∙ ap (λ (k : ℕ). next (take (a .h .first) w) (take k (drop (a .h .first) w)) (a .h .reference) (a .c)) (add-sub-cancel-left (a .h .first) (a .h .second))
+    c .next .ensures
+    ∙ ap (λ (k : ℕ). next (take (a .h .first) w) (take k (drop (a .h .first) w)) (a .h .reference) (a .c)) (add-sub-cancel-left (a .h .first) (a .h .second))
 
 pub next-slice-spec : {M : Type 1} → statement M
 next-slice-spec = tie.close (tie.spec add-end slice-aggregate-next mul-next sub-next part-next-start part-next-end next-requires returns)

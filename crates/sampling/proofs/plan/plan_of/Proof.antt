@@ -16,8 +16,10 @@ same-length c = search needs
 returns : tie.Need-returns
 returns c =
     let cut = c .before .before .before .before .before .before .cut in
-    let start = c .before .before .before .before .before .before .before .before .before in
-    (cut .ensures .0, settled (start .args .job) (cut .result) (start .args .work .now) _ _ (cut .ensures .0) (cut .kept .0) (cut .ensures .1) (c .before .before .settle .ensures))
+    let start = c .before .before .before .before .before .before .before .before .before in (
+      cut .ensures .0,
+      settled (start .args .job) (cut .result) (start .args .work .now) _ _ (cut .ensures .0) (cut .kept .0) (cut .ensures .1) (c .before .before .settle .ensures),
+    )
 
 pub plan-of-spec : {M : Type 1} → statement M
 plan-of-spec = tie.close (tie.spec cut-requires settle-requires same-length returns)

@@ -40,4 +40,6 @@ returns-4 : tie.Need-returns-4
 returns-4 c = search needs
 
 pub settle-spec : {M : Type 1} → statement M
-settle-spec = tie.close (tie.spec enum-told clear-requires enum-told-2 clear-requires-2 enum-told-3 enum-told-4 same-length returns same-length-2 returns-2 returns-3 returns-4)
+settle-spec =
+    tie.close
+    (tie.spec enum-told clear-requires enum-told-2 clear-requires-2 enum-told-3 enum-told-4 same-length returns same-length-2 returns-2 returns-3 returns-4)

@@ -35,4 +35,6 @@ unfolding joint-read
 returns-3 c = simp (c .before .enum-told3 .given .1, ← c .wrist-read3 .ensures)
 
 pub joint-read-spec : {M : Type 1} → statement M
-joint-read-spec = tie.close (tie.spec enum-told wrist-read-requires enum-told-2 wrist-read-requires-2 enum-told-3 wrist-read-requires-3 returns returns-2 returns-3)
+joint-read-spec =
+    tie.close
+    (tie.spec enum-told wrist-read-requires enum-told-2 wrist-read-requires-2 enum-told-3 wrist-read-requires-3 returns returns-2 returns-3)

@@ -75,7 +75,12 @@ same-length c = search needs
 
 returns : tie.Need-returns
 unfolding interval-cuts
-returns c = let s = c .before .before .before .before .before .before .before .before in (short-first (first-of s) (second-of s) (third-of s) _ (kept-full _ _ _ _ (c .before .before .before .before .interval-cuts .ensures) (c .enum-told .given .1)), refl)
+returns c =
+    let s = c .before .before .before .before .before .before .before .before in (
+      short-first (first-of s) (second-of s) (third-of s) _
+          (kept-full _ _ _ _ (c .before .before .before .before .interval-cuts .ensures) (c .enum-told .given .1)),
+      refl,
+    )
 
 mul-interval-cuts : tie.Need-mul-interval-cuts
 mul-interval-cuts c = let h = one c .within in search (needs, h)
@@ -103,7 +108,13 @@ same-length-2 c = search needs
 
 returns-2 : tie.Need-returns-2
 unfolding interval-cuts
-returns-2 c = let s = start (c .before .before .before .before .before .before) in (short-second (first-of s) (second-of s) (third-of s) _ (no-place-behind _ _ _ _ (one (c .before .before .before .before .before .before)) _ _ _ (c .before .before .before .before .interval-cuts2 .ensures) (c .enum-told2 .given .1)), refl)
+returns-2 c =
+    let p = c .before .before .before .before .before .before in
+    let s = start p in (
+      short-second (first-of s) (second-of s) (third-of s) _
+          (no-place-behind _ _ _ _ (one p) _ _ _ (c .before .before .before .before .interval-cuts2 .ensures) (c .enum-told2 .given .1)),
+      refl,
+    )
 
 add-interval-cuts : tie.Need-add-interval-cuts
 add-interval-cuts c = let h = two c .within in search (needs, h)
@@ -134,7 +145,13 @@ same-length-3 c = search needs
 
 returns-3 : tie.Need-returns-3
 unfolding interval-cuts
-returns-3 c = let s = start (before (c .before .before .before .before .before .before)) in (short-third (first-of s) (second-of s) (third-of s) _ (no-place-behind _ _ _ _ (two (c .before .before .before .before .before .before)) _ _ _ (c .before .before .before .before .interval-cuts3 .ensures) (c .enum-told3 .given .1)), refl)
+returns-3 c =
+    let p = c .before .before .before .before .before .before in
+    let s = start (before p) in (
+      short-third (first-of s) (second-of s) (third-of s) _
+          (no-place-behind _ _ _ _ (two p) _ _ _ (c .before .before .before .before .interval-cuts3 .ensures) (c .enum-told3 .given .1)),
+      refl,
+    )
 
 same-length-4 : tie.Need-same-length-4
 same-length-4 c = search needs
@@ -147,8 +164,11 @@ returns-4 c =
     let k = c .before .before .before .before .before .interval-cuts3 .ensures in
     let e = c .before .third .given .1 in
     let h = laid-next _ _ _ _ (two p) (values (start (before p)) (start (before p) .args .three .third)) _ _ k _ e in
-    let i = p .before .before .before .before .before .interval-cuts2 .ensures .held _ (p .before .second .given .1) .count in
-    (all-three (first-of s) (second-of s) (third-of s) _ _ _ _ (one (p .before .before .before .before .before .before .before) .count) i (k .held _ e .count) (h .within), laid-three (first-of s) (second-of s) (third-of s) _ _ _ h)
+    let i = p .before .before .before .before .before .interval-cuts2 .ensures .held _ (p .before .second .given .1) .count in (
+      all-three (first-of s) (second-of s) (third-of s) _ _ _ _
+          (one (p .before .before .before .before .before .before .before) .count) i (k .held _ e .count) (h .within),
+      laid-three (first-of s) (second-of s) (third-of s) _ _ _ h,
+    )
 
 pub cut-intervals-spec : {M : Type 1} → statement M
 cut-intervals-spec =

@@ -86,8 +86,9 @@ second-false false q e = refl
 -- x is not the least
 not-x : (c : tie.Joined2) → (total-le (x (c .before .before)) (y (c .before .before)) && total-le (x (c .before .before)) (z (c .before .before))) ≡ false
 not-x c =
-    ⊎-elim (λ w. second-false (total-le (x (c .before .before)) (y (c .before .before))) (total-le (x (c .before .before)) (z (c .before .before))) (sym (w .1 .ensures) ∙ w .2 .left))
-    (λ w. ap (λ (p : Bool). p && total-le (x (c .before .before)) (z (c .before .before))) (sym (c .before .total-le .ensures) ∙ w .left)) (c .if2 .came)
+    let d = c .before .before in
+    ⊎-elim (λ w. second-false (total-le (x d) (y d)) (total-le (x d) (z d)) (sym (w .1 .ensures) ∙ w .2 .left))
+    (λ w. ap (λ (p : Bool). p && total-le (x d) (z d)) (sym (c .before .total-le .ensures) ∙ w .left)) (c .if2 .came)
 
 woven-requires : tie.Need-woven-requires
 woven-requires c κs = search needs

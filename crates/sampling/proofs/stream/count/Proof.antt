@@ -25,7 +25,8 @@ abbrev μ-loop : tie.MeasureT-loop
 
 -- what a step gives
 steps : (s : tie.Start Inv-loop μ-loop) (c : Cursor)
-    → Steps (distinct (s .args .a .now) (s .args .b .now) (s .args .r) c) (distinct (s .args .a .now) (s .args .b .now) (s .args .r)) (next (s .args .a .now) (s .args .b .now) (s .args .r) c)
+    → Steps (distinct (s .args .a .now) (s .args .b .now) (s .args .r) c) (distinct (s .args .a .now) (s .args .b .now) (s .args .r))
+    (next (s .args .a .now) (s .args .b .now) (s .args .r) c)
 steps s c = next-steps (s .args .a .now) (s .args .b .now) (s .args .r) (s .pre .0) (s .pre .1 .0) (s .pre .1 .1) (subst T (sym (s .good .1 .1 .0 .1)) tt) c
 
 -- after a value came
@@ -65,7 +66,8 @@ returns c =
     let s = c .before .before .before .before .before .before .before in
     let p = s .args in
     let left : Cursor → List Float = distinct (p .a .now) (p .b .now) (p .r) in
-    let e : left (l .c) ≡ [] = subst (λ (s : Step). Steps (left (l .c)) left s) (sym (c .before .before .next .ensures) ∙ c .enum-told .given .1) (steps s (l .c)) in
+    let e : left (l .c) ≡ [] =
+    subst (λ (s : Step). Steps (left (l .c)) left s) (sym (c .before .before .next .ensures) ∙ c .enum-told .given .1) (steps s (l .c)) in
     let k = ap length e in
     let i = l .inv in
     omega arith

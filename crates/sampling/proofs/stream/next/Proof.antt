@@ -66,7 +66,8 @@ unfolding Of.next
 returns c =
     let l = c .before .before .before .loop in
     let p = c .before .before .before .before .before .before .args in
-    sym (next-end (p .a .now) (p .b .now) (p .r) (p .c .last) (Of.left (p .a .now) (p .b .now) (l .at)) (l .at) (sym (c .before .before .advance .ensures) ∙ c .enum-told .given .1))
+    sym (next-end (p .a .now) (p .b .now) (p .r) (p .c .last) (Of.left (p .a .now) (p .b .now) (l .at)) (l .at)
+    (sym (c .before .before .advance .ensures) ∙ c .enum-told .given .1))
     ∙ l .inv
 
 enum-known-s : tie.Need-enum-known-s Inv-loop μ-loop

@@ -120,14 +120,14 @@ module _ {M : Type 1} (𝓤 : URA M) (H : Heap 𝓤) (A : Atoms 𝓤) (W : Given
   to-job r u = (((κ, tt), (q, tt), tt, (r, (i, tt)), (u ∷ [], (Mat′.lowered i ∷ [], tt))), tt)
 
   goes-job : (r : View) (u : Val) → (core-size ≤ length (now (r .request))) × (i ≡ matrix (rotation-of (now (r .request)))) → ent 𝓤
-    (⋆ 𝓤 H A (‵ (B (κ, tt) .own r (u ∷ [])) ∷ (‵ (flft κ q) ⊛ ‵ ftrue) ∷ [])) (Job′ 𝓤 H A mem run .pre (to-job r u))
+      (⋆ 𝓤 H A (‵ (B (κ, tt) .own r (u ∷ [])) ∷ (‵ (flft κ q) ⊛ ‵ ftrue) ∷ [])) (Job′ 𝓤 H A mem run .pre (to-job r u))
   goes-job r u w =
       qed W (‵ (B (κ, tt) .own r (u ∷ [])) ∷ (‵ (flft κ q) ⊛ ‵ ftrue) ∷ []) ∵
       nothing ! $ owned ! Mat.the-row (Is Mat.the-row) (LL.makes Mat.the-type Mat′.the-plain 𝓤 H A) i _ is-matrix $ fjoin ! $ move ! (1 ∷ 0 ∷ []) $ fjoin ! $
       move ! (1 ∷ 0 ∷ []) $ says ! w $ frame ! $ done !
 
   job-said : (r : View) (t : Job) → ent 𝓤 (ensured 𝓤 H A job.ended (job.clauses 𝓤 H A mem run) (κ, tt) (r, (i, tt)) tt t)
-    (fact 𝓤 (t ≡ job-of (now (r .request))))
+      (fact 𝓤 (t ≡ job-of (now (r .request))))
   job-said r t = exE 𝓤 _ (λ ws. snd∗ 𝓤 (sem 𝓤 H A (lasts job.ended (κ, tt) (r, (i, tt)) ws)) (fact 𝓤 (t ≡ job-of (now (r .request)))))
 
   exits : (t : Job) (u : Val) → t ≡ found → ent 𝓤 (⋆ 𝓤 H A (‵ (J.the-row .own t (u ∷ [])) ∷ (‵ (flft κ q) ⊛ ‵ ftrue) ∷ ‵ Own ∷ [])) (Post u)
@@ -139,9 +139,9 @@ module _ {M : Type 1} (𝓤 : URA M) (H : Heap 𝓤) (A : Atoms 𝓤) (W : Given
       ! (2 ∷ 0 ∷ []) $ fjoin ! $ frame ! $ done !
 
   module _ (C : Calls 𝓤 H) (Λ : Loops 𝓤 H) (fm : FmC 𝓤 H (W .laws) C) (known-new : Triple 𝓤 (C #sheet·view·new) (New 𝓤 H A mem run))
-    (known-job : Triple 𝓤 (C #sheet·view·job) (Job′ 𝓤 H A mem run)) where
+      (known-job : Triple 𝓤 (C #sheet·view·job) (Job′ 𝓤 H A mem run)) where
     walk : Is (ShrSlice (named 0) κ u8) s (v ∷ []) → ent 𝓤 (onEntry 𝓤 H A self.signature (κ, tt) (q, tt) (s, (i, tt)) at)
-    (WpFn 𝓤 H C Λ code.function (v ∷ Mat′.lowered i ∷ []) Post)
+        (WpFn 𝓤 H C Λ code.function (v ∷ Mat′.lowered i ∷ []) Post)
     walk p =
         qed W (raw (onEntry 𝓤 H A self.signature (κ, tt) (q, tt) (s, (i, tt)) at) ∷ []) ∵ enter ! C Λ code.function (v ∷ Mat′.lowered i ∷ []) _ $
         alloc1 ! (λ l₀. alloc1 ! (λ l₁. alloc1 !
@@ -172,10 +172,10 @@ module _ {M : Type 1} (𝓤 : URA M) (H : Heap 𝓤) (A : Atoms 𝓤) (W : Given
 
 module _ {M : Type 1} (𝓤 : URA M) (H : Heap 𝓤) (A : Atoms 𝓤) (W : Given 𝓤 H A) (mem : Memory → SProp 𝓤) (run : Routine → Fun 𝓤) where
   walks : (C : Calls 𝓤 H) (Λ : Loops 𝓤 H) → FmC 𝓤 H (W .laws) C → Triple 𝓤 (C #sheet·view·new) (New 𝓤 H A mem run) → Triple 𝓤 (C #sheet·view·job)
-    (Job′ 𝓤 H A mem run)
+      (Job′ 𝓤 H A mem run)
       → Walks 𝓤 H A self.ended stayed (WpFn 𝓤 H C Λ code.function) (self.clauses 𝓤 H A mem run)
   walks C Λ fm known-new known-job = walked 𝓤 H A self.ended stayed (self.clauses 𝓤 H A mem run) (WpFn 𝓤 H C Λ code.function)
-    (λ κs. (slice-vals, (LL.vals Mat.the-type Mat′.the-laws, tt))) (λ κs. (shr-slice-tells (named 0) (κs .0) u8, (LL.tells Mat.the-type Mat′.the-laws, tt)))
+      (λ κs. (slice-vals, (LL.vals Mat.the-type Mat′.the-laws, tt))) (λ κs. (shr-slice-tells (named 0) (κs .0) u8, (LL.tells Mat.the-type Mat′.the-laws, tt)))
       (λ κs qs bounds a g are. needs 𝓤 _ _
       (λ within. walk 𝓤 H A W mem run (κs .0) (qs .0) (a .0) (a .1 .0) (are .1 .0) within C Λ fm known-new known-job (are .0)))
 
