@@ -8,7 +8,7 @@ use libc::STDIN_FILENO;
 use libc::STDOUT_FILENO;
 use sheet::check::Checked;
 use sheet::check::check;
-use sheet::check::refusal_of;
+use sheet::refusals::fault_number;
 use text::report::number;
 
 // The first n floats of a sheet, a line each.
@@ -29,13 +29,16 @@ fn print_angles(sheet: &[u8], n: usize) {
 fn answer(sheet: &[u8]) {
     let mut work = [0.0f64; 4096];
     let checked = check(sheet, &mut work);
-    if let Checked::Accepted(n) = checked {
-        if number(STDOUT_FILENO, b"accepted", n as u64) {
-            print_angles(sheet, n);
+    match checked {
+        Checked::Accepted(n) => {
+            if number(STDOUT_FILENO, b"accepted", n as u64) {
+                print_angles(sheet, n);
+            }
         }
-        return;
+        Checked::Refused(f) => {
+            number(STDOUT_FILENO, b"refused", fault_number(f));
+        }
     }
-    number(STDOUT_FILENO, b"refused", refusal_of(checked));
 }
 
 // Whether one more byte stands on standard input.

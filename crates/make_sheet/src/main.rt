@@ -4,8 +4,8 @@
 use libc::STDERR_FILENO;
 use libc::STDIN_FILENO;
 use libc::STDOUT_FILENO;
+use sheet::refusals::refusal_number;
 use sheet::sample::Sampled;
-use sheet::sample::refusal_of;
 use sheet::sample::sample;
 use text::report::number;
 
@@ -27,11 +27,12 @@ fn answer(request: &[u8]) {
     let mut work = [0.0f64; 4096];
     let mut output = io::large_buffer();
     let sampled = sample(request, &mut work, &mut output);
-    if let Sampled::Angles(n) = sampled {
-        write_sheet(&output, n);
-        return;
+    match sampled {
+        Sampled::Angles(n) => write_sheet(&output, n),
+        Sampled::Refused(k) => {
+            number(STDERR_FILENO, b"refused", refusal_number(k));
+        }
     }
-    number(STDERR_FILENO, b"refused", refusal_of(sampled));
 }
 
 // One byte more than a request has room, so that a longer one is refused.

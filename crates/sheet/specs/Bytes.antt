@@ -4,7 +4,7 @@ use mathlib.Core.List.{List, [], _∷_, _++_}
 use mathlib.Core.Bool.{Bool, true, false, _&&_}
 use lib.ListN.{take, drop, replicate}
 use lib.Dec.{eqb}
-use lib.Ieee.{Float, binary64, ofBits, toBits}
+use lib.Ieee.{Float, binary64, ofBits}
 use Rattle.float.specs.Number.{zero-float}
 
 -- the number that bytes stand for
@@ -25,14 +25,10 @@ part at k s = take k (drop at s)
 abbrev pub float-at : List ℕ → ℕ → Float
 float-at s at = ofBits binary64 (le (part at 8 s))
 
--- the eight bytes of a float; the NaN is 7FF8000000000000
-abbrev pub float-bytes : Float → List ℕ
-float-bytes x = bytes 8 (toBits binary64 x)
-
--- the bytes of several floats, one after the other
-unfoldable pub floats-bytes : List Float → List ℕ
-floats-bytes [] = []
-floats-bytes (x ∷ xs) = float-bytes x ++ floats-bytes xs
+-- the bytes of several 64-bit numbers, one after the other
+unfoldable pub words-bytes : List ℕ → List ℕ
+words-bytes [] = []
+words-bytes (w ∷ ws) = bytes 8 w ++ words-bytes ws
 
 -- n times +0.0
 abbrev pub zeros : ℕ → List Float

@@ -1,3 +1,5 @@
--- What inner functions promise one another: `Passed` (a request that meets none of refusals 1 to 8), `Judge` (what becomes of it, the output apart).
-pub mod Passed
-pub mod Judge
+-- What inner functions promise one another: `Floats` (the bytes of floats), `Tested` (what the tests of a request come to), `Plan` (what becomes of a
+-- request that passed them).
+pub mod Floats
+pub mod Tested
+pub mod Plan

@@ -1,9 +1,10 @@
 // Bytes, and the numbers and floats that they hold, low byte first.
 ghost use mathlib.Core.Path.{_≡_};
-ghost use Prim.Native.Nat.{_+_, _*_, _≤_, _<_};
+ghost use Prim.Native.Nat.{_+_, _*_, _^_, _≤_, _<_};
 ghost use lib.ListN.{length, getD};
 ghost use lib.Seq.{sets};
 ghost use Rattle.sheet.specs.Bytes as Bytes;
+ghost use Rattle.sheet.specs.Promises.Floats as Floats;
 use float::number::bits;
 use float::number::of_bits;
 
@@ -18,7 +19,7 @@ fn of_four(b0: u8, b1: u8, b2: u8, b3: u8) -> u32
 
 // The number of eight bytes, by halves.
 fn of_halves(low: u32, high: u32) -> u64
-    ensures { λ r. ⌜ r ≡ low + 4294967296 * high ⌝ }
+    ensures { λ r. ⌜ r ≡ low + 2 ^ 32 * high ⌝ }
 {
     low as u64 + 4294967296 * (high as u64)
 }
@@ -72,7 +73,7 @@ pub(crate) fn put(out: &mut [u8], at: usize, k: usize, v: u64)
 // The eight bytes of a float, written from `at` on.
 pub(crate) fn put_float(out: &mut [u8], at: usize, x: f64)
     requires { ⌜ at + 8 ≤ length (now out) ⌝ }
-    ensures { λ _. ⌜ now (out .exit) ≡ sets (now (out .entry)) at (Bytes.float-bytes x) ⌝ }
+    ensures { λ _. ⌜ now (out .exit) ≡ sets (now (out .entry)) at (Floats.float-bytes x) ⌝ }
 {
     put(out, at, 8, bits(x));
 }
@@ -95,7 +96,7 @@ pub(crate) fn same_at(s: &[u8], at: usize, t: &[u8]) -> bool
 // Whether the bytes of a float stand in s from `at` on.
 pub(crate) fn same_float(s: &[u8], at: usize, x: f64) -> bool
     requires { ⌜ at + 8 ≤ length (now s) ⌝ }
-    ensures { λ r. ⌜ r ≡ Bytes.same-bytes (Bytes.part at 8 (now (s .entry))) (Bytes.float-bytes x) ⌝ }
+    ensures { λ r. ⌜ r ≡ Bytes.same-bytes (Bytes.part at 8 (now (s .entry))) (Floats.float-bytes x) ⌝ }
 {
     let mut b = [0u8; 8];
     put_float(&mut b, 0, x);

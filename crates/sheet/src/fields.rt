@@ -1,23 +1,22 @@
-// The job that a request's fields say, every field as given, and its rotation matrix.
+// The job that a request's fields say, every field as given.
 ghost use mathlib.Core.Path.{_≡_};
 ghost use Prim.Native.Nat.{_≤_};
 ghost use lib.ListN.{length};
 ghost use Rattle.sheet.specs.Request as Request;
 ghost use Rattle.sheet.specs.Fields as Fields;
+use crate::bytes::byte_at;
+use crate::bytes::float_at;
 use crate::request::Field;
 use crate::request::ROTATION;
+use crate::request::Shape;
 use crate::request::place;
-use crate::view::byte_in;
-use crate::view::float_in;
+use crate::request::shape_of;
 use sampling::job::Arm;
 use sampling::job::Job;
 use sampling::job::Joint;
+use sampling::job::Kind;
 use sampling::pose::Matrix;
-use sampling::pose::Normalized;
 use sampling::pose::Quaternion;
-use sampling::pose::Vector;
-use sampling::pose::from_quat;
-use sampling::pose::try_normalize;
 
 // The sign of a byte.
 fn sign_of(b: u8) -> f64
@@ -31,20 +30,20 @@ fn sign_of(b: u8) -> f64
 
 // The float of a field.
 pub(crate) fn field_at(request: &[u8], f: Field, j: usize) -> f64
-    requires { ⌜ (length (now request) ≡ Request.request-size) × (1 ≤ j) × (j ≤ 6) ⌝ }
+    requires { ⌜ (Request.core-size ≤ length (now request)) × (1 ≤ j) × (j ≤ 6) ⌝ }
     ensures { λ r. ⌜ r ≡ Fields.field (now (request .entry)) f j ⌝ }
 {
-    float_in(request, place(f, j))
+    float_at(request, place(f, j))
 }
 
 // A joint's sign, offset, reference and limits.
 fn joint_at(request: &[u8], j: usize) -> Joint
-    requires { ⌜ (length (now request) ≡ Request.request-size) × (1 ≤ j) × (j ≤ 6) ⌝ }
+    requires { ⌜ (Request.core-size ≤ length (now request)) × (1 ≤ j) × (j ≤ 6) ⌝ }
     ensures { λ r. ⌜ r ≡ Fields.joint-at (now (request .entry)) j ⌝ }
 {
     let at = place(Field::Sign, j);
     Joint {
-        sign: sign_of(byte_in(request, at)),
+        sign: sign_of(byte_at(request, at)),
         offset: field_at(request, Field::Offset, j),
         reference: field_at(request, Field::Reference, j),
         from: field_at(request, Field::From, j),
@@ -54,20 +53,20 @@ fn joint_at(request: &[u8], j: usize) -> Joint
 
 // The rotation.
 pub(crate) fn rotation_of(request: &[u8]) -> Quaternion
-    requires { ⌜ length (now request) ≡ Request.request-size ⌝ }
+    requires { ⌜ Request.core-size ≤ length (now request) ⌝ }
     ensures { λ r. ⌜ r ≡ Fields.rotation-of (now (request .entry)) ⌝ }
 {
     Quaternion {
-        x: float_in(request, ROTATION),
-        y: float_in(request, ROTATION + 8),
-        z: float_in(request, ROTATION + 16),
-        w: float_in(request, ROTATION + 24),
+        x: float_at(request, ROTATION),
+        y: float_at(request, ROTATION + 8),
+        z: float_at(request, ROTATION + 16),
+        w: float_at(request, ROTATION + 24),
     }
 }
 
 // The arm's angles.
 fn arm_of(request: &[u8]) -> Arm
-    requires { ⌜ length (now request) ≡ Request.request-size ⌝ }
+    requires { ⌜ Request.core-size ≤ length (now request) ⌝ }
     ensures { λ r. ⌜ r ≡ Fields.arm-of (now (request .entry)) ⌝ }
 {
     Arm {
@@ -77,45 +76,50 @@ fn arm_of(request: &[u8]) -> Arm
     }
 }
 
-// The job, every field as given.
-pub(crate) fn job_of(request: &[u8]) -> Job
-    requires { ⌜ length (now request) ≡ Request.request-size ⌝ }
+// Kind and flags; a wrong one is refused, whatever stands for it here.
+fn kind_of(s: Shape) -> Kind
+    ensures { λ r. ⌜ r ≡ Fields.kind-of s ⌝ }
+{
+    match s {
+        Shape::Bad => Kind::J1free,
+        Shape::Right(kind, _, _) => kind,
+    }
+}
+
+fn limited_of(s: Shape) -> bool
+    ensures { λ r. ⌜ r ≡ Fields.limited-of s ⌝ }
+{
+    match s {
+        Shape::Bad => false,
+        Shape::Right(_, limits, _) => limits,
+    }
+}
+
+fn fixed_of(s: Shape) -> bool
+    ensures { λ r. ⌜ r ≡ Fields.fixed-of s ⌝ }
+{
+    match s {
+        Shape::Bad => false,
+        Shape::Right(_, _, fixed) => fixed,
+    }
+}
+
+// The job, every field as given, with the rotation's matrix m.
+pub(crate) fn job_of(request: &[u8], m: Matrix) -> Job
+    requires { ⌜ (Request.core-size ≤ length (now request)) × (m ≡ Fields.matrix (Fields.rotation-of (now request))) ⌝ }
     ensures { λ r. ⌜ r ≡ Fields.job-of (now (request .entry)) ⌝ }
 {
+    let s = shape_of(request);
     Job {
-        kind: byte_in(request, 0),
-        limited: byte_in(request, 1) == 1,
-        fixed: byte_in(request, 2) == 1,
-        rotation: rotation_of(request),
+        kind: kind_of(s),
+        limited: limited_of(s),
+        fixed: fixed_of(s),
+        matrix: m,
         arm: arm_of(request),
         j1: joint_at(request, 1),
         j2: joint_at(request, 2),
-        j3: joint_at(request, 3),
         j4: joint_at(request, 4),
         j5: joint_at(request, 5),
         j6: joint_at(request, 6),
-    }
-}
-
-fn zero_matrix() -> Matrix
-    ensures { λ r. ⌜ r ≡ Fields.zero-matrix ⌝ }
-{
-    let zero = Vector::new(0.0, 0.0, 0.0);
-    Matrix {
-        x: zero,
-        y: zero,
-        z: zero,
-    }
-}
-
-// The matrix of a rotation. Where it is not finite or zero, which is refused before, all is zero.
-pub(crate) fn matrix_of(q: Quaternion) -> Matrix
-    ensures { λ r. ⌜ r ≡ Fields.matrix q ⌝ }
-{
-    let n = try_normalize(q);
-    match n {
-        Normalized::Unit(u) => from_quat(u),
-        Normalized::NotFinite => zero_matrix(),
-        Normalized::Zero => zero_matrix(),
     }
 }

@@ -8,42 +8,29 @@ ghost use Rattle.sheet.specs.Sampling as Sampling;
 ghost use Rattle.sheet.specs.Check as Check;
 use crate::check::Checked;
 use crate::check::check;
+use crate::refusals::fault_number;
+use crate::refusals::refusal_number;
 use crate::sample::Sampled;
 use crate::sample::sample;
 
 // The count, or minus the refusal's number.
 fn sampled_number(a: Sampled) -> i64
-    requires { ⌜ ((n : ℕ) → Sampling.verdict a ≡ Refusals.accepted n → n < 2 ^ 63) ⌝ }
-    ensures { λ r. ⌜ r ≡ Refusals.number (Sampling.verdict a) ⌝ }
+    requires { ⌜ ((n : ℕ) → Sampling.answer-of a ≡ Refusals.accepted n → n < 2 ^ 63) ⌝ }
+    ensures { λ r. ⌜ r ≡ Refusals.signed (Sampling.answer-of a) ⌝ }
 {
     match a {
         Sampled::Angles(n) => n as i64,
-        Sampled::Length => -1,
-        Sampled::Head => -2,
-        Sampled::Sign => -3,
-        Sampled::NotFinite => -4,
-        Sampled::Zero => -5,
-        Sampled::Arm => -6,
-        Sampled::Reference => -7,
-        Sampled::Offset => -8,
-        Sampled::Roots => -9,
-        Sampled::Work => -10,
-        Sampled::Output => -11,
+        Sampled::Refused(k) => -(refusal_number(k) as i64),
     }
 }
 
 fn checked_number(a: Checked) -> i64
-    requires { ⌜ ((n : ℕ) → Check.ruling a ≡ Refusals.accepted n → n < 2 ^ 63) ⌝ }
-    ensures { λ r. ⌜ r ≡ Refusals.number (Check.ruling a) ⌝ }
+    requires { ⌜ ((n : ℕ) → Check.answer-of a ≡ Refusals.accepted n → n < 2 ^ 63) ⌝ }
+    ensures { λ r. ⌜ r ≡ Refusals.signed (Check.answer-of a) ⌝ }
 {
     match a {
         Checked::Accepted(n) => n as i64,
-        Checked::Length => -31,
-        Checked::Trailer => -32,
-        Checked::Request => -33,
-        Checked::Unread => -34,
-        Checked::Work => -35,
-        Checked::Angles => -36,
+        Checked::Refused(f) => -(fault_number(f) as i64),
     }
 }
 
@@ -51,7 +38,7 @@ fn checked_number(a: Checked) -> i64
 // answer each work place is +0.0.
 #[no_mangle]
 pub extern "C" fn sheet_sample(request: &[u8], work: &mut [f64], output: &mut [u8]) -> i64
-    ensures { λ r. ⌜ r ≡ Refusals.number (Sampling.answer (now (request .entry)) (length (now (work .entry))) (length (now (output .entry)))) ⌝ }
+    ensures { λ r. ⌜ r ≡ Refusals.signed (Sampling.answer (now (request .entry)) (length (now (work .entry))) (length (now (output .entry)))) ⌝ }
     ensures { λ _. ⌜ now (output .exit) ≡ Sampling.output-after (Sampling.answer (now (request .entry)) (length (now (work .entry))) (length (now (output .entry)))) (now (request .entry)) (now (output .entry)) ⌝ }
     ensures { λ _. ⌜ now (work .exit) ≡ Bytes.zeros (length (now (work .entry))) ⌝ }
 {
@@ -62,7 +49,7 @@ pub extern "C" fn sheet_sample(request: &[u8], work: &mut [f64], output: &mut [u
 // After every answer each work place is +0.0.
 #[no_mangle]
 pub extern "C" fn sheet_check(sheet: &[u8], work: &mut [f64]) -> i64
-    ensures { λ r. ⌜ r ≡ Refusals.number (Check.ruled (now (sheet .entry)) (length (now (work .entry)))) ⌝ }
+    ensures { λ r. ⌜ r ≡ Refusals.signed (Check.answer (now (sheet .entry)) (length (now (work .entry)))) ⌝ }
     ensures { λ _. ⌜ now (work .exit) ≡ Bytes.zeros (length (now (work .entry))) ⌝ }
 {
     let a = check(sheet, work);

@@ -8,71 +8,41 @@ ghost use lib.Seq.{sets};
 ghost use Rattle.sampling.specs.Promises.Stream.{start};
 ghost use Rattle.sampling.specs.Promises.Plan.{to-come, Ready};
 ghost use Rattle.sheet.specs.Bytes as Bytes;
+ghost use Rattle.sheet.specs.Promises.Floats as Floats;
 ghost use Rattle.sheet.specs.Request as Request;
-ghost use Rattle.sheet.specs.Refusals as Refusals;
 ghost use Rattle.sheet.specs.Sheet as Sheet;
 ghost use Rattle.sheet.specs.Sampling as Sampling;
-ghost use Rattle.sheet.specs.Promises.Judge as Judge;
+ghost use Rattle.sheet.specs.Promises.Plan as Promise;
 use crate::angles::put_lists;
 use crate::bytes::clear;
 use crate::bytes::put_float;
-use crate::judge::is_ready;
-use crate::judge::is_refused;
-use crate::judge::is_short;
-use crate::judge::plan_request;
+use crate::plan::is_refused;
+use crate::plan::is_short;
+use crate::plan::plan_request;
+use crate::refusals::Refusal;
 use crate::request::REQUEST;
 use crate::request::put_blank;
-use crate::tests::Early;
-use crate::tests::early_answer;
-use crate::trailer::FIXED;
+use crate::trailer::FRAME;
 use crate::trailer::put_trailer;
+use crate::validate::Tested;
+use crate::validate::validate;
 use sampling::plan::Plan;
 use sampling::plan::count;
 use sampling::plan::next;
 use sampling::plan::start;
 use sampling::stream::Step;
 
-// The number of angles, or a refusal. `verdict` of specs/Sampling.antt gives 01's number.
+// The number of angles, or a refusal.
 pub enum Sampled {
     Angles(usize),
-    Length,
-    Head,
-    Sign,
-    NotFinite,
-    Zero,
-    Arm,
-    Reference,
-    Offset,
-    Roots,
-    Work,
-    Output,
-}
-
-// 01's number of a refusal, 0 for success.
-pub fn refusal_of(a: Sampled) -> u64
-    ensures { λ r. ⌜ r ≡ Refusals.refusal (Sampling.verdict a) ⌝ }
-{
-    match a {
-        Sampled::Angles(_) => 0,
-        Sampled::Length => 1,
-        Sampled::Head => 2,
-        Sampled::Sign => 3,
-        Sampled::NotFinite => 4,
-        Sampled::Zero => 5,
-        Sampled::Arm => 6,
-        Sampled::Reference => 7,
-        Sampled::Offset => 8,
-        Sampled::Roots => 9,
-        Sampled::Work => 10,
-        Sampled::Output => 11,
-    }
+    Refused(Refusal),
 }
 
 // The angles as `next` gives them, from the start of the output on.
 fn put_stream(output: &mut [u8], work: &[f64], plan: Plan)
     requires { ⌜ Ready plan (now work) ⌝ }
     requires { ⌜ 8 * length (to-come plan (now work) start) ≤ length (now output) ⌝ }
-    ensures { λ _. ⌜ now (output .exit) ≡ sets (now (output .entry)) 0 (Bytes.floats-bytes (to-come plan (now (work .entry)) start)) ⌝ }
+    ensures { λ _. ⌜ now (output .exit) ≡ sets (now (output .entry)) 0 (Floats.floats-bytes (to-come plan (now (work .entry)) start)) ⌝ }
 {
     let mut c = start();
     let mut at = 0usize;
@@ -95,9 +65,9 @@ fn put_stream(output: &mut [u8], work: &[f64], plan: Plan)
 fn put_angles(output: &mut [u8], work: &[f64], plan: Plan)
     requires { ⌜ Ready plan (now work) ⌝ }
     requires { ⌜ 8 * length (to-come plan (now work) start) ≤ length (now output) ⌝ }
-    ensures { λ _. ⌜ now (output .exit) ≡ sets (now (output .entry)) 0 (Bytes.floats-bytes (to-come plan (now (work .entry)) start)) ⌝ }
+    ensures { λ _. ⌜ now (output .exit) ≡ sets (now (output .entry)) 0 (Floats.floats-bytes (to-come plan (now (work .entry)) start)) ⌝ }
 {
-    if let Plan::One(n) = plan {
+    if let Plan::Lists(n) = plan {
         put_lists(output, work, n);
         return;
     }
@@ -110,7 +80,7 @@ fn fill(output: &mut [u8], request: &[u8], work: &[f64], plan: Plan, n: usize)
     requires { ⌜ Ready plan (now work) ⌝ }
     requires { ⌜ n ≡ length (to-come plan (now work) start) ⌝ }
     requires { ⌜ Sampling.sheet-size n ≤ length (now output) ⌝ }
-    ensures { λ _. ⌜ now (output .exit) ≡ sets (now (output .entry)) 0 (Bytes.floats-bytes (to-come plan (now (work .entry)) start) ++ (Request.blank (now (request .entry)) ++ Sheet.trailer n)) ⌝ }
+    ensures { λ _. ⌜ now (output .exit) ≡ sets (now (output .entry)) 0 (Floats.floats-bytes (to-come plan (now (work .entry)) start) ++ (Request.blank (now (request .entry)) ++ Sheet.trailer n)) ⌝ }
 {
     put_angles(output, work, plan);
     put_blank(output, 8 * n, request);
@@ -121,10 +91,10 @@ fn fill(output: &mut [u8], request: &[u8], work: &[f64], plan: Plan, n: usize)
 fn has_room(n: usize, room: usize) -> bool
     ensures { λ r. ⌜ r ≡ leb (Sampling.sheet-size n) room ⌝ }
 {
-    if room < FIXED {
+    if room < FRAME {
         return false;
     }
-    if n <= (room - FIXED) / 8 {
+    if n <= (room - FRAME) / 8 {
         return true;
     }
     false
@@ -133,58 +103,43 @@ fn has_room(n: usize, room: usize) -> bool
 // 9, 10 and 11, and else the sheet.
 fn finish(output: &mut [u8], request: &[u8], work: &[f64], plan: Plan) -> Sampled
     requires { ⌜ length (now request) ≡ Request.request-size ⌝ }
-    requires { ⌜ Judge.PlannedFor (now request) plan (now work) ⌝ }
-    ensures { λ a. ⌜ Sampling.verdict a ≡ Sampling.fit (Sampling.late (now (request .entry)) (length (now (work .entry)))) (length (now (output .entry))) ⌝ }
-    ensures { λ a. ⌜ now (output .exit) ≡ Sampling.output-after (Sampling.verdict a) (now (request .entry)) (now (output .entry)) ⌝ }
+    requires { ⌜ Promise.PlannedFor (now request) plan (now work) ⌝ }
+    ensures { λ a. ⌜ Sampling.answer-of a ≡ Promise.planned-answer (now (request .entry)) (length (now (work .entry))) (length (now (output .entry))) ⌝ }
+    ensures { λ a. ⌜ now (output .exit) ≡ Sampling.output-after (Sampling.answer-of a) (now (request .entry)) (now (output .entry)) ⌝ }
 {
     if is_refused(plan) {
-        return Sampled::Roots;
+        return Sampled::Refused(Refusal::Roots);
     }
     if is_short(plan) {
-        return Sampled::Work;
+        return Sampled::Refused(Refusal::Work);
     }
     let n = count(work, plan);
     if has_room(n, output.len()) {
         fill(output, request, work, plan, n);
         return Sampled::Angles(n);
     }
-    Sampled::Output
-}
-
-// The refusal of a request that is not ready; of one that is, 9.
-fn refusal(e: Early) -> Sampled
-    ensures { λ a. ⌜ Sampling.verdict a ≡ Refusals.told e (Refusals.refused 9) ⌝ }
-{
-    match e {
-        Early::Length => Sampled::Length,
-        Early::Head => Sampled::Head,
-        Early::Sign => Sampled::Sign,
-        Early::NotFinite => Sampled::NotFinite,
-        Early::Zero => Sampled::Zero,
-        Early::Arm => Sampled::Arm,
-        Early::Reference => Sampled::Reference,
-        Early::Offset => Sampled::Offset,
-        Early::Ready => Sampled::Roots,
-    }
+    Sampled::Refused(Refusal::Output)
 }
 
 fn run(request: &[u8], work: &mut [f64], output: &mut [u8]) -> Sampled
-    ensures { λ a. ⌜ Sampling.verdict a ≡ Sampling.answer (now (request .entry)) (length (now (work .entry))) (length (now (output .entry))) ⌝ }
-    ensures { λ a. ⌜ now (output .exit) ≡ Sampling.output-after (Sampling.verdict a) (now (request .entry)) (now (output .entry)) ⌝ }
+    ensures { λ a. ⌜ Sampling.answer-of a ≡ Sampling.answer (now (request .entry)) (length (now (work .entry))) (length (now (output .entry))) ⌝ }
+    ensures { λ a. ⌜ now (output .exit) ≡ Sampling.output-after (Sampling.answer-of a) (now (request .entry)) (now (output .entry)) ⌝ }
 {
-    let e = early_answer(request);
-    if is_ready(e) {
-        let plan = plan_request(work, request);
-        return finish(output, request, work, plan);
+    let t = validate(request);
+    match t {
+        Tested::Passed(q) => {
+            let plan = plan_request(work, request, q);
+            finish(output, request, work, plan)
+        }
+        Tested::Refused(k) => Sampled::Refused(k),
     }
-    refusal(e)
 }
 
 // Sampling. Success fills the first bytes of the output with the sheet; a refusal leaves it. After
 // every answer each work place is +0.0.
 pub fn sample(request: &[u8], work: &mut [f64], output: &mut [u8]) -> Sampled
-    ensures { λ a. ⌜ Sampling.verdict a ≡ Sampling.answer (now (request .entry)) (length (now (work .entry))) (length (now (output .entry))) ⌝ }
-    ensures { λ a. ⌜ now (output .exit) ≡ Sampling.output-after (Sampling.verdict a) (now (request .entry)) (now (output .entry)) ⌝ }
+    ensures { λ a. ⌜ Sampling.answer-of a ≡ Sampling.answer (now (request .entry)) (length (now (work .entry))) (length (now (output .entry))) ⌝ }
+    ensures { λ a. ⌜ now (output .exit) ≡ Sampling.output-after (Sampling.answer-of a) (now (request .entry)) (now (output .entry)) ⌝ }
     ensures { λ _. ⌜ now (work .exit) ≡ Bytes.zeros (length (now (work .entry))) ⌝ }
 {
     let a = run(request, work, output);

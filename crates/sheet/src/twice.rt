@@ -9,16 +9,17 @@ use crate::sample::sample;
 
 pub struct Both(pub Sampled, pub Sampled);
 
-// Two requests, r and s, with outputs x and y, one after the other.
-pub fn twice(r: &[u8], s: &[u8], work: &mut [f64], x: &mut [u8], y: &mut [u8]) -> Both
-    ensures { λ t. ⌜ Sampling.verdict (t .0) ≡ Sampling.answer (now (r .entry)) (length (now (work .entry))) (length (now (x .entry))) ⌝ }
-    ensures { λ t. ⌜ Sampling.verdict (t .1) ≡ Sampling.answer (now (s .entry)) (length (now (work .entry))) (length (now (y .entry))) ⌝ }
-    ensures { λ t. ⌜ now (x .exit) ≡ Sampling.output-after (Sampling.verdict (t .0)) (now (r .entry)) (now (x .entry)) ⌝ }
-    ensures { λ t. ⌜ now (y .exit) ≡ Sampling.output-after (Sampling.verdict (t .1)) (now (s .entry)) (now (y .entry)) ⌝ }
-    ensures { λ _. ⌜ now (work .exit) ≡ Bytes.zeros (length (now (work .entry))) ⌝ }
-    ensures { λ t. ⌜ Together (now (r .entry)) (now (s .entry)) (Sampling.verdict (t .0)) (Sampling.verdict (t .1)) (now (x .exit)) (now (y .exit)) ⌝ }
+// Two requests, r and s, with work v and w and outputs x and y, one after the other.
+pub fn twice(r: &[u8], s: &[u8], v: &mut [f64], w: &mut [f64], x: &mut [u8], y: &mut [u8]) -> Both
+    ensures { λ t. ⌜ Sampling.answer-of (t .0) ≡ Sampling.answer (now (r .entry)) (length (now (v .entry))) (length (now (x .entry))) ⌝ }
+    ensures { λ t. ⌜ Sampling.answer-of (t .1) ≡ Sampling.answer (now (s .entry)) (length (now (w .entry))) (length (now (y .entry))) ⌝ }
+    ensures { λ t. ⌜ now (x .exit) ≡ Sampling.output-after (Sampling.answer-of (t .0)) (now (r .entry)) (now (x .entry)) ⌝ }
+    ensures { λ t. ⌜ now (y .exit) ≡ Sampling.output-after (Sampling.answer-of (t .1)) (now (s .entry)) (now (y .entry)) ⌝ }
+    ensures { λ _. ⌜ now (v .exit) ≡ Bytes.zeros (length (now (v .entry))) ⌝ }
+    ensures { λ _. ⌜ now (w .exit) ≡ Bytes.zeros (length (now (w .entry))) ⌝ }
+    ensures { λ t. ⌜ Together (now (r .entry)) (now (s .entry)) (length (now (v .entry))) (length (now (w .entry))) (Sampling.answer-of (t .0)) (Sampling.answer-of (t .1)) (now (x .exit)) (now (y .exit)) ⌝ }
 {
-    let first = sample(r, work, x);
-    let second = sample(s, work, y);
+    let first = sample(r, v, x);
+    let second = sample(s, w, y);
     Both(first, second)
 }

@@ -1,52 +1,38 @@
-// A view that holds a request's bytes, and thin readers over it. The checker covers no function over
-// such a struct: each is proved by hand, takes the view apart and calls a covered function on slice
-// and position. `float_in` and `byte_in`, whose parameters are plain, stand above them.
+// A view that holds a request's bytes. The checker covers no function over such a struct: each is
+// proved by hand, takes the view apart and calls a covered function on the slice. `read_job`, whose
+// parameter is plain, makes the view and the job.
 ghost use mathlib.Core.Path.{_≡_};
-ghost use Prim.Native.Nat.{_+_, _≤_, _<_};
-ghost use lib.ListN.{length, getD};
-ghost use Rattle.sheet.specs.Bytes as Bytes;
-use crate::bytes::byte_at;
-use crate::bytes::float_at;
+ghost use Prim.Native.Nat.{_≤_};
+ghost use lib.ListN.{length};
+ghost use Rattle.sheet.specs.Request as Request;
+ghost use Rattle.sheet.specs.Fields as Fields;
+use crate::fields::job_of;
+use sampling::job::Job;
+use sampling::pose::Matrix;
 
 pub struct View<'a> {
     pub request: &'a [u8],
 }
 
 pub fn new<'a>(request: &'a [u8]) -> View<'a>
+    requires { ⌜ Request.core-size ≤ length (now request) ⌝ }
     ensures { λ r. ⌜ r .request ≡ request .entry ⌝ }
 {
     View { request }
 }
 
-// The float whose eight bytes start at `at`.
-pub(crate) fn float<'a>(v: View<'a>, at: usize) -> f64
-    requires { ⌜ at + 8 ≤ length (now (v .request)) ⌝ }
-    ensures { λ r. ⌜ r ≡ Bytes.float-at (now (v .entry .request)) at ⌝ }
+// The job that the request's fields say, with its rotation's matrix m.
+pub(crate) fn job<'a>(v: View<'a>, m: Matrix) -> Job
+    requires { ⌜ (Request.core-size ≤ length (now (v .request))) × (m ≡ Fields.matrix (Fields.rotation-of (now (v .request)))) ⌝ }
+    ensures { λ r. ⌜ r ≡ Fields.job-of (now (v .entry .request)) ⌝ }
 {
-    float_at(v.request, at)
+    job_of(v.request, m)
 }
 
-// The byte at `at`.
-pub(crate) fn byte<'a>(v: View<'a>, at: usize) -> u8
-    requires { ⌜ at < length (now (v .request)) ⌝ }
-    ensures { λ r. ⌜ r ≡ getD (now (v .entry .request)) at 0 ⌝ }
+// The job of a request, read through a view of it.
+pub(crate) fn read_job(request: &[u8], m: Matrix) -> Job
+    requires { ⌜ (Request.core-size ≤ length (now request)) × (m ≡ Fields.matrix (Fields.rotation-of (now request))) ⌝ }
+    ensures { λ r. ⌜ r ≡ Fields.job-of (now (request .entry)) ⌝ }
 {
-    byte_at(v.request, at)
-}
-
-// The float at `at` of a request, read through a view of it. Whoever calls this needs no proof by
-// hand.
-pub(crate) fn float_in(request: &[u8], at: usize) -> f64
-    requires { ⌜ at + 8 ≤ length (now request) ⌝ }
-    ensures { λ r. ⌜ r ≡ Bytes.float-at (now (request .entry)) at ⌝ }
-{
-    float(new(request), at)
-}
-
-// The byte at `at` of a request, read through a view of it.
-pub(crate) fn byte_in(request: &[u8], at: usize) -> u8
-    requires { ⌜ at < length (now request) ⌝ }
-    ensures { λ r. ⌜ r ≡ getD (now (request .entry)) at 0 ⌝ }
-{
-    byte(new(request), at)
+    job(new(request), m)
 }

@@ -5,6 +5,8 @@ use crate::digest::digest;
 use float::number::bits;
 use sheet::check::Checked;
 use sheet::check::check;
+use sheet::refusals::fault_number;
+use sheet::refusals::refusal_number;
 use sheet::sample::Sampled;
 use sheet::sample::sample;
 use std::num::wrapping_sub_u64;
@@ -14,18 +16,18 @@ use text::lines::held;
 
 // The count, or minus 01's number of the refusal, in two's complement.
 fn sampled_number(a: Sampled) -> u64 {
-    if let Sampled::Angles(n) = a {
-        return n as u64;
+    match a {
+        Sampled::Angles(n) => n as u64,
+        Sampled::Refused(k) => wrapping_sub_u64(0, refusal_number(k)),
     }
-    wrapping_sub_u64(0, sheet::sample::refusal_of(a))
 }
 
 // The same for Check.
 fn checked_number(a: Checked) -> u64 {
-    if let Checked::Accepted(n) = a {
-        return n as u64;
+    match a {
+        Checked::Accepted(n) => n as u64,
+        Checked::Refused(f) => wrapping_sub_u64(0, fault_number(f)),
     }
-    wrapping_sub_u64(0, sheet::check::refusal_of(a))
 }
 
 // The bits that place i of the work is to hold afterwards: those of +0.0 where it was lent, else of

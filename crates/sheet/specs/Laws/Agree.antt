@@ -1,5 +1,5 @@
 -- Two requests that agree in all that is read: what follows for their fields, that byte by byte and field by field say the same, and that
--- they agree exactly where their blanked requests are equal. Assumes nothing.
+-- they agree exactly where their blanked requests are equal.
 use Prim.Native.Nat.{ℕ, _+_, _-_, _/_, _≤_, _<_}
 use native.Mathlib.Omega.{arith}
 use native.Mathlib.Decide.{decLt}
@@ -92,16 +92,16 @@ module _ (r s : List ℕ) (g : AgreeFields r s) where
   by-byte : (i : ℕ) → T (byte-read (shape-of r) i) → getD r i 0 ≡ getD s i 0
   by-byte i t = at4 (decLt i 4)
     where
-      at264 : Dec (i < 264) → 216 ≤ i → getD r i 0 ≡ getD s i 0
-      at264 (yes h) l = in-field To i ((i - 216) / 8 + 1) (omega arith) (omega arith) (omega arith) (omega arith) t
-      at264 (no h) l =
+      at-end : Dec (i < request-size) → 216 ≤ i → getD r i 0 ≡ getD s i 0
+      at-end (yes h) l = in-field To i ((i - 216) / 8 + 1) (omega arith) (omega arith) (omega arith) (omega arith) t
+      at-end (no h) l =
           let m : length r ≤ i = omega (arith, g .whole) in
           let k : length s ≤ i = omega (arith, g .whole') in
           List·getD-eq-default r 0 m ∙ sym (List·getD-eq-default s 0 k)
 
       at216 : Dec (i < 216) → 168 ≤ i → getD r i 0 ≡ getD s i 0
       at216 (yes h) l = in-field From i ((i - 168) / 8 + 1) (omega arith) (omega arith) (omega arith) (omega arith) t
-      at216 (no h) l = at264 (decLt i 264) (omega arith)
+      at216 (no h) l = at-end (decLt i request-size) (omega arith)
 
       at168 : Dec (i < 168) → 120 ≤ i → getD r i 0 ≡ getD s i 0
       at168 (yes h) l = in-field Offset i ((i - 120) / 8 + 1) (omega arith) (omega arith) (omega arith) (omega arith) t
@@ -152,12 +152,12 @@ pub agree-blank : (r s : List ℕ) → Agree r s → blank r ≡ blank s
 agree-blank r s g =
     ext-getD 0 (blank r) (blank s) (length-blank (shape-of r) 0 r ∙ g .whole ∙ sym (g .whole') ∙ sym (length-blank (shape-of s) 0 s))
     (λ i l.
-    let h : i < 264 = omega (arith, length-blank (shape-of r) 0 r, g .whole) in
+    let h : i < request-size = omega (arith, length-blank (shape-of r) 0 r, g .whole) in
     rw (blank-byte r i (omega (arith, g .whole)), blank-byte s i (omega (arith, g .whole')), ← same-shape r s g)
     (kept-same (byte-read (shape-of r) i) (getD r i 0) (getD s i 0) (g .same i)))
 
 module _ (r s : List ℕ) (a : length r ≡ request-size) (b : length s ≡ request-size) (e : blank r ≡ blank s) where
-  both : (i : ℕ) → i < 264 → cond (byte-read (shape-of r) i) (getD r i 0) 0 ≡ cond (byte-read (shape-of s) i) (getD s i 0) 0
+  both : (i : ℕ) → i < request-size → cond (byte-read (shape-of r) i) (getD r i 0) 0 ≡ cond (byte-read (shape-of s) i) (getD s i 0) 0
   both i h = sym (blank-byte r i (omega arith)) ∙ ap (λ (l : List ℕ). getD l i 0) e ∙ blank-byte s i (omega arith)
 
   first : (i : ℕ) → i < 4 → getD r i 0 ≡ getD s i 0
@@ -167,16 +167,16 @@ module _ (r s : List ℕ) (a : length r ≡ request-size) (b : length s ≡ requ
   unfolding shape-of
   shapes = rw (first 0 (omega arith), first 1 (omega arith), first 2 (omega arith))
 
-  inside : (i : ℕ) → i < 264 → T (byte-read (shape-of r) i) → getD r i 0 ≡ getD s i 0
+  inside : (i : ℕ) → i < request-size → T (byte-read (shape-of r) i) → getD r i 0 ≡ getD s i 0
   inside i h t =
       let y : byte-read (shape-of r) i ≡ true = is-true _ t in
       rw (← shapes, y) at (both i h)
 
   -- requests with one blanked request agree
   pub blank-agree : Agree r s
-  blank-agree = record { whole = a; whole' = b; same = λ i t. go i t (decLt i 264) }
+  blank-agree = record { whole = a; whole' = b; same = λ i t. go i t (decLt i request-size) }
     where
-      go : (i : ℕ) → T (byte-read (shape-of r) i) → Dec (i < 264) → getD r i 0 ≡ getD s i 0
+      go : (i : ℕ) → T (byte-read (shape-of r) i) → Dec (i < request-size) → getD r i 0 ≡ getD s i 0
       go i t (yes h) = inside i h t
       go i t (no h) =
           let m : length r ≤ i = omega arith in
@@ -189,10 +189,10 @@ agree-own r e =
     record {
       whole = e;
       whole' = length-blank (shape-of r) 0 r ∙ e;
-      same = λ i t. go i t (decLt i 264);
+      same = λ i t. go i t (decLt i request-size);
     }
   where
-    go : (i : ℕ) → T (byte-read (shape-of r) i) → Dec (i < 264) → getD r i 0 ≡ getD (blank r) i 0
+    go : (i : ℕ) → T (byte-read (shape-of r) i) → Dec (i < request-size) → getD r i 0 ≡ getD (blank r) i 0
     go i t (yes h) =
         let y : byte-read (shape-of r) i ≡ true = is-true _ t in
         sym (blank-byte r i (omega arith) ∙ rw y)

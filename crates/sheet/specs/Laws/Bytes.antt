@@ -1,18 +1,19 @@
--- Laws of `Bytes`: numbers of bytes and bytes of numbers, runs of stores, comparison. Assumes nothing.
+-- Laws of `Bytes`: numbers of bytes and bytes of numbers, runs of stores, comparison.
 use Prim.Native.Nat.{ℕ, zero, suc, _+_, _*_, _/_, _%_, _^_, _≤_, _<_}
 use native.Mathlib.Omega.{arith}
 use native.Mathlib.Nat.{add-zero}
 use native.Mathlib.Numerals.{towards-suc}
 use mathlib.Core.Path.{_≡_, refl, ap, _∙_}
-use mathlib.Core.List.{List, [], _∷_, _++_, append-nil}
+use mathlib.Core.List.{List, [], _∷_, map, _++_, append-nil}
 use mathlib.Core.Bool.{true, false, false≢true}
 use lib.ListN.{length, getD, set, drop, length-append, length-drop, drop-of-length-le}
 use lib.Seq.{drop-cons, sets, sets-eq, length-take-le}
 use lib.Dec.{eqb}
-use lib.Ieee.{Float}
+use lib.Ieee.{Float, binary64, toBits}
 use borrow.Author.Tests.{eq-eqb, ne-eqb, eqb-true}
 use Rattle.float.specs.Laws.Tests.{and-left, and-right}
-use Rattle.sheet.specs.Bytes.{le, bytes, part, float-bytes, floats-bytes, same-bytes}
+use Rattle.sheet.specs.Bytes.{le, bytes, part, words-bytes, same-bytes}
+use Rattle.sheet.specs.Promises.Floats.{float-bytes, floats-bytes}
 
 -- ---- parts
 
@@ -40,7 +41,7 @@ half-is s at h =
     (omega arith))
 
 -- the number of eight bytes is that of its halves
-pub word-is : (s : List ℕ) (at : ℕ) → at + 8 ≤ length s → le (part at 8 s) ≡ le (part at 4 s) + 4294967296 * le (part (at + 4) 4 s)
+pub word-is : (s : List ℕ) (at : ℕ) → at + 8 ≤ length s → le (part at 8 s) ≡ le (part at 4 s) + 2 ^ 32 * le (part (at + 4) 4 s)
 unfolding le
 word-is s at h =
     simp (towards-suc)
@@ -73,7 +74,7 @@ le-bytes zero v h = omega arith
 le-bytes (suc k) v h = rw (le-bytes k (v / 256) (omega arith)) (omega arith)
 
 -- four bytes hold every number below 2 ^ 32
-pub le-half : (n : ℕ) → n < 4294967296 → le (bytes 4 n) ≡ n
+pub le-half : (n : ℕ) → n < 2 ^ 32 → le (bytes 4 n) ≡ n
 le-half n h = le-bytes 4 n h
 
 -- ---- stores
@@ -93,7 +94,17 @@ module _ {A : Type 0} where
       let d : length l ≤ 0 + length a = omega arith in
       sets-eq a l 0 h ∙ rw (drop-of-length-le l d) (append-nil a)
 
--- ---- floats
+-- ---- words and floats
+
+pub length-words-bytes : (ws : List ℕ) → length (words-bytes ws) ≡ 8 * length ws
+unfolding words-bytes
+length-words-bytes [] = refl
+length-words-bytes (w ∷ ws) = rw (length-append, length-bytes, length-words-bytes ws) (omega arith)
+
+pub floats-words : (xs : List Float) → floats-bytes xs ≡ words-bytes (map (toBits binary64) xs)
+unfolding floats-bytes words-bytes
+floats-words [] = refl
+floats-words (x ∷ xs) = rw (floats-words xs)
 
 pub floats-bytes-cons : (x : Float) (xs : List Float) → floats-bytes (x ∷ xs) ≡ float-bytes x ++ floats-bytes xs
 unfolding floats-bytes

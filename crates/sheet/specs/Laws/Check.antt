@@ -1,44 +1,38 @@
--- The rulings of Check one by one. Assumes nothing.
+-- The refusals of Check one by one, and the parts of a sheet.
 use Prim.Native.Nat.{ℕ, _+_, _-_, _*_, _≤_, _<_}
 use native.Mathlib.Omega.{arith}
-use mathlib.Core.Path.{_≡_, sym, ap, _∙_}
-use mathlib.Core.List.{List}
-use mathlib.Core.Bool.{true, false, false≢true}
-use lib.ListN.{length, take, drop}
-use lib.Seq.{sets}
+use mathlib.Core.Path.{_≡_, refl, sym, ap, _∙_}
+use mathlib.Core.List.{List, _++_, append-assoc}
+use mathlib.Core.Bool.{Bool, true, false}
+use lib.ListN.{length, take, drop, length-append}
+use lib.Seq.{sets, take-at, drop-at}
 use lib.Dec.{eqb, ltb}
-use lib.Ieee.{Float}
 use borrow.Author.Tests.{eqb-true, eq-eqb, ne-eqb, le-leb, lt-leb, lt-ltb, le-ltb}
-use Rattle.sampling.specs.Promises.Stream.{start}
-use Rattle.sampling.specs.Promises.Plan.{to-come}
-use Rattle.sampling.specs.Promises.Planned.{Outcome, came}
-use Rattle.sampling.specs.declared.plan.Plan.{Plan}
-use Rattle.sheet.specs.Bytes.{part, floats-bytes, same-bytes}
-use Rattle.sheet.specs.Refusals.{Verdict, accepted, refused, need}
-use Rattle.sheet.specs.Sheet.{trailer}
-use Rattle.sheet.specs.Sampling.{angles, late, judged, sheet-size}
-use Rattle.sheet.specs.Check.{count-of, request-of, angles-of, formed, clean, weigh, ruled}
-use Rattle.sheet.specs.Promises.Judge.{is-refused, is-short, PlannedFor}
-use Rattle.float.specs.Laws.Tests.{and-left}
-use Rattle.sheet.specs.Laws.Bytes.{sets-all}
+use Rattle.sheet.specs.Bytes.{le, bytes, part, same-bytes}
+use Rattle.sheet.specs.Refusals.{refused, need}
+use Rattle.sheet.specs.Sheet.{trailer, trailer-size, frame-size, edition, items-bound}
+use Rattle.sheet.specs.Request.{core-size, request-size}
+use Rattle.sheet.specs.Sampling.{sheet-size}
+use Rattle.sheet.specs.Check.{trailer-of, count-of, edition-of, request-of, items-of, formed, answer}
+use Rattle.sheet.specs.Promises.Plan.{compared, checked}
+use Rattle.float.specs.Laws.Tests.{and-left, and-right}
+use Rattle.sheet.specs.Laws.Bytes.{sets-all, length-bytes, same-is}
 use Rattle.sheet.specs.Laws.Sheet.{length-trailer}
-use Rattle.sheet.specs.Laws.Judge.{by-outcome, late-is, late-refused, late-short, late-found, found-angles}
-use Rattle.sampling.specs.Promises.Planned as planned
 
 -- ---- 31 and 32
 
-pub ruled-short : (s : List ℕ) (places : ℕ) → length s < 280 → refused 31 ≡ ruled s places
-unfolding ruled need
-ruled-short s places h = rw (lt-leb 280 (length s) h)
+pub answer-short : (s : List ℕ) (places : ℕ) → length s < core-size + trailer-size → refused 31 ≡ answer s places
+unfolding answer need
+answer-short s places h = rw (lt-leb (core-size + trailer-size) (length s) h)
 
-pub ruled-trailer : (s : List ℕ) (places : ℕ) → 280 ≤ length s → formed s ≡ false → refused 32 ≡ ruled s places
-unfolding ruled need
-ruled-trailer s places h e = rw (le-leb 280 (length s) h, e)
+pub answer-trailer : (s : List ℕ) (places : ℕ) → core-size + trailer-size ≤ length s → formed s ≡ false → refused 32 ≡ answer s places
+unfolding answer need
+answer-trailer s places h e = rw (le-leb (core-size + trailer-size) (length s) h, e)
 
-pub ruled-on : (s : List ℕ) (places : ℕ) → 280 ≤ length s → formed s ≡ true
-    → ruled s places ≡ weigh (judged (request-of s) places) (request-of s) (angles-of s) (count-of s)
-unfolding ruled need
-ruled-on s places h e = rw (le-leb 280 (length s) h, e)
+pub answer-formed : (s : List ℕ) (places : ℕ) → core-size + trailer-size ≤ length s → formed s ≡ true
+    → answer s places ≡ checked (request-of s) (items-of s) (count-of s) places
+unfolding answer checked compared need
+answer-formed s places h e = rw (le-leb (core-size + trailer-size) (length s) h, e)
 
 pub formed-length : (s : List ℕ) → formed s ≡ true → length s ≡ sheet-size (count-of s)
 unfolding formed
@@ -48,59 +42,51 @@ pub formed-no : (s : List ℕ) (n : ℕ) → n ≡ count-of s → (length s ≡ 
 unfolding formed
 formed-no s n e h = rw (ne-eqb (length s) (sheet-size (count-of s)) (λ q. h (q ∙ ap sheet-size (sym e))))
 
-pub formed-wide : (s : List ℕ) (n : ℕ) → n ≡ count-of s → length s ≡ sheet-size n → 4294967296 ≤ 8 * n → false ≡ formed s
+pub formed-wide : (s : List ℕ) (n : ℕ) → n ≡ count-of s → length s ≡ sheet-size n → items-bound ≤ n → false ≡ formed s
 unfolding formed
 formed-wide s n e h k =
-    rw (eq-eqb (length s) (sheet-size (count-of s)) (h ∙ ap sheet-size e), le-ltb (8 * count-of s) 4294967296 (omega (arith, e)))
+    rw (eq-eqb (length s) (sheet-size (count-of s)) (h ∙ ap sheet-size e), le-ltb (count-of s) items-bound (omega (arith, e)))
 
 -- the trailer is written into sixteen places, which are compared
-pub formed-by : (s z b : List ℕ) (n : ℕ) → n ≡ count-of s → length s ≡ sheet-size n → 8 * n < 4294967296 → length z ≡ 16 → b ≡ sets z 0 (trailer n)
-    → same-bytes (part (length s - 16) (length b) s) b ≡ formed s
+pub formed-by : (s z b : List ℕ) (n : ℕ) → n ≡ count-of s → length s ≡ sheet-size n → n < items-bound → length z ≡ trailer-size → b ≡ sets z 0 (trailer n)
+    → same-bytes (part (length s - trailer-size) (length b) s) b ≡ formed s
 unfolding formed
 formed-by s z b n e h w l f =
     let g : b ≡ trailer n = f ∙ sets-all z (trailer n) (length-trailer n ∙ sym l) in
     let k : length s ≡ sheet-size (count-of s) = h ∙ ap sheet-size e in
-    let v : ltb (8 * count-of s) 4294967296 ≡ true = lt-ltb (8 * count-of s) 4294967296 (omega (arith, e)) in
-    rw (eq-eqb (length s) (sheet-size (count-of s)) k, v, g, length-trailer n) (ap (λ (m : ℕ). same-bytes (part (length s - 16) 16 s) (trailer m)) e)
+    let v : ltb (count-of s) items-bound ≡ true = lt-ltb (count-of s) items-bound (omega (arith, e)) in
+    rw (eq-eqb (length s) (sheet-size (count-of s)) k, v, g, length-trailer n)
+    (ap (λ (m : ℕ). same-bytes (part (length s - trailer-size) trailer-size s) (trailer m)) e)
 
--- ---- 33 to 36, for a request with a plan
+-- ---- the edition
 
-module _ (r a : List ℕ) (n : ℕ) (p : Plan) (w : List Float) (g : PlannedFor r p w) where
-  abbrev weighed : Verdict → Verdict
-  weighed v = weigh v r a n
+-- the trailer's bytes 8 and 9
+edition-in : (n : ℕ) → part 8 2 (trailer n) ≡ bytes 2 edition
+unfolding trailer
+edition-in n =
+    let a = bytes 4 n ++ bytes 4 (8 * n) in
+    let l : length a ≡ 8 = omega (arith, length-append (bytes 4 n) (bytes 4 (8 * n)), length-bytes 4 n, length-bytes 4 (8 * n)) in
+    ap (take 2) (ap (drop 8) (append-assoc a (bytes 2 edition) (bytes 6 0)) ∙ drop-at a (bytes 2 edition ++ bytes 6 0) 8 l)
+    ∙ take-at (bytes 2 edition) (bytes 6 0) 2 (length-bytes 2 edition)
 
-  pub weigh-refused : is-refused (came p) ≡ true → refused 33 ≡ weighed (late r (length w))
-  weigh-refused e = sym (ap weighed (late-refused r p w g e))
+-- a formed sheet says this edition
+formed-edition : (s : List ℕ) → formed s ≡ true → edition-of s ≡ edition
+unfolding formed le bytes
+formed-edition s e =
+    let t : trailer-of s ≡ trailer (count-of s) =
+    same-is _ _ (and-right (ltb (count-of s) items-bound) _ (and-right (eqb (length s) (sheet-size (count-of s))) _ e)) in
+    ap (λ (l : List ℕ). le (part 8 2 l)) t ∙ ap le (edition-in (count-of s))
 
-  pub weigh-unread : is-refused (came p) ≡ false → clean r ≡ false → refused 34 ≡ weighed (late r (length w))
-  unfolding need
-  weigh-unread e f = go (came p) e ∙ sym (ap weighed (late-is r p w g))
-    where
-      go : (o : Outcome) → is-refused o ≡ false → refused 34 ≡ weighed (by-outcome o (length (angles r)))
-      go planned.refused e = absurd (false≢true (sym e))
-      go planned.short e = rw f
-      go planned.found e = rw f
-
-  pub weigh-short : is-short (came p) ≡ true → clean r ≡ true → refused 35 ≡ weighed (late r (length w))
-  unfolding need
-  weigh-short e f = sym (ap weighed (late-short r p w g e) ∙ rw f)
-
-  module _ (e : is-refused (came p) ≡ false) (f : is-short (came p) ≡ false) (h : clean r ≡ true) where
-    pub weigh-angles : same-bytes a (floats-bytes (to-come p w start)) ≡ false → refused 36 ≡ weighed (late r (length w))
-    unfolding need
-    weigh-angles q =
-        let k = found-angles r p w g e f in
-        sym (ap weighed (late-found r p w g e f) ∙ rw (h, ← k, q))
-
-    pub weigh-accepted : same-bytes a (floats-bytes (to-come p w start)) ≡ true → accepted n ≡ weighed (late r (length w))
-    unfolding need
-    weigh-accepted q =
-        let k = found-angles r p w g e f in
-        sym (ap weighed (late-found r p w g e f) ∙ rw (h, ← k, q))
+pub other-edition : (s : List ℕ) (places : ℕ) → core-size + trailer-size ≤ length s → (edition-of s ≡ edition → ⊥) → answer s places ≡ refused 32
+other-edition s places h n = go (formed s) refl
+  where
+    go : (b : Bool) → formed s ≡ b → answer s places ≡ refused 32
+    go true e = absurd (n (formed-edition s e))
+    go false e = sym (answer-trailer s places h e)
 
 -- ---- the parts of a sheet
 
-pub request-is : (s : List ℕ) (at : ℕ) → at ≡ length s - 280 → take (at + 264 - at) (drop at s) ≡ request-of s
+pub request-is : (s : List ℕ) (at : ℕ) → at ≡ length s - frame-size → take (at + request-size - at) (drop at s) ≡ request-of s
 request-is s at e =
-    let f : at + 264 - at ≡ 264 = omega arith in
+    let f : at + request-size - at ≡ request-size = omega arith in
     rw (f, e)

@@ -1,19 +1,17 @@
--- Sheets: how their runs of stores lie one after the other, and how long they are. Assumes nothing.
+-- Sheets: how their runs of stores lie one after the other, and how long they are.
 use Prim.Native.Nat.{ℕ, _+_, _*_, _≤_}
 use native.Mathlib.Omega.{arith}
-use mathlib.Core.Path.{_≡_, refl, ap, _∙_}
-use mathlib.Core.List.{List, [], _∷_, _++_}
-use mathlib.Core.Bool.{true, false}
-use lib.ListN.{length, drop, length-append}
+use mathlib.Core.Path.{_≡_, refl, sym, ap, _∙_}
+use mathlib.Core.List.{List, [], _∷_, map, _++_}
+use lib.ListN.{length, drop, length-append, length-map}
 use lib.Seq.{sets, sets-eq}
-use lib.Dec.{leb}
 use lib.Ieee.{Float, toBits, binary64}
-use Rattle.sheet.specs.Bytes.{float-bytes, floats-bytes}
+use Rattle.sheet.specs.Bytes.{words-bytes}
+use Rattle.sheet.specs.Promises.Floats.{float-bytes, floats-bytes}
 use Rattle.sheet.specs.Request.{request-size, shape-of, blank}
 use Rattle.sheet.specs.Sheet.{trailer}
-use Rattle.sheet.specs.Refusals.{accepted, refused, need}
-use Rattle.sheet.specs.Sampling.{angles, sheet, sheet-size, fit}
-use Rattle.sheet.specs.Laws.Bytes.{sets-append, length-bytes, floats-bytes-cons, floats-bytes-nil, length-floats-bytes}
+use Rattle.sheet.specs.Sampling.{angles, items, sheet, sheet-size}
+use Rattle.sheet.specs.Laws.Bytes.{sets-append, length-bytes, floats-bytes-cons, floats-bytes-nil, length-floats-bytes, length-words-bytes, floats-words}
 use Rattle.sheet.specs.Laws.Blank.{length-blank}
 use Rattle.sheet.specs.Laws.Sheet.{length-trailer}
 
@@ -47,29 +45,39 @@ lay-sheet r o xs n e h =
 length-laid : (r : List ℕ) (xs : List Float) (n : ℕ) → length r ≡ request-size → n ≡ length xs
     → length (floats-bytes xs ++ (blank r ++ trailer n)) ≡ sheet-size n
 length-laid r xs n e h =
-    omega
-    (arith, length-append (floats-bytes xs) (blank r ++ trailer n), length-append (blank r) (trailer n), length-floats-bytes xs, length-blank (shape-of r) 0 r, length-trailer n)
+    omega (
+      arith,
+      length-append (floats-bytes xs) (blank r ++ trailer n),
+      length-append (blank r) (trailer n),
+      length-floats-bytes xs,
+      length-blank (shape-of r) 0
+          r,
+      length-trailer n,
+    )
 
-pub length-sheet : (r : List ℕ) → length r ≡ request-size → length (sheet r) ≡ sheet-size (length (angles r))
+pub length-items : (r : List ℕ) → length (items r) ≡ length (angles r)
+unfolding items
+length-items r = length-map (angles r) (toBits binary64)
+
+pub length-sheet : (r : List ℕ) → length r ≡ request-size → length (sheet r) ≡ sheet-size (length (items r))
 unfolding sheet
-length-sheet r e = length-laid r (angles r) (length (angles r)) e refl
+length-sheet r e =
+    omega (
+      arith,
+      length-append (words-bytes (items r)) (blank r ++ trailer (length (items r))),
+      length-append (blank r) (trailer (length (items r))),
+      length-words-bytes (items r),
+      length-blank (shape-of r) 0 r,
+      length-trailer (length (items r)),
+    )
 
 -- what is stored is the sheet, with what stood behind it
 pub sheet-stands : (r out : List ℕ) (xs : List Float) (n : ℕ) → length r ≡ request-size → n ≡ length xs → xs ≡ angles r → sheet-size n ≤ length out
     → sets out 0 (floats-bytes xs ++ (blank r ++ trailer n)) ≡ sheet r ++ drop (sheet-size n) out
-unfolding sheet
+unfolding sheet items
 sheet-stands r out xs n e h q k =
     let l : length (floats-bytes xs ++ (blank r ++ trailer n)) ≡ sheet-size n = length-laid r xs n e h in
     let d : 0 + length (floats-bytes xs ++ (blank r ++ trailer n)) ≡ sheet-size n = omega arith in
     let f : 0 + length (floats-bytes xs ++ (blank r ++ trailer n)) ≤ length out = omega arith in
-    sets-eq (floats-bytes xs ++ (blank r ++ trailer n)) out 0 f ∙ rw (d, h, q)
-
--- ---- 11
-
-pub fit-yes : (n room : ℕ) → leb (sheet-size n) room ≡ true → fit (accepted n) room ≡ accepted n
-unfolding need
-fit-yes n room e = rw e
-
-pub fit-no : (n room : ℕ) → leb (sheet-size n) room ≡ false → fit (accepted n) room ≡ refused 11
-unfolding need
-fit-no n room e = rw e
+    let m : n ≡ length (map (toBits binary64) (angles r)) = h ∙ ap length q ∙ sym (length-map (angles r) (toBits binary64)) in
+    sets-eq (floats-bytes xs ++ (blank r ++ trailer n)) out 0 f ∙ rw (d, floats-words xs, q, ← m)

@@ -1,12 +1,14 @@
--- `sheet::interface::checked_number` meets its contract: at each return, what the calls and the tests on the way to it say. Assumes nothing.
-use mathlib.Core.Path.{sym, ap, _∙_}
-use lib.IntN.{pos}
+-- `sheet::interface::checked_number` meets its contract: at each return, what the calls and the tests on the way to it say.
 use borrow.Author.Needs.{needs}
+use Prim.Native.Nat.{ℕ, _<_}
+use mathlib.Core.Path.{sym, ap, subst⁻¹, _∙_}
+use lib.IntN.{pos, negℤ}
 use mir.Syntax.{w64}
 use mir.ValLaws.{toZ-ofZ}
-use Rattle.sheet.specs.Check.{ruling}
-use Rattle.sheet.specs.Refusals.{number}
+use Rattle.sheet.specs.Refusals.{signed}
+use Rattle.sheet.specs.Check.{answer-of}
 use Rattle.sheet.specs.declared.check.Checked.{Checked}
+use Rattle.sheet.proofs.interface.Signed.{fault-small, fits-pos, fits-negative, reads-negative}
 use Rattle.sheet.proofs.interface.checked_number.Statement.{statement}
 use Rattle.sheet.proofs.interface.checked_number.Tie as tie
 
@@ -14,46 +16,28 @@ enum-known-a : tie.Need-enum-known-a
 enum-known-a c = search needs
 
 cast-result : tie.Need-cast-result
-cast-result c = record { sfits = c .before .before .before .pre _ (ap ruling (c .before .a .given .1)) }
+cast-result c = record { sfits = c .before .before .before .pre _ (ap answer-of (c .before .a .given .1)) }
 
-enum-told : tie.Need-enum-told
-enum-told c = search needs
+enum-known-a-2 : tie.Need-enum-known-a-2
+enum-known-a-2 c = search needs
 
-enum-told-2 : tie.Need-enum-told-2
-enum-told-2 c = search needs
+fault-number-requires : tie.Need-fault-number-requires
+fault-number-requires c = search needs
 
-enum-told-3 : tie.Need-enum-told-3
-enum-told-3 c = search needs
+cast-result-2 : tie.Need-cast-result-2
+cast-result-2 c = fits-pos _ (subst⁻¹ (λ (n : ℕ). n < 64) (c .fault-number .ensures) (fault-small (c .before .before .a2 .given .0 .0)))
 
-enum-told-4 : tie.Need-enum-told-4
-enum-told-4 c = search needs
-
-enum-told-5 : tie.Need-enum-told-5
-enum-told-5 c = search needs
-
-enum-told-6 : tie.Need-enum-told-6
-enum-told-6 c = search needs
+sub-result : tie.Need-sub-result
+sub-result c = fits-negative _ (subst⁻¹ (λ (n : ℕ). n < 64) (c .fault-number .ensures) (fault-small (c .before .before .a2 .given .0 .0)))
 
 returns : tie.Need-returns
-returns c = toZ-ofZ w64 (pos (c .before .a .given .0 .0)) (cast-result c) ∙ sym (ap (λ (x : Checked). number (ruling x)) (c .before .a .given .1))
+returns c = toZ-ofZ w64 (pos (c .before .a .given .0 .0)) (cast-result c) ∙ sym (ap (λ (x : Checked). signed (answer-of x)) (c .before .a .given .1))
 
 returns-2 : tie.Need-returns-2
-returns-2 c = simp (c .enum-told .given .1)
-
-returns-3 : tie.Need-returns-3
-returns-3 c = simp (c .enum-told2 .given .1)
-
-returns-4 : tie.Need-returns-4
-returns-4 c = simp (c .enum-told3 .given .1)
-
-returns-5 : tie.Need-returns-5
-returns-5 c = simp (c .enum-told4 .given .1)
-
-returns-6 : tie.Need-returns-6
-returns-6 c = simp (c .enum-told5 .given .1)
-
-returns-7 : tie.Need-returns-7
-returns-7 c = simp (c .enum-told6 .given .1)
+returns-2 c =
+    let e = c .fault-number .ensures in
+    reads-negative _ (subst⁻¹ (λ (n : ℕ). n < 64) e (fault-small (c .before .before .a2 .given .0 .0))) ∙ ap (λ (n : ℕ). negℤ (pos n)) e
+    ∙ sym (ap (λ (x : Checked). signed (answer-of x)) (c .before .before .a2 .given .1))
 
 pub checked-number-spec : {M : Type 1} → statement M
-checked-number-spec = tie.close (tie.spec enum-known-a cast-result enum-told enum-told-2 enum-told-3 enum-told-4 enum-told-5 enum-told-6 returns returns-2 returns-3 returns-4 returns-5 returns-6 returns-7)
+checked-number-spec = tie.close (tie.spec enum-known-a cast-result enum-known-a-2 fault-number-requires cast-result-2 sub-result returns returns-2)

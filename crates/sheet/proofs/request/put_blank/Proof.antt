@@ -1,4 +1,4 @@
--- `sheet::request::put_blank` meets its contract. The invariant: what is still to be stored, stored now, gives what is asked. Assumes nothing.
+-- `sheet::request::put_blank` meets its contract. The invariant: what is still to be stored, stored now, gives what is asked.
 use Prim.Native.Nat.{_≤_, _<_, _+_, _-_, _%_}
 use native.Mathlib.Omega.{arith}
 use native.Mathlib.Nat.{add-zero}
@@ -8,18 +8,18 @@ use lib.ListN.{length, getD, drop, length-set}
 use lib.Seq.{sets}
 use borrow.Author.Needs.{needs}
 use Rattle.sheet.specs.declared.request.Shape.{Shape}
-use Rattle.sheet.specs.Request.{byte-read, blank-from}
+use Rattle.sheet.specs.Request.{request-size, byte-read, blank-from}
 use Rattle.sheet.proofs.request.Turns.{put-turn, put-end, same-field}
 use Rattle.sheet.proofs.request.put_blank.Statement.{statement}
 use Rattle.sheet.proofs.request.put_blank.Tie as tie
 
 abbrev Inv-loop : tie.InvT-loop
 Inv-loop out₀ at request s read₀ i₀ out read i =
-    (i ≤ 264) × (length out ≡ length out₀) × (sets out (at + i) (blank-from s i (drop i request)) ≡ sets out₀ at (blank-from s 0 request))
+    (i ≤ request-size) × (length out ≡ length out₀) × (sets out (at + i) (blank-from s i (drop i request)) ≡ sets out₀ at (blank-from s 0 request))
     × (16 < i → 0 < i % 8 → read ≡ byte-read s i)
 
 abbrev μ-loop : tie.MeasureT-loop
-μ-loop out₀ at request s read₀ i₀ out read i = 264 - i
+μ-loop out₀ at request s read₀ i₀ out read i = request-size - i
 
 shape-of-requires : tie.Need-shape-of-requires Inv-loop μ-loop
 shape-of-requires c κs = search needs

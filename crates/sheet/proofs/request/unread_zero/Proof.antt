@@ -1,4 +1,4 @@
--- `sheet::request::unread_zero` meets its contract. The invariant: the bytes that are left decide. Assumes nothing.
+-- `sheet::request::unread_zero` meets its contract. The invariant: the bytes that are left decide.
 use Prim.Native.Nat.{_≤_, _<_, _-_}
 use native.Mathlib.Omega.{arith}
 use mathlib.Core.Path.{_≡_, refl, sym, ap, _∙_}
@@ -7,16 +7,16 @@ use lib.ListN.{length, getD, drop}
 use borrow.Author.Needs.{needs}
 use Rattle.sheet.specs.declared.request.Shape.{Shape}
 use Rattle.sheet.specs.Bytes.{same-bytes}
-use Rattle.sheet.specs.Request.{blank-from}
+use Rattle.sheet.specs.Request.{request-size, blank-from}
 use Rattle.sheet.proofs.request.Turns.{blank-turn, blank-stop, blank-end}
 use Rattle.sheet.proofs.request.unread_zero.Statement.{statement}
 use Rattle.sheet.proofs.request.unread_zero.Tie as tie
 
 abbrev Inv-loop : tie.InvT-loop
-Inv-loop request s i₀ i = (i ≤ 264) × (same-bytes (blank-from s i (drop i request)) (drop i request) ≡ same-bytes (blank-from s 0 request) request)
+Inv-loop request s i₀ i = (i ≤ request-size) × (same-bytes (blank-from s i (drop i request)) (drop i request) ≡ same-bytes (blank-from s 0 request) request)
 
 abbrev μ-loop : tie.MeasureT-loop
-μ-loop request s i₀ i = 264 - i
+μ-loop request s i₀ i = request-size - i
 
 shape-of-requires : tie.Need-shape-of-requires Inv-loop μ-loop
 shape-of-requires c κs = search needs

@@ -1,26 +1,39 @@
--- `sheet::sample::run` meets its contract: at each return, what the calls and the tests on the way to it say. Assumes nothing.
-use mathlib.Core.Path.{sym, ap, _∙_}
-use lib.ListN.{length}
+-- `sheet::sample::run` meets its contract: at each return, what the calls and the tests on the way to it say.
 use borrow.Author.Needs.{needs}
-use Rattle.sheet.specs.Laws.Judge.{ready-late, ready-passes, judged-stays}
-use Rattle.sheet.specs.Refusals.{Verdict, refused}
-use Rattle.sheet.specs.Sampling.{fit, late, output-after, answer}
+use native.Mathlib.Omega.{arith}
+use mathlib.Core.Path.{refl, sym, _∙_}
+use lib.ListN.{length}
+use Rattle.sheet.specs.Laws.Plan.{planned-for, passed-answer, refused-answer}
+use Rattle.sheet.specs.Laws.Tested.{tested-passed, tested-unit}
 use Rattle.sheet.proofs.sample.run.Statement.{statement}
 use Rattle.sheet.proofs.sample.run.Tie as tie
 
-early-answer-requires : tie.Need-early-answer-requires
-early-answer-requires c = search needs
+validate-requires : tie.Need-validate-requires
+validate-requires c = search needs
 
-is-ready-requires : tie.Need-is-ready-requires
-is-ready-requires c = search needs
+enum-known-t : tie.Need-enum-known-t
+enum-known-t c = search needs
 
 plan-request-requires : tie.Need-plan-request-requires
-unfolding answer
-plan-request-requires c = λ κs. ready-passes _ (c .before .before .before .early-answer .result) (c .before .before .before .early-answer .ensures) (sym (c .before .before .is-ready .ensures) ∙ c .before .if1 .taken)
+plan-request-requires c =
+    let e = sym (c .before .before .before .before .validate .ensures) ∙ c .before .before .t .given .1 in
+    λ κs. (omega (arith, tested-passed _ _ e .whole), tested-unit _ _ e)
 
 finish-requires : tie.Need-finish-requires
-unfolding answer
-finish-requires c = λ κs. (ready-passes _ (c .before .before .before .before .before .before .before .before .early-answer .result) (c .before .before .before .before .before .before .before .before .early-answer .ensures) (sym (c .before .before .before .before .before .before .before .is-ready .ensures) ∙ c .before .before .before .before .before .before .if1 .taken) .whole, (c .before .before .before .before .plan-request .ensures))
+finish-requires c =
+    let e = sym (c .before .before .before .before .before .before .before .before .before .validate .ensures)
+    ∙ c .before .before .before .before .before .before .before .t .given .1 in
+    let p = c .before .before .before .before .plan-request in
+    let g = tested-passed _ _ e in
+    λ κs. (
+      g .whole,
+      planned-for _ g (p .result)
+          (c .before .before .before .before .before .before .before .before .before .before .before .before .before .args .work .now) (p .last .0) (p .ensures .0)
+          (p .ensures .1) (p .kept .0),
+    )
+
+enum-known-t-2 : tie.Need-enum-known-t-2
+enum-known-t-2 c = search needs
 
 same-length : tie.Need-same-length
 same-length c = search needs
@@ -29,15 +42,22 @@ same-length-2 : tie.Need-same-length-2
 same-length-2 c = search needs
 
 returns : tie.Need-returns
-unfolding answer
-returns c = ((c .before .before .finish .ensures) .0 ∙ ap (λ (v : Verdict). fit v (length (c .before .before .before .before .before .before .before .before .before .before .before .before .before .before .before .args .output .now))) (ap (late (c .before .before .before .before .before .before .before .before .before .before .before .before .before .before .before .args .request .now)) (c .before .before .before .before .before .before .before .plan-request .kept .0) ∙ sym (ready-late (c .before .before .before .before .before .before .before .before .before .before .before .before .before .before .before .args .request .now) (c .before .before .before .before .before .before .before .before .before .before .before .early-answer .result) (c .before .before .before .before .before .before .before .before .before .before .before .early-answer .ensures) (length (c .before .before .before .before .before .before .before .before .before .before .before .before .before .before .before .args .work .now)) (sym (c .before .before .before .before .before .before .before .before .before .before .is-ready .ensures) ∙ c .before .before .before .before .before .before .before .before .before .if1 .taken))), (c .before .before .finish .ensures) .1)
-
-refusal-requires : tie.Need-refusal-requires
-refusal-requires c = search needs
+returns c =
+    let a = c .before .before .before .before .before .before .before .before .before .before .before .before .before .before .before .before .args in
+    let e = sym (c .before .before .before .before .before .before .before .before .before .before .before .before .validate .ensures)
+    ∙ c .before .before .before .before .before .before .before .before .before .before .t .given .1 in
+    let k = c .before .before .before .before .before .before .before .plan-request .kept .0 in
+    let f = c .before .before .finish .ensures in (
+      f .0 ∙ rw k (passed-answer (a .request .now) (length (a .work .now)) (length (a .output .now)) (tested-passed _ _ e)),
+      f .1,
+    )
 
 returns-2 : tie.Need-returns-2
-unfolding answer
-returns-2 c = let s = judged-stays (c .before .before .before .before .before .before .before .args .request .now) (c .before .before .before .early-answer .result) (c .before .before .before .early-answer .ensures) (length (c .before .before .before .before .before .before .before .args .work .now)) (refused 9) (sym (c .before .before .is-ready .ensures) ∙ c .before .if1 .left) in ((c .refusal .ensures) ∙ s .1 .1 .0 ∙ sym (ap (λ (v : Verdict). fit v (length (c .before .before .before .before .before .before .before .args .output .now))) (s .1 .1 .1)), sym (ap (λ (v : Verdict). output-after v (c .before .before .before .before .before .before .before .args .request .now) (c .before .before .before .before .before .before .before .args .output .now)) ((c .refusal .ensures) ∙ s .1 .1 .0)))
+returns-2 c =
+    let a = c .before .before .before .before .before .before .before .args in
+    let e = sym (c .before .before .before .validate .ensures) ∙ c .before .t2 .given .1 in
+    (refused-answer (a .request .now) _ (length (a .work .now)) (length (a .output .now)) e, refl)
 
 pub run-spec : {M : Type 1} → statement M
-run-spec = tie.close (tie.spec early-answer-requires is-ready-requires plan-request-requires finish-requires same-length same-length-2 returns refusal-requires returns-2)
+run-spec = tie.close (tie.spec validate-requires enum-known-t plan-request-requires finish-requires enum-known-t-2 same-length same-length-2 returns
+    returns-2)

@@ -1,11 +1,7 @@
--- `sheet::twice::twice` meets its contract: at each return, what the calls and the tests on the way to it say. Assumes nothing.
-use Prim.Native.Nat.{ℕ}
-use mathlib.Core.Path.{ap, _∙_}
-use lib.ListN.{length}
+-- `sheet::twice::twice` meets its contract: the two calls' promises, and what follows of both.
 use borrow.Author.Needs.{needs}
-use Rattle.sheet.specs.Bytes.{zeros}
+use lib.ListN.{length}
 use Rattle.sheet.specs.Laws.Demands.{together}
-use Rattle.sheet.specs.Sampling.{answer}
 use Rattle.sheet.proofs.twice.twice.Statement.{statement}
 use Rattle.sheet.proofs.twice.twice.Tie as tie
 
@@ -24,8 +20,20 @@ same-length-2 c = search needs
 same-length-3 : tie.Need-same-length-3
 same-length-3 c = search needs
 
+same-length-4 : tie.Need-same-length-4
+same-length-4 c = search needs
+
 returns : tie.Need-returns
-returns c = let a = (c .before .before .before .before .before .before .before .before .before .before .before .sample .ensures) in let b = (c .before .before .before .before .sample2 .ensures) in let w = c .before .before .before .before .before .before .before .before .before .before .before .sample .kept .1 .0 in let p = b .0 ∙ ap (λ (i : ℕ). answer (c .before .before .before .before .before .before .before .before .before .before .before .before .before .before .before .before .before .before .before .args .s .now) i (length (c .before .before .before .before .before .before .before .before .before .before .before .before .before .before .before .before .before .before .before .args .y .now))) w in (a .0, (p, (a .1 .0, (b .1 .0, (b .1 .1 ∙ ap zeros w, together (c .before .before .before .before .before .before .before .before .before .before .before .before .before .before .before .before .before .before .before .args .r .now) (c .before .before .before .before .before .before .before .before .before .before .before .before .before .before .before .before .before .before .before .args .s .now) (c .before .before .before .before .before .before .before .before .before .before .before .sample .last .1 .1 .0) (c .before .before .before .before .sample2 .last .1 .1 .0) (c .before .before .before .before .before .before .before .before .before .before .before .before .before .before .before .before .before .before .before .args .x .now) (c .before .before .before .before .before .before .before .before .before .before .before .before .before .before .before .before .before .before .before .args .y .now) (length (c .before .before .before .before .before .before .before .before .before .before .before .before .before .before .before .before .before .before .before .args .work .now)) _ _ (c .before .before .before .before .before .before .before .before .before .before .before .sample .kept .1 .1 .0) (c .before .before .before .before .sample2 .kept .1 .1 .0) (a .0) p (a .1 .0) (b .1 .0))))))
+returns c =
+    let b = c .before .before .before .before .before .before .before .before .before .before in
+    let a = b .before .before .before .before .before .before .before .before .before .before .args in
+    let p = c .before .before .before .before .before .before .before .before .before .before .before .sample .ensures in
+    let q = c .before .before .before .before .sample2 .ensures in
+    let k = c .before .before .before .before .before .before .before .before .before .before .before .sample .kept .1 .1 .0 in
+    let l = c .before .before .before .before .sample2 .kept .1 .1 .0 in
+    let t = together (a .r .now) (a .s .now) _ _ (a .x .now) (a .y .now) (length (a .v .now)) (length (a .w .now)) _ _ k l (p .0) (q .0) (p .1 .0)
+    (q .1 .0) in
+    (p .0, (q .0, (p .1 .0, (q .1 .0, (p .1 .1, (q .1 .1, t))))))
 
 pub twice-spec : {M : Type 1} → statement M
-twice-spec = tie.close (tie.spec sample-requires sample-requires-2 same-length same-length-2 same-length-3 returns)
+twice-spec = tie.close (tie.spec sample-requires sample-requires-2 same-length same-length-2 same-length-3 same-length-4 returns)

@@ -1,0 +1,79 @@
+-- Refusals 1 to 8 depend on what is read alone.
+use Prim.Native.Nat.{ℕ, zero, suc, _+_, _≤_, _<_}
+use native.Mathlib.Omega.{arith}
+use mathlib.Core.Path.{_≡_, refl, ap}
+use mathlib.Core.List.{List}
+use mathlib.Core.Bool.{Bool, true, false, cond, _||_}
+use lib.ListN.{getD}
+use lib.Dec.{T, eqb}
+use Rattle.sheet.specs.declared.request.Field.{Field}
+use Rattle.sheet.specs.declared.request.Field.the-variants.{Sign, Arm, Reference, Offset}
+use Rattle.sheet.specs.Request.{shape-of, reads, place, last, width, Agree}
+use Rattle.sheet.specs.Fields.{field, rotation-of}
+use Rattle.sheet.specs.Validate.{all-from, zero-at, head-right, sign-right, signs-right, passes, field-right, fields-right, arm-within, references-finite, offsets-within, validate}
+use Rattle.sheet.specs.Refusals.{Answer}
+use Rattle.sheet.specs.Laws.Agree.{same-first, same-shape, same-always, same-sign, same-float, same-rotation}
+
+-- equal tests
+all-same : (p q : ℕ → Bool) (n j : ℕ) → ((i : ℕ) → j ≤ i → i < j + n → p i ≡ q i) → all-from n j p ≡ all-from n j q
+unfolding all-from
+all-same p q zero j h = refl
+all-same p q (suc n) j h = rw (h j (omega arith) (omega arith), all-same p q n (suc j) (λ i a b. h i (omega arith) (omega arith)))
+
+-- where an unread field passes, a test depends on read fields alone
+guarded : {A : Type 0} (b : Bool) (p : A → Bool) (x y : A) → (T b → x ≡ y) → cond b (p x) true ≡ cond b (p y) true
+guarded true p x y h = ap p (h tt)
+guarded false p x y h = refl
+
+module _ (r s : List ℕ) (g : Agree r s) where
+  head-same : head-right r ≡ head-right s
+  unfolding head-right
+  head-same =
+      rw (
+        ← same-shape r s g,
+        same-first r s g 3 (omega arith),
+        all-same (zero-at r) (zero-at s) 6 10 (λ i a b. ap (λ (v : ℕ). eqb v 0) (same-always r s g i (omega arith) (omega arith))),
+      )
+
+  signs-same : signs-right r ≡ signs-right s
+  unfolding signs-right sign-right
+  signs-same =
+      rw (← same-shape r s g)
+      (all-same (sign-right (shape-of r) r) (sign-right (shape-of r) s) 6 1
+      (λ j a b.
+      guarded (reads (shape-of r) Sign j) (λ (v : ℕ). eqb v 1 || eqb v 255) (getD r (place Sign j) 0) (getD s (place Sign j) 0)
+      (same-sign r s g j a (omega arith))))
+
+  pub rotation-same : rotation-of r ≡ rotation-of s
+  unfolding rotation-of
+  rotation-same =
+      rw (
+        same-rotation r s g 16 (omega arith) (omega arith),
+        same-rotation r s g 24 (omega arith) (omega arith),
+        same-rotation r s g 32 (omega arith) (omega arith),
+        same-rotation r s g 40 (omega arith) (omega arith),
+      )
+
+  fields-same : (f : Field) → width f ≡ 8 → fields-right f r ≡ fields-right f s
+  unfolding field-right
+  fields-same f e =
+      rw (← same-shape r s g)
+      (all-same (field-right (shape-of r) f r) (field-right (shape-of r) f s) (last f) 1
+      (λ j a b. guarded (reads (shape-of r) f j) (passes f) (field r f j) (field s f j) (same-float r s g f j a (omega arith) e)))
+
+  arm-same : arm-within r ≡ arm-within s
+  unfolding arm-within
+  arm-same = fields-same Arm refl
+
+  references-same : references-finite r ≡ references-finite s
+  unfolding references-finite
+  references-same = fields-same Reference refl
+
+  offsets-same : offsets-within r ≡ offsets-within s
+  unfolding offsets-within
+  offsets-same = fields-same Offset refl
+
+  -- two requests that agree meet the same of refusals 1 to 8
+  pub validate-same : (v : Answer) → validate r v ≡ validate s v
+  unfolding validate
+  validate-same v = rw (g .whole, g .whole', head-same, signs-same, rotation-same, arm-same, references-same, offsets-same)

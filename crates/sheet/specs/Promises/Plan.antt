@@ -1,0 +1,41 @@
+-- What inner functions of Sampling and Check promise one another of a request's plan. Definitions only; `Laws.Plan` joins them to `Sampling` and `Check`.
+use Prim.Native.Nat.{ℕ, _≤_}
+use mathlib.Core.Path.{_≡_}
+use mathlib.Core.Bool.{Bool, true, false}
+use mathlib.Core.List.{List}
+use lib.ListN.{length}
+use lib.Dec.{leb}
+use lib.Ieee.{Float}
+use Rattle.sampling.specs.Promises.Stream.{start}
+use Rattle.sampling.specs.Promises.Plan.{by-plan, plan, Ready, to-come}
+use Rattle.sampling.specs.declared.plan.Plan.{Plan}
+use Rattle.sheet.specs.Bytes.{words-bytes, same-bytes}
+use Rattle.sheet.specs.Fields.{job-of}
+use Rattle.sheet.specs.Refusals.{Answer, accepted, need}
+use Rattle.sheet.specs.Sampling.{angles, items, cut-count, holds, sheet-size}
+use Rattle.sheet.specs.Check.{clean, meets-none}
+
+-- 9, and 10
+abbrev pub is-refused : Plan → Bool
+is-refused p = by-plan p true false false
+
+abbrev pub is-short : Plan → Bool
+is-short p = by-plan p false true false
+
+-- the plan for a request that passed its tests, whose cuts stand in w
+pub record PlannedFor (r : List ℕ) (p : Plan) (w : List Float) : Type 0 where
+  pub made : p ≡ plan (job-of r) (length w)
+  pub ready : Ready p w
+  pub yields : holds r ≡ true → cut-count r ≤ length w → to-come p w start ≡ angles r
+
+-- Sampling of a request that passed its tests: 9 to 11
+unfoldable pub planned-answer : List ℕ → ℕ → ℕ → Answer
+planned-answer r places room =
+    need (holds r) 9 (need (leb (cut-count r) places) 10 (need (leb (sheet-size (length (items r))) room) 11 (accepted (length (items r)))))
+
+-- Check of a formed sheet with the request r, the items' bytes a and the number n: 33 to 36, and 34 to 36 of one whose request meets none of 1 to 9
+unfoldable pub compared : List ℕ → List ℕ → ℕ → ℕ → Answer
+compared r a n places = need (clean r) 34 (need (leb (cut-count r) places) 35 (need (same-bytes a (words-bytes (items r))) 36 (accepted n)))
+
+unfoldable pub checked : List ℕ → List ℕ → ℕ → ℕ → Answer
+checked r a n places = need (meets-none r) 33 (compared r a n places)
