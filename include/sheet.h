@@ -1,4 +1,4 @@
-/* The operations on requests and sheets (document 01), proved: libsheet.a, made by `rt staticlib sheet`.
+/* The operations on requests and sheets (document 01), proved: liblemongully.a, made by `rt staticlib lemongully`.
  *
  * Each returns the number of angles, or minus the number of 01's refusal. Nothing is asked of a
  * caller but that each pointer lends as many elements as the number behind it says, and that the

@@ -6,7 +6,6 @@ pub mod compensated;
 pub mod curve;
 pub mod cuts;
 pub mod halving;
-pub mod interface;
 pub mod norm;
 pub mod operation;
 pub mod plain;
