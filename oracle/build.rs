@@ -1,13 +1,7 @@
 //! With the feature `linked`, links the archives of the proved library, which
 //! `rt staticlib NAME` makes at the repository's root.
 
-const ARCHIVES: [&str; 5] = [
-    "float",
-    "float_bench",
-    "polynomial",
-    "sampling_parts",
-    "sheet",
-];
+const ARCHIVES: [&str; 3] = ["lemongully", "float_bench", "sampling_parts"];
 
 fn main() {
     println!("cargo:rerun-if-changed=build.rs");

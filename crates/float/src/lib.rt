@@ -1,6 +1,5 @@
 // The float floor of document 01: its modules 1 and 2. specs/Lib.antt says which files define what.
 pub mod arc;
-pub mod interface;
 pub mod mul_add;
 pub mod number;
 pub mod product_error;

@@ -7,7 +7,6 @@ pub mod curve;
 pub mod cuts;
 pub mod halving;
 pub mod inner;
-pub mod interface;
 pub mod norm;
 pub mod operation;
 pub mod plain;

@@ -41,7 +41,7 @@ pub(crate) fn half(s: &[u8], at: usize) -> u32
 }
 
 // The number whose eight bytes start at `at`.
-pub(crate) fn word(s: &[u8], at: usize) -> u64
+pub fn word(s: &[u8], at: usize) -> u64
     requires { ⌜ at + 8 ≤ length (now s) ⌝ }
     ensures { λ r. ⌜ r ≡ Bytes.le (Bytes.part at 8 (now (s .entry))) ⌝ }
 {

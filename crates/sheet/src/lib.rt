@@ -3,7 +3,6 @@ pub mod angles;
 pub mod bytes;
 pub mod check;
 pub mod fields;
-pub mod interface;
 pub mod plan;
 pub mod refusals;
 pub mod request;

@@ -13,7 +13,7 @@ pub(crate) const EDITION: u64 = 1;
 pub(crate) const TRAILER: usize = 16;
 
 // A sheet without its items.
-pub(crate) const FRAME: usize = REQUEST + TRAILER;
+pub const FRAME: usize = REQUEST + TRAILER;
 
 // The shortest sheet.
 pub(crate) const LEAST: usize = CORE + TRAILER;

@@ -9,11 +9,11 @@ ghost use Rattle.text.specs.Lines as Lines;
 use crate::hex::byte;
 use crate::hex::is_word;
 
-// Room for a program's text, 2 MiB.
-pub fn room() -> [u8; 2097152]
-    ensures { λ r. ⌜ r ≡ replicate 2097152 0 ⌝ }
+// Room for a program's text, 3 MiB.
+pub fn room() -> [u8; 3145728]
+    ensures { λ r. ⌜ r ≡ replicate 3145728 0 ⌝ }
 {
-    [0; 2097152]
+    [0; 3145728]
 }
 
 // Whether k words stand at `at`, a space before each.

@@ -1,6 +1,14 @@
 // Lines that the programs print. What a call writes is beyond every contract, so these only say
 // that they are safe.
+use libc::STDERR_FILENO;
 use libc::STDOUT_FILENO;
+
+// Writes all of s, or says on standard error that it was not.
+pub fn deliver(fd: i32, s: &[u8]) {
+    if !io::write_all(fd, s) {
+        io::write_all(STDERR_FILENO, b"not written\n");
+    }
+}
 
 // How many samples there are, how many of them differ, and how many bytes stand from the first line
 // on that is none.

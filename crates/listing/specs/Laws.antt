@@ -1,0 +1,2 @@
+-- `Room`: how long a text can be.
+pub mod Room

@@ -1,0 +1,61 @@
+-- What `check_sheet` prints has at most 147,456 bytes, which the program lends.
+use Prim.Native.Nat.{ℕ, zero, suc, _+_, _*_, _/_, _%_, _≤_}
+use native.Mathlib.Omega.{arith}
+use mathlib.Core.Path.{_≡_, refl, sym}
+use mathlib.Core.Bool.{Bool, true, false, cond}
+use mathlib.Core.List.{List, [], _∷_, _++_}
+use lib.Dec.{ltb, lit≤}
+use lib.ListN.{length, length-append}
+use borrow.Author.Tests.{ltb-false}
+use Rattle.text.specs.Decimal.{figures}
+use Rattle.text.specs.Laws.Stores.{length-spelled}
+use Rattle.sheet.specs.Refusals.{Answer, accepted, refused, need}
+use Rattle.sheet.specs.Check as Check
+use Rattle.sheet.specs.Laws.Demands.{checked-length}
+use Rattle.listing.specs.Listing.{places, most, too-long, item, lines, report, check-text}
+
+-- ---- numbers
+one-more : (b : Bool) (l : List ℕ) (m : ℕ) → length l ≤ m → length (cond b [] l) + 1 ≤ suc m
+one-more true l m h = omega arith
+one-more false l m h = omega arith
+
+length-figures : (most n : ℕ) → length (figures most n) ≤ most
+unfolding figures
+length-figures zero n = lit≤ tt
+length-figures (suc m) n = rw length-append (one-more (ltb n 10) (figures m (n / 10)) m (length-figures m (n / 10)))
+
+pub length-lines : (s : List ℕ) (i n : ℕ) → length (lines s i n) ≡ 17 * n
+unfolding lines
+length-lines s i zero = refl
+length-lines s i (suc n) = simp (length-append, length-spelled 16 (item s i), length-lines s (suc i) n) (omega arith)
+
+-- ---- 01's numbers
+abbrev Numbered : Answer → Type 0
+Numbered (accepted n) = Unit {0}
+Numbered (refused k) = k ≤ 36
+
+need-numbered : (b : Bool) (k : ℕ) (a : Answer) → k ≤ 36 → Numbered a → Numbered (need b k a)
+unfolding need
+need-numbered true k a h g = g
+need-numbered false k a h g = h
+
+check-numbered : (s : List ℕ) (w : ℕ) → Numbered (Check.answer s w)
+unfolding Check.answer
+check-numbered s w =
+    need-numbered _ 31 _ (lit≤ tt) (need-numbered _ 32 _ (lit≤ tt) (need-numbered _ 33 _ (lit≤ tt)
+    (need-numbered _ 34 _ (lit≤ tt) (need-numbered _ 35 _ (lit≤ tt) (need-numbered _ 36 (accepted (Check.count-of s)) (lit≤ tt) tt)))))
+
+-- ---- the text
+length-report : (s : List ℕ) (a : Answer) → length s ≤ most → a ≡ Check.answer s places → Numbered a → length (report a s) ≤ 147456
+length-report s (accepted n) h e g =
+    simp length-append (omega (arith, length-figures (suc n) n, length-lines s 0 n, checked-length s places n (sym e)))
+length-report s (refused k) h e g =
+    simp length-append (omega (arith, length-figures (suc k) k, length-lines s 0 0))
+
+pub room-suffices : (s : List ℕ) → length (check-text s) ≤ 147456
+unfolding check-text
+room-suffices s = go (ltb most (length s)) refl
+  where
+    go : (b : Bool) → b ≡ ltb most (length s) → length (cond b too-long (report (Check.answer s places) s)) ≤ 147456
+    go true e = lit≤ tt
+    go false e = length-report s (Check.answer s places) (ltb-false most (length s) (sym e)) refl (check-numbered s places)
