@@ -16,7 +16,7 @@ use Rattle.polynomial.specs.Promises.Held.{Kept}
 use Rattle.polynomial.specs.Laws.Held.{kept-full}
 use Rattle.polynomial.specs.Laws.Lists.{tail-part, tail-post}
 use Rattle.sampling.specs.Promises.Plan.{lists-of, granted}
-use Rattle.sampling.specs.declared.plan.Plan.the-variants.{Short, Lists}
+use Rattle.sampling.specs.declared.lists.Plan.the-variants.{Short, Lists}
 
 -- the first n places of r hold l, and the others are as in w
 pub record Laid (l w r : List Float) (n : ℕ) : Type 0 where

@@ -18,6 +18,7 @@ use float::arc::asin;
 use float::arc::atan2;
 use float::number::abs;
 use float::number::clamp;
+use float::trig::P;
 use float::trig::SinCos;
 use float::trig::hypot;
 use float::trig::sin_cos;
@@ -32,7 +33,7 @@ fn transverse(radius: f64, azimuth: f64, component: f64, out: &mut [f64], n: usi
     if (0.0 < radius) & (abs(component) <= radius * (1.0 + ROOT_ROUNDOFF)) {
         let offset = asin(clamp(component / radius));
         let m = push(wrapped_angle(azimuth - offset), out, n);
-        return push(wrapped_angle(azimuth - 3.141592653589793 + offset), out, m);
+        return push(wrapped_angle(azimuth - P + offset), out, m);
     }
     n
 }
@@ -89,7 +90,7 @@ fn axis_angles(v: Vector, out: &mut [f64], n: usize) -> usize
 {
     let angle = atan2(v.y, v.x);
     let m = push(angle, out, n);
-    push(wrapped_angle(angle + 3.141592653589793), out, m)
+    push(wrapped_angle(angle + P), out, m)
 }
 
 fn axes_range(m: Matrix, q5: SinCos, range: Range, out: &mut [f64], n: usize) -> usize

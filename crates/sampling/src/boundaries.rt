@@ -11,6 +11,7 @@ use crate::limits::centered;
 use crate::limits::limits_of;
 use crate::pose::Matrix;
 use crate::pose::Vector;
+use float::trig::P;
 use float::trig::sin_cos;
 use polynomial::curve::Curve;
 use polynomial::curve::Harmonic;
@@ -162,7 +163,7 @@ pub(crate) fn wrist_limits(limited: bool, j: Joint) -> Range
     ensures { λ r. ⌜ r ≡ Of.wrist-limits limited j ⌝ }
 {
     let c = centered(limited, j);
-    if !limited | (3.141592653589793 <= c.tolerance) {
+    if !limited | (P <= c.tolerance) {
         return Range::Nothing;
     }
     limits_of(c, j.sign, j.offset)

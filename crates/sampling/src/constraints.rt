@@ -3,6 +3,7 @@ ghost use mathlib.Core.Path.{_≡_};
 ghost use Rattle.sampling.specs.Constraints as Constraints;
 use float::number::is_finite;
 use float::number::rem_euclid;
+use float::trig::TWO_PI;
 
 pub struct Center {
     pub center: f64,
@@ -13,9 +14,9 @@ pub struct Center {
 fn arc(a: f64, b: f64) -> f64
     ensures { λ r. ⌜ r ≡ Constraints.arc a b ⌝ }
 {
-    let end = rem_euclid(b, 6.283185307179586);
-    let start = rem_euclid(a, 6.283185307179586);
-    rem_euclid(end - start, 6.283185307179586)
+    let end = rem_euclid(b, TWO_PI);
+    let start = rem_euclid(a, TWO_PI);
+    rem_euclid(end - start, TWO_PI)
 }
 
 // The centre and the tolerance of the limits from a to b.

@@ -5,6 +5,8 @@ use crate::constraints::Center;
 use float::number::is_finite;
 use float::number::maximum;
 use float::number::minimum;
+use float::trig::P;
+use float::trig::TWO_PI;
 use polynomial::angle::wrapped_angle;
 
 // A limit interval: none, or a pair of angles.
@@ -24,10 +26,10 @@ pub struct Intervals {
 fn seen(c: Center, reference: f64, sign: f64) -> Center
     ensures { λ r. ⌜ r ≡ Of.seen c reference sign ⌝ }
 {
-    if 3.141592653589793 <= c.tolerance {
+    if P <= c.tolerance {
         return Center {
             center: 0.0,
-            tolerance: 3.141592653589793,
+            tolerance: P,
         };
     }
     let center = wrapped_angle(sign * (wrapped_angle(c.center) - reference));
@@ -41,8 +43,8 @@ fn seen(c: Center, reference: f64, sign: f64) -> Center
 fn interval(c: Center, shift: f64) -> Range
     ensures { λ r. ⌜ r ≡ Of.interval c shift ⌝ }
 {
-    let lower = maximum(c.center + shift - c.tolerance, -3.141592653589793);
-    let upper = minimum(c.center + shift + c.tolerance, 3.141592653589793);
+    let lower = maximum(c.center + shift - c.tolerance, -P);
+    let upper = minimum(c.center + shift + c.tolerance, P);
     if is_finite(c.center) & (0.0 <= c.tolerance) & (lower <= upper) {
         return Range::Between(lower, upper);
     }
@@ -54,9 +56,9 @@ pub fn wrist_limit_intervals(c: Center, reference: f64, sign: f64) -> Intervals
     ensures { λ r. ⌜ r ≡ Of.wrist-limit-intervals c reference sign ⌝ }
 {
     let s = seen(c, reference, sign);
-    let first = interval(s, -6.283185307179586);
+    let first = interval(s, -TWO_PI);
     let second = interval(s, 0.0);
-    let third = interval(s, 6.283185307179586);
+    let third = interval(s, TWO_PI);
     Intervals {
         first,
         second,

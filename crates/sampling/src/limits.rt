@@ -7,6 +7,7 @@ use crate::intervals::Range;
 use crate::job::Joint;
 use float::number::is_finite;
 use float::number::minimum;
+use float::trig::P;
 use polynomial::angle::wrapped_angle;
 
 // The centre and the tolerance of a joint: of its limits where they are present, else its reference
@@ -19,7 +20,7 @@ pub(crate) fn centered(limited: bool, j: Joint) -> Center
     }
     Center {
         center: j.reference,
-        tolerance: 3.141592653589793,
+        tolerance: P,
     }
 }
 
@@ -31,7 +32,7 @@ pub(crate) fn limits_of(c: Center, sign: f64, offset: f64) -> Range
         return Range::Nothing;
     }
     let center = wrapped_angle(wrapped_angle(c.center) * sign - offset);
-    let half_width = minimum(c.tolerance, 3.141592653589793);
+    let half_width = minimum(c.tolerance, P);
     Range::Between(center - half_width, center + half_width)
 }
 

@@ -1,4 +1,4 @@
-// The samples of three intervals, whose cuts stand one after the other in the work slice.
+// How a job's cuts stand in the work slice, and the samples of three intervals that are read off them.
 ghost use mathlib.Core.Path.{_≡_};
 ghost use Prim.Native.Nat.{_+_, _-_, _≤_};
 ghost use lib.ListN.{length, take, drop, getD};
@@ -12,6 +12,22 @@ pub struct Lists {
     pub first: usize,
     pub second: usize,
     pub third: usize,
+}
+
+// The cuts of both halves stand one after the other in work: how many, and joint 1's reference.
+pub struct Halves {
+    pub reference: f64,
+    pub first: usize,
+    pub second: usize,
+}
+
+// What came of a job's cuts: an inner call of the root finder was refused, there are too few places,
+// or the cuts of one free joint or of two are in work.
+pub enum Plan {
+    Refused,
+    Short,
+    Lists(Lists),
+    Halves(Halves),
 }
 
 // How many samples n cuts give.

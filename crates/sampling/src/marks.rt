@@ -6,6 +6,7 @@ use crate::constraints::compute_center;
 use crate::intervals::Range;
 use crate::job::Joint;
 use float::number::is_finite;
+use float::trig::P;
 use polynomial::angle::wrapped_angle;
 
 // The reference and, with limits, their centre and ends.
@@ -34,7 +35,7 @@ pub(crate) fn model_angle(sign: f64, offset: f64, angle: f64) -> f64
 fn ends(center: f64, tolerance: f64) -> Range
     ensures { λ r. ⌜ r ≡ Of.ends center tolerance ⌝ }
 {
-    if is_finite(tolerance) & (0.0 <= tolerance) & (tolerance < 3.141592653589793) {
+    if is_finite(tolerance) & (0.0 <= tolerance) & (tolerance < P) {
         return Range::Between(center - tolerance, center + tolerance);
     }
     Range::Nothing

@@ -13,7 +13,9 @@ use crate::j1j2free::folded_of;
 use crate::j2free;
 use crate::job::Job;
 use crate::job::Kind;
+use crate::lists::Halves;
 use crate::lists::Lists;
+use crate::lists::Plan;
 use crate::lists::angle_at;
 use crate::lists::angle_count;
 use crate::sample_angles;
@@ -23,22 +25,6 @@ use crate::stream;
 use crate::stream::Cursor;
 use crate::stream::Step;
 use crate::work::clear;
-
-// The cuts of both halves stand one after the other in work: how many, and joint 1's reference.
-pub struct Halves {
-    pub reference: f64,
-    pub first: usize,
-    pub second: usize,
-}
-
-// What came of a job's cuts: an inner call of the root finder was refused, there are too few places,
-// or the cuts of one free joint or of two are in work.
-pub enum Plan {
-    Refused,
-    Short,
-    Lists(Lists),
-    Halves(Halves),
-}
 
 fn next_sample(work: &[f64], n: Lists, c: Cursor) -> Step
     requires { ⌜ n .first + n .second + n .third ≤ length (now work) ⌝ }

@@ -16,15 +16,16 @@ use crate::intervals::wrist_limit_intervals;
 use crate::job::Job;
 use crate::job::Joint;
 use crate::lists::Lists;
+use crate::lists::Plan;
 use crate::marks::Marks;
 use crate::marks::Sixth;
 use crate::marks::marks_of;
 use crate::marks::model_angle;
-use crate::plan::Plan;
 use crate::samples::interval_cuts;
 use crate::wrist::Wrist;
 use crate::wrist::wrist_of;
 use float::number::is_finite;
+use float::trig::P;
 use polynomial::cuts::Put;
 
 // What counts of a job with one free joint.
@@ -51,7 +52,7 @@ fn free_limits(limited: bool, j: Joint) -> Center
     }
     Center {
         center: 0.0,
-        tolerance: 3.141592653589793,
+        tolerance: P,
     }
 }
 

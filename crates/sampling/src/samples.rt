@@ -18,6 +18,7 @@ use float::number::is_finite;
 use float::number::maximum;
 use float::number::middle;
 use float::number::minimum;
+use float::trig::TWO_PI;
 use polynomial::cuts::Put;
 
 // An angle counts where it lies in the interval.
@@ -34,9 +35,9 @@ fn inside(work: &mut [f64], cuts: usize, lower: f64, upper: f64, angle: f64) -> 
 fn turns(work: &mut [f64], cuts: usize, lower: f64, upper: f64, angle: f64) -> usize
     ensures { λ r. ⌜ Grown (Of.turns lower upper angle) (now (work .entry)) (counted cuts (now (work .entry))) (now (work .exit)) (counted r (now (work .exit))) ⌝ }
 {
-    let below = inside(work, cuts, lower, upper, angle + -1.0 * 6.283185307179586);
-    let same = inside(work, below, lower, upper, angle + 0.0 * 6.283185307179586);
-    inside(work, same, lower, upper, angle + 1.0 * 6.283185307179586)
+    let below = inside(work, cuts, lower, upper, angle + -1.0 * TWO_PI);
+    let same = inside(work, below, lower, upper, angle + 0.0 * TWO_PI);
+    inside(work, same, lower, upper, angle + 1.0 * TWO_PI)
 }
 
 // Those of the first n angles.

@@ -28,7 +28,7 @@ use crate::trailer::TRAILER;
 use crate::trailer::put_trailer;
 use crate::validate::Tested;
 use crate::validate::validate;
-use sampling::plan::Plan;
+use sampling::lists::Plan;
 use sampling::plan::next;
 use sampling::plan::start;
 use sampling::stream::Step;

@@ -9,7 +9,7 @@ ghost use Rattle.sheet.specs.Request as Request;
 ghost use Rattle.sheet.specs.Fields as Fields;
 ghost use Rattle.sheet.specs.Promises.Plan as Promise;
 use crate::view::read_job;
-use sampling::plan::Plan;
+use sampling::lists::Plan;
 use sampling::plan::plan_of;
 use sampling::pose::Quaternion;
 use sampling::pose::from_quat;

@@ -26,7 +26,7 @@ use crate::trailer::FRAME;
 use crate::trailer::put_trailer;
 use crate::validate::Tested;
 use crate::validate::validate;
-use sampling::plan::Plan;
+use sampling::lists::Plan;
 use sampling::plan::count;
 use sampling::plan::next;
 use sampling::plan::start;

@@ -19,6 +19,7 @@ use crate::request::field_read;
 use crate::request::place;
 use crate::request::shape_of;
 use float::number::is_finite;
+use float::trig::TWO_PI;
 use sampling::pose::Normalized;
 use sampling::pose::Quaternion;
 use sampling::pose::try_normalize;
@@ -109,7 +110,7 @@ fn passes(f: Field, x: f64) -> bool
         Field::Sign => true,
         Field::Arm => within(8.0, x),
         Field::Reference => is_finite(x),
-        Field::Offset => within(6.283185307179586, x),
+        Field::Offset => within(TWO_PI, x),
         Field::From => true,
         Field::To => true,
     }

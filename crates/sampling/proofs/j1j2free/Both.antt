@@ -25,8 +25,8 @@ use Rattle.sampling.specs.Promises.Halves.{half-values, start, both}
 use Rattle.sampling.specs.Promises.Plan.{halves-of, granted, where-laid}
 use Rattle.sampling.specs.Laws.J1j2free.{half-cuts-are}
 use Rattle.sampling.specs.declared.j1j2free.Folded.{Folded}
-use Rattle.sampling.specs.declared.plan.Plan.{Plan}
-use Rattle.sampling.specs.declared.plan.Plan.the-variants.{Refused}
+use Rattle.sampling.specs.declared.lists.Plan.{Plan}
+use Rattle.sampling.specs.declared.lists.Plan.the-variants.{Refused}
 
 -- the second list starts within the slice
 pub starts : (a w v : List Float) (s : Put) (n : ℕ) → n ≡ start s (length v) → Kept a w v s → n ≤ length v

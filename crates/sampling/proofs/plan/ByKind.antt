@@ -10,8 +10,8 @@ use Rattle.sampling.specs.Angles.{first-free, second-free, by-kind, hold
 use Rattle.sampling.specs.Promises.Plan.{free-plan, folded-plan, laid, free-cuts, folded-cuts, all-cuts, granted, plan, zeros, where-laid, work-after}
 use Rattle.sampling.specs.declared.job.Job.{Job}
 use Rattle.sampling.specs.declared.job.Kind.{Kind}
-use Rattle.sampling.specs.declared.plan.Plan.{Plan}
-use Rattle.sampling.specs.declared.plan.Plan.the-variants.{Refused, Short, Lists, Halves}
+use Rattle.sampling.specs.declared.lists.Plan.{Plan}
+use Rattle.sampling.specs.declared.lists.Plan.the-variants.{Refused, Short, Lists, Halves}
 
 module _ (job : Job) (p : Plan) (w after : List Float) where
   -- what `cut` ensures, with the kind by itself

@@ -35,8 +35,8 @@ use Rattle.sampling.specs.declared.job.Job.{Job}
 use Rattle.sampling.specs.declared.job.Kind.{Kind}
 use Rattle.sampling.specs.declared.job.Kind.the-variants.{J1free, J2free, J1j2free}
 use Rattle.sampling.specs.declared.lists.Lists.{Lists}
-use Rattle.sampling.specs.declared.plan.Plan.{Plan}
-use Rattle.sampling.specs.declared.plan.Plan.the-variants as of
+use Rattle.sampling.specs.declared.lists.Plan.{Plan}
+use Rattle.sampling.specs.declared.lists.Plan.the-variants as of
 use Rattle.sampling.specs.declared.sample_angles.Free.{Free}
 use Rattle.sampling.specs.declared.stream.Cursor.{Cursor}
 use Rattle.sampling.specs.declared.stream.Step.{Step}

@@ -7,8 +7,8 @@ use Rattle.polynomial.specs.declared.cuts.Put.{Put}
 use Rattle.polynomial.specs.declared.cuts.Put.the-variants.{Count, Full}
 use Rattle.sampling.specs.Samples.{all-turns}
 use Rattle.sampling.specs.CriticalSlices.{chart, critical}
-use Rattle.sampling.specs.declared.plan.Plan.{Plan}
-use Rattle.sampling.specs.declared.plan.Plan.the-variants.{Short, Halves}
+use Rattle.sampling.specs.declared.lists.Plan.{Plan}
+use Rattle.sampling.specs.declared.lists.Plan.the-variants.{Short, Halves}
 
 -- the values whose cuts a half's list is
 abbrev pub half-values : List Curve → List Float → Float → Float → List Float

@@ -20,9 +20,9 @@ use Rattle.sampling.specs.declared.j1j2free.Folded.{Folded}
 use Rattle.sampling.specs.declared.job.Job.{Job}
 use Rattle.sampling.specs.declared.job.Joint.{Joint}
 use Rattle.sampling.specs.declared.lists.Lists.{Lists}
-use Rattle.sampling.specs.declared.plan.Halves.{Halves}
-use Rattle.sampling.specs.declared.plan.Plan.{Plan}
-use Rattle.sampling.specs.declared.plan.Plan.the-variants as of
+use Rattle.sampling.specs.declared.lists.Halves.{Halves}
+use Rattle.sampling.specs.declared.lists.Plan.{Plan}
+use Rattle.sampling.specs.declared.lists.Plan.the-variants as of
 use Rattle.sampling.specs.declared.sample_angles.Free.{Free}
 use Rattle.sampling.specs.declared.stream.Cursor.{Cursor}
 use Rattle.sampling.specs.declared.stream.Step.{Step}

@@ -21,7 +21,7 @@ use Rattle.sampling.specs.Reads.{joint-read, reference-read}
 use Rattle.sampling.specs.Promises.Stream.{start}
 use Rattle.sampling.specs.Promises.Plan.{Moderate, plan, work-after, to-come, Ready, Gives, step}
 use Rattle.sampling.specs.Laws.Plan.{plan-by, plan-ready, plan-yields, step-gives}
-use Rattle.sampling.specs.declared.plan.Plan.{Plan}
+use Rattle.sampling.specs.declared.lists.Plan.{Plan}
 use Rattle.sampling.specs.declared.stream.Cursor.{Cursor}
 use Rattle.sampling.specs.declared.stream.Step.{Step}
 use Rattle.sampling.specs.declared.stream.Step.the-variants.{Yield, Done}

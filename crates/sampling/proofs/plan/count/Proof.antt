@@ -6,7 +6,7 @@ use lib.ListN.{length}
 use Rattle.sampling.specs.Promises.Stream.{start}
 use Rattle.sampling.specs.Promises.Plan.{to-come, Ready}
 use Rattle.sampling.specs.Laws.Plan.{all-samples-length}
-use Rattle.sampling.specs.declared.plan.Plan.{Plan}
+use Rattle.sampling.specs.declared.lists.Plan.{Plan}
 use Rattle.sampling.proofs.plan.count.Statement.{statement}
 use Rattle.sampling.proofs.plan.count.Tie as tie
 

@@ -2,7 +2,7 @@
 use borrow.Author.Needs.{needs}
 use mathlib.Core.Path.{sym, ap, subst, _∙_}
 use Rattle.sampling.specs.Promises.Plan.{Ready, step}
-use Rattle.sampling.specs.declared.plan.Plan.{Plan}
+use Rattle.sampling.specs.declared.lists.Plan.{Plan}
 use Rattle.sampling.proofs.plan.next.Statement.{statement}
 use Rattle.sampling.proofs.plan.next.Tie as tie
 

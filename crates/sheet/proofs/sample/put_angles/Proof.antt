@@ -6,7 +6,7 @@ use lib.Seq.{sets}
 use borrow.Author.Needs.{needs}
 use Rattle.sampling.specs.Promises.Stream.{start}
 use Rattle.sampling.specs.Promises.Plan.{to-come, Ready}
-use Rattle.sampling.specs.declared.plan.Plan.{Plan}
+use Rattle.sampling.specs.declared.lists.Plan.{Plan}
 use Rattle.sheet.specs.Promises.Floats.{floats-bytes}
 use Rattle.sheet.proofs.sample.put_angles.Statement.{statement}
 use Rattle.sheet.proofs.sample.put_angles.Tie as tie
