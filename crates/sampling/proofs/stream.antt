@@ -1,4 +1,2 @@
 -- What the proofs of the stream share.
-mod Least
-mod Heads
 mod Turn

@@ -18,7 +18,6 @@ use Rattle.sampling.specs.declared.intervals.Range.{Range}
 use Rattle.sampling.specs.declared.intervals.Range.the-variants.{Nothing, Between}
 use Rattle.sampling.specs.declared.job.Job.{Job}
 use Rattle.sampling.specs.declared.job.Joint.{Joint}
-use Rattle.sampling.specs.declared.pose.Matrix.{Matrix}
 use Rattle.sampling.specs.declared.j1j2free.Folded.{Folded}
 
 -- joint 1's reference as a model angle; neither it nor the offset is wrapped first
@@ -30,10 +29,10 @@ unfoldable pub sixth-limits : Bool → Bool → Joint → Range
 sixth-limits fixed limited j = cond fixed Nothing (wrist-limits limited j)
 
 -- What counts of a job whose joints 1 and 2 are free.
-unfoldable pub folded : Matrix → Job → Folded
-folded m job =
+unfoldable pub folded : Job → Folded
+folded job =
     record {
-      matrix = m;
+      matrix = job .matrix;
       q3 = job .arm .q3;
       reference = model-reference (job .j1);
       range1 = limits (job .limited) (job .j1);
@@ -64,10 +63,14 @@ first-half t lower upper = half-cuts t lower (middle lower upper)
 unfoldable pub second-half : Folded → Float → Float → List Float
 second-half t lower upper = half-cuts t (middle lower upper) upper
 
+-- what an interval gives by its ends, or what stands for none
+abbrev pub on-interval : {A : Type 0} → Range → A → (Float → Float → A) → A
+on-interval Nothing none some = none
+on-interval (Between lower upper) none some = some lower upper
+
 -- both halves' lists, lengths added
-unfoldable pub cut-count : Folded → Range → ℕ
-cut-count t Nothing = 0
-cut-count t (Between lower upper) = length (first-half t lower upper) + length (second-half t lower upper)
+unfoldable pub cut-count : Folded → ℕ
+cut-count t = on-interval (t .range1) 0 (λ lower upper. length (first-half t lower upper) + length (second-half t lower upper))
 
 -- whether no inner call of the root finder is refused
 unfoldable pub halves-hold : Folded → Float → Float → Bool
@@ -75,11 +78,9 @@ halves-hold t lower upper =
     bend-slices-hold (t .matrix .z) (t .q3) (t .range2) (t .range5)
     && (critical-holds (chart lower (middle lower upper)) (curves t) && critical-holds (chart (middle lower upper) upper) (curves t))
 
-unfoldable pub hold : Folded → Range → Bool
-hold t Nothing = true
-hold t (Between lower upper) = halves-hold t lower upper
+unfoldable pub hold : Folded → Bool
+hold t = on-interval (t .range1) true (halves-hold t)
 
 -- The list after the last dedup, of both halves' cuts and the middles of neighbours; none where joint 1 has no interval, not even the reference.
-unfoldable pub all-slices : Folded → Range → List Float
-all-slices t Nothing = []
-all-slices t (Between lower upper) = slices (t .reference) lower upper (first-half t lower upper) (second-half t lower upper)
+unfoldable pub all-slices : Folded → List Float
+all-slices t = on-interval (t .range1) [] (λ lower upper. slices (t .reference) lower upper (first-half t lower upper) (second-half t lower upper))

@@ -1,13 +1,12 @@
 -- Laws of the definitions, for upper files to cite.
 -- `Intervals` (a limit interval is in order and lies within P), `Limits` (the ends of a joint's interval are in order and lie within a turn),
 -- `Pose` (the parts of a normalized quaternion lie within 2, the entries of its matrix within 17),
--- `Pushed`, `Asked` and `Grown` (lists, questions and cuts that grow, one after the other),
--- `Samples` (roots one by one, the sample at each position), `Few` (how many boundary angles, cuts and angles of one free joint at most), `CriticalSlices` (roots and curves one by one),
+-- `Samples` (roots one by one, the sample at each position), `Few` (how many boundary angles, cuts and angles of one free joint at most),
 -- `Weave` (a list with the middles of its neighbours: its values, its length, its places),
 -- `Slices` (the values at which joint 1 is tried are what the stream has; how many at most; the reference is among them),
--- `Woven` (the cuts of values within ±64 can be streamed), `Plan` (angles read off cuts one at a time), `Cutting` (lists of cuts that stand one after the other), `J1j2free` (the cuts of a half as those of one list),
--- `FewCuts` (how many curves, bends and cuts of two free joints at most), `SmallCuts` (the cuts of both halves can be streamed), `Reference` (joint 1's reference as a model angle lies within P), `Planned` (what came of a job's cuts is the job's),
--- `Angles` (a job has fewer than 2 ^ 29 angles; kind 3 tries the reference).
+-- `Least`, `Heads` and `Step` (a step of the stream gives the first of what is to come), `Woven` (the cuts of values within ±64 can be streamed), `Plan` (where a job's plan is laid, the angles read off work are the job's, and depend on its front alone), `J1j2free` (the cuts of a half as those of one list),
+-- `FewCuts` (how many curves, bends and cuts of two free joints at most), `SmallCuts` (the cuts of both halves can be streamed), `Reference` (joint 1's reference as a model angle lies within P),
+-- `Angles` (how many angles a job has at most; kind 3 tries the reference), `Reads` (what is not read changes no angle, no number of cuts and no refusal).
 pub mod Intervals
 pub mod Limits
 pub mod Pose
@@ -15,6 +14,9 @@ pub mod Samples
 pub mod Few
 pub mod Weave
 pub mod Slices
+pub mod Least
+pub mod Heads
+pub mod Step
 pub mod Woven
 pub mod Plan
 pub mod J1j2free
@@ -22,3 +24,4 @@ pub mod FewCuts
 pub mod SmallCuts
 pub mod Reference
 pub mod Angles
+pub mod Reads

@@ -2,8 +2,8 @@
 -- of module 4, `Constraints`, `Intervals`, `Pose`, `Limits`;
 -- of module 5, `Continuum` (first harmonics and where they meet a target), `J1free`, `J2free`, `Marks`, `Wrist`, `Rays` and `Bends` (the boundary angles of joints 4, 5 and 6, in order), `Samples` (from boundary angles to cuts and samples), `SampleAngles` (the angles of one free joint);
 -- of module 6, `Boundaries` (the boundary curves of two free joints), `BendSlices` (the slices of narrow bends), `CriticalSlices` (where curves meet), `Slices` and `J1j2free` (the values at which joint 1 is tried);
--- of both, `Angles` (a job's angles by its kind) and `Planned` (what `plan_of` promises).
--- `Examples` computes 01's examples. `Laws` holds what upper files cite. `Polar`, `Pushed`, `Asked`, `Grown`, `Numerators`, `Cutting`, `Halving`, `Stream`, `Plan` and `Drawn` are what inner functions promise one another; `Grown` by `Kept` of polynomial's `Laws.Held`.
+-- of both, `Angles` (a job's angles by its kind), `Reads` (which fields of a job are read), and of `Promises.Plan` what `plan_of` answers and leaves in work (`plan`, `work-after`).
+-- `Examples` computes 01's examples. `Laws` holds what upper files cite. `Polar`, `Pushed`, `Asked`, `Grown`, `Numerators`, `Halves`, `Stream` and `Plan` are what inner functions promise one another; `Grown` by `Kept` of polynomial's `Laws.Held`.
 pub mod Constraints
 pub mod Intervals
 pub mod Pose
@@ -23,6 +23,7 @@ pub mod CriticalSlices
 pub mod Slices
 pub mod J1j2free
 pub mod Angles
+pub mod Reads
 pub mod Laws
 pub mod Promises
 mod Examples

@@ -1,13 +1,10 @@
--- What inner functions promise one another: `Polar` (crossings in steps), `Pushed`, `Asked` and `Grown` (lists, questions and cuts that grow), `Numerators`, `Cutting` and `Halving` (cuts in work),
--- `Stream` (slices one at a time), `Plan`, `Planned` and `Drawn` (angles read off the cuts in work).
+-- What inner functions promise one another: `Polar` (crossings in steps), `Pushed`, `Asked` and `Grown` (lists, questions and cuts that grow), `Numerators`, `Halves` (cuts of both halves in work),
+-- `Stream` (slices one at a time), `Plan` (what `plan_of` answers and leaves in work, and the angles read off the cuts there).
 pub mod Polar
 pub mod Pushed
 pub mod Asked
 pub mod Grown
 pub mod Stream
 pub mod Plan
-pub mod Planned
-pub mod Drawn
 pub mod Numerators
-pub mod Cutting
-pub mod Halving
+pub mod Halves

@@ -20,7 +20,6 @@ use Rattle.sampling.specs.declared.job.Job.{Job}
 use Rattle.sampling.specs.declared.job.Joint.{Joint}
 use Rattle.sampling.specs.declared.marks.Sixth.{Sixth}
 use Rattle.sampling.specs.declared.marks.Sixth.the-variants.{Fixed, Turns}
-use Rattle.sampling.specs.declared.pose.Matrix.{Matrix}
 use Rattle.sampling.specs.declared.sample_angles.Free.{Free}
 
 -- the centre and the tolerance of the free joint's limits as a model angle; without limits, 0 and P
@@ -35,12 +34,12 @@ unfoldable pub sixth : Bool → Bool → Joint → Sixth
 sixth fixed limited j = cond fixed Fixed (Turns (marks limited j))
 
 -- what counts of a job whose joint j is free, and which has these columns of the arm's rotation
-unfoldable pub free : Axes → Matrix → Job → Joint → Free
-free axes m job j =
+unfoldable pub free : Axes → Job → Joint → Free
+free axes job j =
     record {
       near = model-angle (j .sign) (j .offset) (j .reference);
       limits = free-limits (job .limited) j;
-      wrist = wrist axes m;
+      wrist = wrist axes (job .matrix);
       fourth = marks (job .limited) (job .j4);
       fifth = marks (job .limited) (job .j5);
       sixth = sixth (job .fixed) (job .limited) (job .j6);

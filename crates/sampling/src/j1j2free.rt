@@ -1,15 +1,14 @@
 // Two free joints: `search` of src/singularity/j1j2free.rs, up to the cuts of both halves; `stream`
 // yields the slices.
-ghost use mathlib.Core.Bool.{cond};
 ghost use mathlib.Core.Path.{_≡_};
-ghost use mathlib.Core.List.{_++_};
-ghost use Prim.Native.Nat.{_≤_};
-ghost use lib.ListN.{length, take};
+ghost use mathlib.Core.List.{[], _++_};
+ghost use Prim.Native.Nat.{_+_, _≤_};
+ghost use lib.ListN.{length, take, drop};
 ghost use Rattle.polynomial.specs.Promises.Held.{Kept};
 ghost use Rattle.sampling.specs.CriticalSlices.{chart, critical-holds};
-ghost use Rattle.sampling.specs.Promises.Halving.{half-values, halving, cut-answer, both-halves, filled, listed, start, both};
+ghost use Rattle.sampling.specs.Promises.Halves.{half-values, start, both};
+ghost use Rattle.sampling.specs.Promises.Plan.{halves-of, folded-plan, folded-cuts, granted, where-laid};
 ghost use Rattle.sampling.specs.J1j2free as Of;
-ghost use Rattle.sampling.specs.declared.j1j2free.Halving.the-variants as answer;
 use crate::bend_slices::bend_slices;
 use crate::boundaries::Curves;
 use crate::boundaries::boundaries;
@@ -21,6 +20,9 @@ use crate::intervals::Range;
 use crate::job::Job;
 use crate::job::Joint;
 use crate::job::limits;
+use crate::lists::Lists;
+use crate::plan::Halves;
+use crate::plan::Plan;
 use crate::pose::Matrix;
 use crate::samples::all_turns;
 use crate::work::push;
@@ -40,15 +42,6 @@ pub struct Folded {
     pub range6: Range,
 }
 
-// The cuts in work: an inner call of the root finder was refused, there are too few places, joint 1
-// has no interval, or how many cuts each half has.
-pub enum Halving {
-    Refused,
-    Short,
-    Nothing,
-    Halves(usize, usize),
-}
-
 // Joint 1's reference as a model angle; neither it nor the offset is wrapped first.
 fn model_reference(j: Joint) -> f64
     ensures { λ r. ⌜ r ≡ Of.model-reference j ⌝ }
@@ -66,9 +59,10 @@ fn sixth_limits(fixed: bool, limited: bool, j: Joint) -> Range
     wrist_limits(limited, j)
 }
 
-pub(crate) fn folded_of(m: Matrix, job: Job) -> Folded
-    ensures { λ r. ⌜ r ≡ Of.folded m job ⌝ }
+pub(crate) fn folded_of(job: Job) -> Folded
+    ensures { λ r. ⌜ r ≡ Of.folded job ⌝ }
 {
+    let matrix = job.matrix;
     let reference = model_reference(job.j1);
     let range1 = limits(job.limited, job.j1);
     let range2 = limits(job.limited, job.j2);
@@ -76,7 +70,7 @@ pub(crate) fn folded_of(m: Matrix, job: Job) -> Folded
     let range5 = wrist_limits(job.limited, job.j5);
     let range6 = sixth_limits(job.fixed, job.limited, job.j6);
     Folded {
-        matrix: m,
+        matrix,
         q3: job.arm.q3,
         reference,
         range1,
@@ -125,23 +119,27 @@ fn start_of(cuts: Put, end: usize) -> usize
 }
 
 // How both halves' lists came out.
-fn halving_of(first: Put, second: Put) -> Halving
-    ensures { λ r. ⌜ r ≡ both first second ⌝ }
+fn halves_of(reference: f64, first: Put, second: Put) -> Plan
+    ensures { λ r. ⌜ r ≡ both reference first second ⌝ }
 {
     match first {
         Put::Count(a) => match second {
-            Put::Count(b) => Halving::Halves(a, b),
-            Put::Full => Halving::Short,
+            Put::Count(b) => Plan::Halves(Halves {
+                reference,
+                first: a,
+                second: b,
+            }),
+            Put::Full => Plan::Short,
         },
-        Put::Full => Halving::Short,
+        Put::Full => Plan::Short,
     }
 }
 
 // The cuts of both halves, one list after the other in the front of work. Every inner call of the
 // root finder is made, whether or not there are places.
-fn cut_halves(work: &mut [f64], t: Folded, lower: f64, upper: f64) -> Halving
-    ensures { λ r. ⌜ r ≡ cond (Of.halves-hold t lower upper) (halving (Of.first-half t lower upper) (Of.second-half t lower upper) (length (now (work .entry)))) answer.Refused ⌝ }
-    ensures { λ r. ⌜ take (filled r) (now (work .exit)) ≡ listed r (Of.first-half t lower upper ++ Of.second-half t lower upper) ⌝ }
+fn cut_halves(work: &mut [f64], t: Folded, lower: f64, upper: f64) -> Plan
+    ensures { λ r. ⌜ r ≡ granted (Of.halves-hold t lower upper) (length (Of.first-half t lower upper) + length (Of.second-half t lower upper)) (halves-of (t .reference) (Of.first-half t lower upper) (Of.second-half t lower upper)) (length (now (work .entry))) ⌝ }
+    ensures { λ r. ⌜ where-laid r (now (work .exit)) [] ≡ where-laid r ((Of.first-half t lower upper ++ Of.second-half t lower upper) ++ drop (length (Of.first-half t lower upper) + length (Of.second-half t lower upper)) (now (work .entry))) [] ⌝ }
 {
     let range2 = t.range2;
     let range4 = t.range4;
@@ -166,19 +164,23 @@ fn cut_halves(work: &mut [f64], t: Folded, lower: f64, upper: f64) -> Halving
     let second = half_cuts(&mut work[start..], curves, &bends, found.count, m, upper);
     if found.holds & (first.holds & second.holds) {
         let cuts2 = second.cuts;
-        return halving_of(cuts1, cuts2);
+        return halves_of(t.reference, cuts1, cuts2);
     }
-    Halving::Refused
+    Plan::Refused
 }
 
-// The cuts of both halves of joint 1's interval, where it has one.
-pub(crate) fn cut(work: &mut [f64], t: Folded) -> Halving
-    ensures { λ r. ⌜ r ≡ cut-answer t (t .range1) (length (now (work .entry))) ⌝ }
-    ensures { λ r. ⌜ take (filled r) (now (work .exit)) ≡ listed r (both-halves t (t .range1)) ⌝ }
+// The cuts of both halves of joint 1's interval; where it has none there is no cut and no angle.
+pub(crate) fn cut(work: &mut [f64], t: Folded) -> Plan
+    ensures { λ r. ⌜ r ≡ granted (Of.hold t) (Of.cut-count t) (folded-plan t) (length (now (work .entry))) ⌝ }
+    ensures { λ r. ⌜ where-laid r (now (work .exit)) [] ≡ where-laid r (folded-cuts t ++ drop (Of.cut-count t) (now (work .entry))) [] ⌝ }
 {
     let range1 = t.range1;
     match range1 {
-        Range::Nothing => Halving::Nothing,
+        Range::Nothing => Plan::Lists(Lists {
+            first: 0,
+            second: 0,
+            third: 0,
+        }),
         Range::Between(lower, upper) => cut_halves(work, t, lower, upper),
     }
 }

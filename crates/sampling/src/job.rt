@@ -5,7 +5,7 @@ ghost use Rattle.sampling.specs.Limits as Limits;
 use crate::constraints::Center;
 use crate::constraints::compute_center;
 use crate::intervals::Range;
-use crate::pose::Quaternion;
+use crate::pose::Matrix;
 use float::number::is_finite;
 use float::number::minimum;
 use polynomial::angle::wrapped_angle;
@@ -26,17 +26,23 @@ pub struct Arm {
     pub q3: f64,
 }
 
-// The job: which joints are free (kind 1, 2 or 3), whether limits are present and the sixth joint is
-// fixed, the rotation, the arm and the six joints.
+// Which joints are free: 1 in kind 1, 2 in kind 2, both in kind 3.
+pub enum Kind {
+    J1free,
+    J2free,
+    J1j2free,
+}
+
+// The job: its kind, whether limits are present and the sixth joint is fixed, the matrix of the
+// target's rotation, the arm and the joints, but for joint 3, which no kind reads.
 pub struct Job {
-    pub kind: u8,
+    pub kind: Kind,
     pub limited: bool,
     pub fixed: bool,
-    pub rotation: Quaternion,
+    pub matrix: Matrix,
     pub arm: Arm,
     pub j1: Joint,
     pub j2: Joint,
-    pub j3: Joint,
     pub j4: Joint,
     pub j5: Joint,
     pub j6: Joint,

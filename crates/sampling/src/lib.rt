@@ -17,6 +17,7 @@ pub mod marks;
 pub mod plan;
 pub mod pose;
 pub mod rays;
+pub mod reads;
 pub mod sample_angles;
 pub mod samples;
 pub mod stream;

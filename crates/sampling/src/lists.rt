@@ -1,9 +1,10 @@
 // The samples of three intervals, whose cuts stand one after the other in the work slice.
 ghost use mathlib.Core.Path.{_≡_};
-ghost use Prim.Native.Nat.{_+_, _-_, _^_, _≤_};
+ghost use Prim.Native.Nat.{_+_, _-_, _≤_};
 ghost use lib.ListN.{length, take, drop, getD};
 ghost use lib.Ieee.{nan};
 ghost use Rattle.sampling.specs.Samples as Of;
+ghost use Rattle.sampling.specs.Promises.Plan.{countable};
 use crate::samples::sample_at;
 
 // How many cuts each interval has.
@@ -15,7 +16,7 @@ pub struct Lists {
 
 // How many samples n cuts give.
 pub fn sample_count(n: usize) -> usize
-    requires { ⌜ n ≤ 2 ^ 60 ⌝ }
+    requires { ⌜ n ≤ countable ⌝ }
     ensures { λ r. ⌜ r ≡ Of.sample-count n ⌝ }
 {
     if n == 0 {
@@ -26,7 +27,7 @@ pub fn sample_count(n: usize) -> usize
 
 // How many samples there are in all.
 pub(crate) fn angle_count(n: Lists) -> usize
-    requires { ⌜ n .first + n .second + n .third ≤ 2 ^ 60 ⌝ }
+    requires { ⌜ n .first + n .second + n .third ≤ countable ⌝ }
     ensures { λ r. ⌜ r ≡ Of.sample-count (n .first) + Of.sample-count (n .second) + Of.sample-count (n .third) ⌝ }
 {
     sample_count(n.first) + sample_count(n.second) + sample_count(n.third)

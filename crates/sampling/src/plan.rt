@@ -1,34 +1,28 @@
-// A job's angles one at a time, read off the cuts in the lent work slice.
+// A job's cuts in the lent work slice, and its angles one at a time, read off them.
 ghost use mathlib.Core.Path.{_≡_};
+ghost use mathlib.Core.List.{[], _++_};
 ghost use Prim.Native.Nat.{_+_, _≤_};
 ghost use lib.ListN.{length, drop, take};
-ghost use Rattle.sampling.specs.Promises.Stream.{distinct, start};
-ghost use lib.Dec.{eqb};
-ghost use mathlib.Core.Bool.{false};
-ghost use Rattle.sampling.specs.Promises.Plan.{all-samples, to-come, Streamable, Ready, Gives, of-cutting, of-halving};
-ghost use Rattle.sampling.specs.Angles.{first-free, second-free};
-ghost use Rattle.sampling.specs.SampleAngles as One;
-ghost use Rattle.sampling.specs.J1j2free as Two;
-ghost use Rattle.sampling.specs.Promises.Planned.{Moderate, Planned};
-ghost use Rattle.sampling.specs.Promises.Drawn.{Drawn, Streamed};
+ghost use Rattle.sampling.specs.Angles.{first-free, second-free, cut-count};
+ghost use Rattle.sampling.specs.Promises.Plan.{to-come, Streamable, Ready, all-cuts, where-laid, zeros};
+ghost use Rattle.sampling.specs.Promises.Plan as Of;
+ghost use Rattle.sampling.specs.Promises.Stream.{distinct, next, start};
 use crate::j1free;
 use crate::j1j2free;
-use crate::j1j2free::Folded;
-use crate::j1j2free::Halving;
 use crate::j1j2free::folded_of;
 use crate::j2free;
 use crate::job::Job;
+use crate::job::Kind;
 use crate::lists::Lists;
 use crate::lists::angle_at;
 use crate::lists::angle_count;
-use crate::pose::Matrix;
 use crate::sample_angles;
-use crate::sample_angles::Cutting;
 use crate::sample_angles::Free;
 use crate::sample_angles::free_of;
 use crate::stream;
 use crate::stream::Cursor;
 use crate::stream::Step;
+use crate::work::clear;
 
 // The cuts of both halves stand one after the other in work: how many, and joint 1's reference.
 pub struct Halves {
@@ -38,18 +32,17 @@ pub struct Halves {
 }
 
 // What came of a job's cuts: an inner call of the root finder was refused, there are too few places,
-// there is no angle, or the cuts of one free joint or of two.
+// or the cuts of one free joint or of two are in work.
 pub enum Plan {
     Refused,
     Short,
-    Nothing,
-    One(Lists),
-    Two(Halves),
+    Lists(Lists),
+    Halves(Halves),
 }
 
 fn next_sample(work: &[f64], n: Lists, c: Cursor) -> Step
     requires { ⌜ n .first + n .second + n .third ≤ length (now work) ⌝ }
-    ensures { λ s. ⌜ Gives (drop (c .i) (all-samples n (now (work .entry)))) (λ d. drop (d .i) (all-samples n (now (work .entry)))) s ⌝ }
+    ensures { λ s. ⌜ s ≡ Of.sample-step n (now (work .entry)) c ⌝ }
 {
     let i = c.i;
     if i < angle_count(n) {
@@ -62,8 +55,8 @@ fn next_sample(work: &[f64], n: Lists, c: Cursor) -> Step
 }
 
 fn next_slice(work: &[f64], h: Halves, c: Cursor) -> Step
-    requires { ⌜ Streamable h (now work) ⌝ }
-    ensures { λ s. ⌜ Gives (distinct (take (h .first) (now (work .entry))) (take (h .second) (drop (h .first) (now (work .entry)))) (h .reference) c) (distinct (take (h .first) (now (work .entry))) (take (h .second) (drop (h .first) (now (work .entry)))) (h .reference)) s ⌝ }
+    requires { ⌜ h .first + h .second ≤ length (now work) ⌝ }
+    ensures { λ s. ⌜ s ≡ next (take (h .first) (now (work .entry))) (take (h .second) (drop (h .first) (now (work .entry)))) (h .reference) c ⌝ }
 {
     let first = h.first;
     let end = first + h.second;
@@ -89,14 +82,13 @@ pub fn start() -> Cursor
 // The next angle.
 pub fn next(work: &[f64], plan: Plan, c: Cursor) -> Step
     requires { ⌜ Ready plan (now work) ⌝ }
-    ensures { λ s. ⌜ Gives (to-come plan (now (work .entry)) c) (to-come plan (now (work .entry))) s ⌝ }
+    ensures { λ s. ⌜ s ≡ Of.step plan (now (work .entry)) c ⌝ }
 {
     match plan {
         Plan::Refused => Step::Done,
         Plan::Short => Step::Done,
-        Plan::Nothing => Step::Done,
-        Plan::One(n) => next_sample(work, n, c),
-        Plan::Two(h) => next_slice(work, h, c),
+        Plan::Lists(n) => next_sample(work, n, c),
+        Plan::Halves(h) => next_slice(work, h, c),
     }
 }
 
@@ -108,77 +100,56 @@ pub fn count(work: &[f64], plan: Plan) -> usize
     match plan {
         Plan::Refused => 0,
         Plan::Short => 0,
-        Plan::Nothing => 0,
-        Plan::One(n) => angle_count(n),
-        Plan::Two(h) => count_slices(work, h),
-    }
-}
-
-fn one_of(c: Cutting) -> Plan
-    ensures { λ r. ⌜ r ≡ of-cutting c ⌝ }
-{
-    match c {
-        Cutting::Refused => Plan::Refused,
-        Cutting::Short => Plan::Short,
-        Cutting::Cuts(n) => Plan::One(n),
-    }
-}
-
-fn two_of(h: Halving, reference: f64) -> Plan
-    ensures { λ r. ⌜ r ≡ of-halving h reference ⌝ }
-{
-    match h {
-        Halving::Refused => Plan::Refused,
-        Halving::Short => Plan::Short,
-        Halving::Nothing => Plan::Nothing,
-        Halving::Halves(first, second) => Plan::Two(Halves {
-            reference,
-            first,
-            second,
-        }),
+        Plan::Lists(n) => angle_count(n),
+        Plan::Halves(h) => count_slices(work, h),
     }
 }
 
 // What counts of a job whose joint 1 is free.
-fn first_free(m: Matrix, job: Job) -> Free
-    ensures { λ r. ⌜ r ≡ first-free job m ⌝ }
+fn first_free(job: Job) -> Free
+    ensures { λ r. ⌜ r ≡ first-free job ⌝ }
 {
-    free_of(j1free::arm_axes(job.arm), m, job, job.j1)
+    free_of(j1free::arm_axes(job.arm), job, job.j1)
 }
 
 // What counts of a job whose joint 2 is free.
-fn second_free(m: Matrix, job: Job) -> Free
-    ensures { λ r. ⌜ r ≡ second-free job m ⌝ }
+fn second_free(job: Job) -> Free
+    ensures { λ r. ⌜ r ≡ second-free job ⌝ }
 {
-    free_of(j2free::arm_axes(job.arm), m, job, job.j2)
-}
-
-// Puts one free joint's cuts into work.
-fn one_plan(work: &mut [f64], f: Free) -> Plan
-    ensures { λ r. ⌜ Drawn (One.hold f) (One.cut-count f) (One.sample-angles f) (length (now (work .entry))) r (now (work .exit)) ⌝ }
-{
-    let cutting = sample_angles::cut(work, f);
-    one_of(cutting)
-}
-
-// Puts the cuts of both halves into work.
-fn two_plan(work: &mut [f64], t: Folded) -> Plan
-    requires { ⌜ Streamed t ⌝ }
-    ensures { λ r. ⌜ Drawn (Two.hold t (t .range1)) (Two.cut-count t (t .range1)) (Two.all-slices t (t .range1)) (length (now (work .entry))) r (now (work .exit)) ⌝ }
-{
-    let halving = j1j2free::cut(work, t);
-    two_of(halving, t.reference)
+    free_of(j2free::arm_axes(job.arm), job, job.j2)
 }
 
 // Puts a job's cuts into work, whatever it held.
-pub fn plan_of(work: &mut [f64], job: Job, m: Matrix) -> Plan
-    requires { ⌜ (eqb (job .kind) 1 ≡ false → eqb (job .kind) 2 ≡ false → Moderate (job .j1)) ⌝ }
-    ensures { λ r. ⌜ Planned job m (length (now (work .entry))) r (now (work .exit)) ⌝ }
+fn cut(work: &mut [f64], job: Job) -> Plan
+    ensures { λ r. ⌜ r ≡ Of.plan job (length (now (work .entry))) ⌝ }
+    ensures { λ r. ⌜ where-laid r (now (work .exit)) [] ≡ where-laid r (all-cuts job ++ drop (cut-count job) (now (work .entry))) [] ⌝ }
 {
     let kind = job.kind;
     match kind {
-        1 => one_plan(work, first_free(m, job)),
-        2 => one_plan(work, second_free(m, job)),
-        _ => two_plan(work, folded_of(m, job)),
+        Kind::J1free => sample_angles::cut(work, first_free(job)),
+        Kind::J2free => sample_angles::cut(work, second_free(job)),
+        Kind::J1j2free => j1j2free::cut(work, folded_of(job)),
     }
+}
+
+// Nothing stays in work that is not read.
+fn settle(work: &mut [f64], plan: Plan)
+    ensures { λ _. ⌜ now (work .exit) ≡ where-laid plan (now (work .entry)) (zeros (length (now (work .entry)))) ⌝ }
+{
+    match plan {
+        Plan::Refused => clear(work),
+        Plan::Short => clear(work),
+        Plan::Lists(_) => {}
+        Plan::Halves(_) => {}
+    }
+}
+
+// The plan of a job, whatever work held: its cuts in front, or +0.0 in every place.
+pub fn plan_of(work: &mut [f64], job: Job) -> Plan
+    ensures { λ r. ⌜ r ≡ Of.plan job (length (now (work .entry))) ⌝ }
+    ensures { λ r. ⌜ now (work .exit) ≡ Of.work-after job (now (work .entry)) ⌝ }
+{
+    let plan = cut(work, job);
+    settle(work, plan);
+    plan
 }

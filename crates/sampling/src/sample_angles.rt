@@ -1,14 +1,12 @@
 // One free joint: `sample_angles` of src/singularity/continuum.rs, up to the cuts; `lists` reads the
 // samples off them.
-ghost use mathlib.Core.Bool.{cond};
 ghost use mathlib.Core.Path.{_≡_};
-ghost use mathlib.Core.List.{_++_};
+ghost use mathlib.Core.List.{[], _++_};
 ghost use Prim.Native.Nat.{_≤_};
-ghost use lib.ListN.{length, take};
-ghost use Rattle.sampling.specs.Promises.Cutting.{cutting, filled, listed};
+ghost use lib.ListN.{length, take, drop};
+ghost use Rattle.sampling.specs.Promises.Plan.{ListsLaid, free-plan, free-cuts, granted, where-laid};
 ghost use Rattle.sampling.specs.Samples.{interval-cuts};
 ghost use Rattle.sampling.specs.SampleAngles as Of;
-ghost use Rattle.sampling.specs.declared.sample_angles.Cutting.the-variants as answer;
 use crate::bends::all_roots;
 use crate::constraints::Center;
 use crate::constraints::compute_center;
@@ -22,7 +20,7 @@ use crate::marks::Marks;
 use crate::marks::Sixth;
 use crate::marks::marks_of;
 use crate::marks::model_angle;
-use crate::pose::Matrix;
+use crate::plan::Plan;
 use crate::samples::interval_cuts;
 use crate::wrist::Wrist;
 use crate::wrist::wrist_of;
@@ -37,14 +35,6 @@ pub struct Free {
     pub fourth: Marks,
     pub fifth: Marks,
     pub sixth: Sixth,
-}
-
-// The cuts in work: an inner call of the root finder was refused, there are too few places, or how
-// many cuts each interval has.
-pub enum Cutting {
-    Refused,
-    Short,
-    Cuts(Lists),
 }
 
 // The free joint's limits as a model angle.
@@ -76,12 +66,12 @@ fn sixth_of(fixed: bool, limited: bool, j: Joint) -> Sixth
 }
 
 // What counts of a job whose joint j is free.
-pub(crate) fn free_of(axes: Axes, m: Matrix, job: Job, j: Joint) -> Free
-    ensures { λ r. ⌜ r ≡ Of.free axes m job j ⌝ }
+pub(crate) fn free_of(axes: Axes, job: Job, j: Joint) -> Free
+    ensures { λ r. ⌜ r ≡ Of.free axes job j ⌝ }
 {
     let near = model_angle(j.sign, j.offset, j.reference);
     let limits = free_limits(job.limited, j);
-    let wrist = wrist_of(axes, m);
+    let wrist = wrist_of(axes, job.matrix);
     let fourth = marks_of(job.limited, job.j4);
     let fifth = marks_of(job.limited, job.j5);
     let sixth = sixth_of(job.fixed, job.limited, job.j6);
@@ -96,25 +86,24 @@ pub(crate) fn free_of(axes: Axes, m: Matrix, job: Job, j: Joint) -> Free
 }
 
 // The cuts of three intervals, one list after the other in the front of work.
-fn cut_intervals(work: &mut [f64], near: f64, three: Intervals, roots: &[f64], n: usize) -> Cutting
+fn cut_intervals(work: &mut [f64], near: f64, three: Intervals, roots: &[f64], n: usize) -> Plan
     requires { ⌜ n ≤ length (now roots) ⌝ }
-    ensures { λ r. ⌜ r ≡ cutting (interval-cuts near (take n (now (roots .entry))) (three .first)) (interval-cuts near (take n (now (roots .entry))) (three .second)) (interval-cuts near (take n (now (roots .entry))) (three .third)) (length (now (work .entry))) ⌝ }
-    ensures { λ r. ⌜ take (filled r) (now (work .exit)) ≡ listed r ((interval-cuts near (take n (now (roots .entry))) (three .first) ++ interval-cuts near (take n (now (roots .entry))) (three .second)) ++ interval-cuts near (take n (now (roots .entry))) (three .third)) ⌝ }
+    ensures { λ r. ⌜ ListsLaid (interval-cuts near (take n (now (roots .entry))) (three .first)) (interval-cuts near (take n (now (roots .entry))) (three .second)) (interval-cuts near (take n (now (roots .entry))) (three .third)) (now (work .entry)) r (now (work .exit)) ⌝ }
 {
     let range1 = three.first;
     let Put::Count(first) = interval_cuts(work, near, range1, roots, n) else {
-        return Cutting::Short;
+        return Plan::Short;
     };
     let range2 = three.second;
     let Put::Count(second) = interval_cuts(&mut work[first..], near, range2, roots, n) else {
-        return Cutting::Short;
+        return Plan::Short;
     };
     let range3 = three.third;
     let Put::Count(third) = interval_cuts(&mut work[first + second..], near, range3, roots, n)
     else {
-        return Cutting::Short;
+        return Plan::Short;
     };
-    Cutting::Cuts(Lists {
+    Plan::Lists(Lists {
         first,
         second,
         third,
@@ -123,9 +112,9 @@ fn cut_intervals(work: &mut [f64], near: f64, three: Intervals, roots: &[f64], n
 
 // The cuts of a free joint, in the front of work. Every inner call of the root finder is made before
 // a place of work is asked for.
-pub(crate) fn cut(work: &mut [f64], f: Free) -> Cutting
-    ensures { λ r. ⌜ r ≡ cond (Of.hold f) (cutting (Of.first-cuts f) (Of.second-cuts f) (Of.third-cuts f) (length (now (work .entry)))) answer.Refused ⌝ }
-    ensures { λ r. ⌜ take (filled r) (now (work .exit)) ≡ listed r ((Of.first-cuts f ++ Of.second-cuts f) ++ Of.third-cuts f) ⌝ }
+pub(crate) fn cut(work: &mut [f64], f: Free) -> Plan
+    ensures { λ r. ⌜ r ≡ granted (Of.hold f) (Of.cut-count f) (free-plan f) (length (now (work .entry))) ⌝ }
+    ensures { λ r. ⌜ where-laid r (now (work .exit)) [] ≡ where-laid r (free-cuts f ++ drop (Of.cut-count f) (now (work .entry))) [] ⌝ }
 {
     if is_finite(f.near) {
         let mut roots = [0.0; 300];
@@ -143,9 +132,9 @@ pub(crate) fn cut(work: &mut [f64], f: Free) -> Cutting
             let three = wrist_limit_intervals(f.limits, f.near, 1.0);
             return cut_intervals(work, f.near, three, &roots, found.count);
         }
-        return Cutting::Refused;
+        return Plan::Refused;
     }
-    Cutting::Cuts(Lists {
+    Plan::Lists(Lists {
         first: 0,
         second: 0,
         third: 0,

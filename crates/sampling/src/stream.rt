@@ -6,7 +6,7 @@ ghost use mathlib.Core.Bool.{not};
 ghost use lib.Dec.{T};
 ghost use lib.ListN.{length, getD};
 ghost use lib.Ieee.{nan, isNan};
-ghost use Rattle.sampling.specs.Promises.Stream.{weave, stream, distinct, Steps, Woven};
+ghost use Rattle.sampling.specs.Promises.Stream.{weave, distinct, Woven};
 ghost use Rattle.sampling.specs.Promises.Stream as Of;
 use float::number::middle;
 use float::number::total_le;
@@ -64,10 +64,7 @@ pub(crate) fn start() -> Cursor
 
 // The least of what the lists and the reference have next.
 fn advance(a: &[f64], b: &[f64], r: f64, c: Cursor) -> Step
-    requires { ⌜ Woven (now a) ⌝ }
-    requires { ⌜ Woven (now b) ⌝ }
-    requires { ⌜ T (not (isNan r)) ⌝ }
-    ensures { λ s. ⌜ Steps (stream (now (a .entry)) (now (b .entry)) r c) (stream (now (a .entry)) (now (b .entry)) r) s ⌝ }
+    ensures { λ s. ⌜ s ≡ Of.advance (now (a .entry)) (now (b .entry)) r c ⌝ }
 {
     let i = c.i;
     let j = c.j;
@@ -101,10 +98,7 @@ fn advance(a: &[f64], b: &[f64], r: f64, c: Cursor) -> Step
 
 // The next value that does not equal the last one.
 pub(crate) fn next(a: &[f64], b: &[f64], r: f64, c: Cursor) -> Step
-    requires { ⌜ Woven (now a) ⌝ }
-    requires { ⌜ Woven (now b) ⌝ }
-    requires { ⌜ T (not (isNan r)) ⌝ }
-    ensures { λ s. ⌜ Steps (distinct (now (a .entry)) (now (b .entry)) r c) (distinct (now (a .entry)) (now (b .entry)) r) s ⌝ }
+    ensures { λ s. ⌜ s ≡ Of.next (now (a .entry)) (now (b .entry)) r c ⌝ }
 {
     let last = c.last;
     let mut at = c;

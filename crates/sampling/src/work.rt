@@ -3,9 +3,11 @@ ghost use mathlib.Core.Bool.{cond};
 ghost use mathlib.Core.Path.{_≡_};
 ghost use mathlib.Core.List.{[], _∷_};
 ghost use Prim.Native.Nat.{_<_};
+ghost use lib.ListN.{length};
 ghost use lib.Dec.{leb};
 ghost use Rattle.polynomial.specs.declared.cuts.Put.the-variants as put;
 ghost use Rattle.sampling.specs.Promises.Grown.{Grown, counted, number};
+ghost use Rattle.sampling.specs.Promises.Plan.{zeros};
 use polynomial::cuts::Put;
 use polynomial::cuts::insert;
 
@@ -60,4 +62,15 @@ pub(crate) fn put_of(n: usize, places: usize) -> Put
         return Put::Count(n);
     }
     Put::Full
+}
+
+// Every place becomes +0.0.
+pub fn clear(work: &mut [f64])
+    ensures { λ _. ⌜ now (work .exit) ≡ zeros (length (now (work .entry))) ⌝ }
+{
+    let mut i = 0usize;
+    while i < work.len() {
+        work[i] = 0.0;
+        i += 1;
+    }
 }

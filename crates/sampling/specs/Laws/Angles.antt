@@ -1,59 +1,75 @@
 -- Two theorems about a job's angles: how many there are at most, and that kind 3 tries the reference. Assumes nothing.
-use mathlib.Core.Path.{_≡_, ap}
-use mathlib.Core.Bool.{true, false, not, cond}
-use Prim.Native.Nat.{ℕ, _^_, _≤_, _<_}
+use mathlib.Core.Path.{_≡_, refl, sym, subst}
+use mathlib.Core.Bool.{true, not}
+use mathlib.Core.List.{List, []}
+use Prim.Native.Nat.{ℕ, _+_, _^_, _≤_, _<_}
 use native.Mathlib.Omega.{arith}
-use lib.Dec.{T, eqb}
+use lib.Dec.{T}
 use lib.ListN.{length}
 use lib.Ieee.{Float, binary64, fits, isNan}
-use Rattle.sampling.specs.Angles.{first-free, second-free, angles}
-use Rattle.sampling.specs.J1j2free.{model-reference, folded, first-half, second-half, cut-count, all-slices}
+use Rattle.sampling.specs.Angles.{first-free, second-free, by-kind, angles}
+use Rattle.sampling.specs.J1j2free.{model-reference, folded, first-half, second-half, on-interval, cut-count, all-slices}
 use Rattle.sampling.specs.Limits.{limits}
-use Rattle.sampling.specs.Promises.Planned.{Moderate}
+use Rattle.sampling.specs.Promises.Plan.{Moderate}
 use Rattle.sampling.specs.SampleAngles.{sample-angles}
-use Rattle.sampling.specs.Slices.{among}
-use Rattle.sampling.specs.Laws.Few.{either, sample-angles-few}
-use Rattle.sampling.specs.Laws.FewCuts.{cut-count-few}
+use Rattle.sampling.specs.Slices.{slices, among}
+use Rattle.sampling.specs.Laws.Few.{sample-angles-few}
+use Rattle.sampling.specs.Laws.FewCuts.{most-both-cuts, both-cuts-few}
 use Rattle.sampling.specs.Laws.Reference.{reference-number}
 use Rattle.sampling.specs.Laws.Slices.{slices-few, reference-in}
 use Rattle.sampling.specs.declared.intervals.Range.{Range}
 use Rattle.sampling.specs.declared.intervals.Range.the-variants.{Nothing, Between}
 use Rattle.sampling.specs.declared.j1j2free.Folded.{Folded}
 use Rattle.sampling.specs.declared.job.Job.{Job}
-use Rattle.sampling.specs.declared.pose.Matrix.{Matrix}
+use Rattle.sampling.specs.declared.job.Kind.{Kind}
+use Rattle.sampling.specs.declared.job.Kind.the-variants.{J1free, J2free, J1j2free}
 
 -- twice the cuts of both halves, the reference and the limits
-all-slices-few : (t : Folded) (range : Range) → length (all-slices t range) ≤ 351239
+abbrev pub most-angles : ℕ
+most-angles = 351239
+
+all-slices-few : (t : Folded) → length (all-slices t) ≤ most-angles
 unfolding all-slices cut-count
-all-slices-few t Nothing = omega arith
-all-slices-few t (Between lower upper) =
-    let a = first-half t lower upper in
-    let b = second-half t lower upper in
-    omega (arith, slices-few (t .reference) lower upper a b, cut-count-few t (Between lower upper))
+all-slices-few t = go (t .range1) refl
+  where
+    go : (range : Range) → t .range1 ≡ range
+        → length (on-interval range [] (λ lower upper. slices (t .reference) lower upper (first-half t lower upper) (second-half t lower upper))) ≤ most-angles
+    go Nothing e = omega arith
+    go (Between lower upper) e =
+        let a = first-half t lower upper in
+        let b = second-half t lower upper in
+        let h = subst (λ (g : Range). on-interval g 0 (λ x y. length (first-half t x y) + length (second-half t x y)) ≤ most-both-cuts) e (both-cuts-few t) in
+        omega (arith, slices-few (t .reference) lower upper a b, h)
 
-most : (job : Job) (m : Matrix) → length (angles job m) ≤ 351239
+-- THEOREM: A job has at most 351239 angles, whatever its fields are.
+pub angles-most : (job : Job) → length (angles job) ≤ most-angles
 unfolding angles
-most job m =
-    let x = sample-angles (first-free job m) in
-    let y = sample-angles (second-free job m) in
-    let z = all-slices (folded m job) (folded m job .range1) in
-    let first : length x ≤ 351239 = omega (arith, sample-angles-few (first-free job m)) in
-    let second : length y ≤ 351239 = omega (arith, sample-angles-few (second-free job m)) in
-    either (eqb (job .kind) 1) x (cond (eqb (job .kind) 2) y z) first (either (eqb (job .kind) 2) y z second (all-slices-few (folded m job) (folded m job .range1)))
+angles-most job = go (job .kind)
+  where
+    go : (k : Kind) → length (by-kind k (sample-angles (first-free job)) (sample-angles (second-free job)) (all-slices (folded job))) ≤ most-angles
+    go J1free = omega (arith, sample-angles-few (first-free job))
+    go J2free = omega (arith, sample-angles-few (second-free job))
+    go J1j2free = all-slices-few (folded job)
 
--- THEOREM: A job has fewer than 2 ^ 29 angles, whatever its fields are.
-pub angles-few : (job : Job) (m : Matrix) → length (angles job m) < 2 ^ 29
-angles-few job m = omega (arith, most job m)
+-- eight bytes for each of fewer angles have their number in 32 bits
+abbrev pub angle-limit : ℕ
+angle-limit = 2 ^ 29
 
-slices-have : (t : Folded) (range : Range) (lower upper : Float) → range ≡ Between lower upper → T (not (isNan (t .reference))) → among (t .reference) (all-slices t range) ≡ true
+pub angles-few : (job : Job) → length (angles job) < angle-limit
+angles-few job = omega (arith, angles-most job)
+
+slices-have : (t : Folded) (lower upper : Float) → t .range1 ≡ Between lower upper → T (not (isNan (t .reference))) → among (t .reference) (all-slices t) ≡ true
 unfolding all-slices
-slices-have t range lower upper e n = rw e (reference-in (t .reference) lower upper (first-half t lower upper) (second-half t lower upper) n)
+slices-have t lower upper e n = go (t .range1) e
+  where
+    go : (range : Range) → range ≡ Between lower upper
+        → among (t .reference) (on-interval range [] (λ x y. slices (t .reference) x y (first-half t x y) (second-half t x y))) ≡ true
+    go range e = rw e (reference-in (t .reference) lower upper (first-half t lower upper) (second-half t lower upper) n)
 
 -- THEOREM: Where joint 1 has an interval, the angles of kind 3 have the reference as a model angle among them, inside the interval or not.
-pub reference-stands : (job : Job) (m : Matrix) (lower upper : Float) → job .kind ≡ 3 → T (fits binary64 (job .j1 .reference)) → Moderate (job .j1)
-    → limits (job .limited) (job .j1) ≡ Between lower upper → among (model-reference (job .j1)) (angles job m) ≡ true
+pub reference-stands : (job : Job) (lower upper : Float) → job .kind ≡ J1j2free → T (fits binary64 (job .j1 .reference)) → Moderate (job .j1)
+    → limits (job .limited) (job .j1) ≡ Between lower upper → among (model-reference (job .j1)) (angles job) ≡ true
 unfolding angles folded
-reference-stands job m lower upper k fit j e =
-    let one : eqb (job .kind) 1 ≡ false = ap (λ (n : ℕ). eqb n 1) k in
-    let two : eqb (job .kind) 2 ≡ false = ap (λ (n : ℕ). eqb n 2) k in
-    rw (one, two) (slices-have (folded m job) (folded m job .range1) lower upper e (reference-number (job .j1) fit j))
+reference-stands job lower upper k fit j e =
+    subst (λ (z : Kind). among (model-reference (job .j1)) (by-kind z (sample-angles (first-free job)) (sample-angles (second-free job)) (all-slices (folded job))) ≡ true) (sym k)
+    (slices-have (folded job) lower upper e (reference-number (job .j1) fit j))

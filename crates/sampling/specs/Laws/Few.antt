@@ -197,6 +197,14 @@ interval-cuts-few near l range = omega (arith, cuts-short (interval-values near 
 
 -- ---- one free joint
 
+-- three intervals of 848: 4,096 places of work always do
+abbrev pub most-free-cuts : ℕ
+most-free-cuts = 2544
+
+-- four for each cut
+abbrev pub most-free-angles : ℕ
+most-free-angles = 10176
+
 module _ (f : Free) where
   free-roots-few : length (One.roots f) ≤ 282
   unfolding One.roots
@@ -208,10 +216,9 @@ module _ (f : Free) where
       let most : length (interval-cuts (f .near) (One.roots f) range) ≤ 848 = omega (arith, interval-cuts-few (f .near) (One.roots f) range, free-roots-few) in
       either (finite (f .near)) (interval-cuts (f .near) (One.roots f) range) [] most (omega arith)
 
-  -- A free joint has at most 2,544 cuts: 4,096 places of work always do.
-  pub cut-count-few : One.cut-count f ≤ 2544
+  pub free-cuts-few : One.cut-count f ≤ most-free-cuts
   unfolding One.cut-count One.first-cuts One.second-cuts One.third-cuts
-  cut-count-few = omega (arith, one-few (One.intervals f .first), one-few (One.intervals f .second), one-few (One.intervals f .third))
+  free-cuts-few = omega (arith, one-few (One.intervals f .first), one-few (One.intervals f .second), one-few (One.intervals f .third))
 
   pub sample-angles-length : length (One.sample-angles f)
       ≡ sample-count (length (One.first-cuts f)) + sample-count (length (One.second-cuts f)) + sample-count (length (One.third-cuts f))
@@ -222,11 +229,10 @@ module _ (f : Free) where
       let c = One.third-cuts f in
       omega (arith, length-append (samples a ++ samples b) (samples c), length-append (samples a) (samples b), samples-length a, samples-length b, samples-length c)
 
-  -- four for each cut at most
-  pub sample-angles-few : length (One.sample-angles f) ≤ 10176
+  pub sample-angles-few : length (One.sample-angles f) ≤ most-free-angles
   unfolding One.cut-count
   sample-angles-few =
       let a = sample-count-most (length (One.first-cuts f)) in
       let b = sample-count-most (length (One.second-cuts f)) in
       let c = sample-count-most (length (One.third-cuts f)) in
-      omega (arith, sample-angles-length, cut-count-few, a, b, c)
+      omega (arith, sample-angles-length, free-cuts-few, a, b, c)

@@ -26,7 +26,7 @@ use Rattle.sampling.specs.Samples.{all-turns}
 use Rattle.sampling.specs.Boundaries.{across, second-curves, pole-curves, fourth-curves, fifth-curves, sixth-curves, signed-corners, corner-curves, boundaries}
 use Rattle.sampling.specs.BendSlices.{transverse, transverse-range, transverses, axis-angles, axes-range, fold, folds, folds-range, bend-slice, bend-slices}
 use Rattle.sampling.specs.CriticalSlices.{chart, angles, chart-roots, Polynomials, polynomials, tangency, intersection, meetings, critical}
-use Rattle.sampling.specs.J1j2free.{curves, bends, critical-slices, half-cuts, first-half, second-half, cut-count}
+use Rattle.sampling.specs.J1j2free.{curves, bends, critical-slices, half-cuts, first-half, second-half, on-interval, cut-count}
 use Rattle.sampling.specs.Laws.Few.{both, either, norm-roots-few, all-turns-few}
 use Rattle.sampling.specs.declared.critical_slices.Chart.{Chart}
 use Rattle.sampling.specs.declared.intervals.Range.{Range}
@@ -223,8 +223,14 @@ half-cuts-few t lower upper =
     let h = length-append (lower ∷ [] ++ upper ∷ []) c in
     omega (arith, a, b, d, e, f, g, h)
 
--- Both halves have at most 175618 cuts, far fewer than 2^29.
-pub cut-count-few : (t : Folded) (range : Range) → cut-count t range ≤ 175618
+-- two halves
+abbrev pub most-both-cuts : ℕ
+most-both-cuts = 175618
+
+pub both-cuts-few : (t : Folded) → cut-count t ≤ most-both-cuts
 unfolding cut-count first-half second-half
-cut-count-few t Nothing = omega arith
-cut-count-few t (Between lower upper) = omega (arith, half-cuts-few t lower (middle lower upper), half-cuts-few t (middle lower upper) upper)
+both-cuts-few t = go (t .range1)
+  where
+    go : (range : Range) → on-interval range 0 (λ lower upper. length (first-half t lower upper) + length (second-half t lower upper)) ≤ most-both-cuts
+    go Nothing = omega arith
+    go (Between lower upper) = omega (arith, half-cuts-few t lower (middle lower upper), half-cuts-few t (middle lower upper) upper)

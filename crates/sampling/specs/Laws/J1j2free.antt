@@ -18,7 +18,7 @@ use Rattle.polynomial.specs.declared.curve.Curve.{Curve}
 use Rattle.sampling.specs.Samples.{inside, turns, all-turns}
 use Rattle.sampling.specs.CriticalSlices.{chart, angles, chart-roots, Polynomials, polynomials, tangency, intersection, meetings, critical}
 use Rattle.sampling.specs.J1j2free.{curves, bends, critical-slices, half-cuts}
-use Rattle.sampling.specs.Promises.Halving.{half-values}
+use Rattle.sampling.specs.Promises.Halves.{half-values}
 use Rattle.sampling.specs.declared.critical_slices.Chart.{Chart}
 use Rattle.sampling.specs.declared.j1j2free.Folded.{Folded}
 

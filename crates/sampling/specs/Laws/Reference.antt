@@ -13,7 +13,7 @@ use Rattle.float.specs.Laws.Extremes.{largest, held-largest}
 use Rattle.polynomial.specs.Angle.{turn}
 use Rattle.polynomial.specs.Laws.Wrapped.{wrapped-fits, wrapped-within}
 use Rattle.sampling.specs.J1j2free.{model-reference}
-use Rattle.sampling.specs.Promises.Planned.{Moderate}
+use Rattle.sampling.specs.Promises.Plan.{Moderate}
 use Rattle.sampling.specs.Laws.Limits.{unit-sign}
 use Rattle.sampling.specs.declared.job.Joint.{Joint}
 

@@ -30,7 +30,7 @@ use Rattle.polynomial.specs.Promises.Lists.{All}
 use Rattle.polynomial.specs.Laws.Lists.{all-append}
 use Rattle.sampling.specs.Samples.{inside, turns, all-turns}
 use Rattle.sampling.specs.CriticalSlices.{chart, angles, chart-roots, Polynomials, polynomials, tangency, intersection, meetings, critical}
-use Rattle.sampling.specs.Promises.Halving.{half-values}
+use Rattle.sampling.specs.Promises.Halves.{half-values}
 use Rattle.sampling.specs.J1j2free.{curves, bends, half-cuts, first-half, second-half}
 use Rattle.sampling.specs.Promises.Stream.{Woven}
 use Rattle.sampling.specs.Laws.J1j2free.{half-fit, half-cuts-are}

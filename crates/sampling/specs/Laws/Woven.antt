@@ -48,10 +48,10 @@ behind p x (y ∷ l) t fx f hx h a =
     ((t, (m .above, i .0)), (finite-number x (hx .real), (m .number-it, i .1)))
 
 strict-woven : (l : List Float) → Fit l → All Small l → Strict l → Woven l
-strict-woven [] f h a = record { order = unfold weave in tt; numbers = unfold weave in tt }
+strict-woven [] f h a = record { fit = tt; order = unfold weave in tt; numbers = unfold weave in tt }
 strict-woven (x ∷ l) f h a =
     let b = behind x x l (total-le-refl x) (f .0) (f .1) (h .0) (h .1) a in
-    record { order = from-sorted x (weave (x ∷ l)) (b .0); numbers = b .1 }
+    record { fit = f; order = from-sorted x (weave (x ∷ l)) (b .0); numbers = b .1 }
 
 -- THE LAW: the cuts of such values can be streamed
 pub cuts-woven : (l : List Float) → Fit l → All Small l → Woven (cuts l)

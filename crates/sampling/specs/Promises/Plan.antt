@@ -1,24 +1,115 @@
--- How a job's angles are read off the cuts in the lent work slice, one at a time. Nothing that a public contract of an upper crate says but by `Planned`.
+-- What `plan_of` makes of a job and leaves in the lent work slice, and how the angles are read off the cuts there, one at a time.
 use mathlib.Core.Path.{_≡_}
-use mathlib.Core.Bool.{not}
-use mathlib.Core.List.{List, [], _∷_}
-use Prim.Native.Nat.{_+_, _≤_}
-use lib.Dec.{T}
-use lib.ListN.{length, take, drop}
-use lib.Ieee.{Float, isNan}
+use mathlib.Core.Logic.{_⊎_}
+use mathlib.Core.Bool.{Bool, true, not, cond}
+use mathlib.Core.List.{List, [], _∷_, _++_}
+use Prim.Native.Nat.{ℕ, _+_, _^_, _≤_}
+use lib.Dec.{T, leb, ltb}
+use lib.ListN.{length, getD, take, drop, replicate}
+use lib.Ieee.{Float, binary64, nan, neg, isNan, fits}
+use lib.Ieee.Scale.{finite}
+use Rattle.float.specs.Number.{zero-float, one-float}
+use Rattle.float.specs.Promises.Order.{Within}
+use Rattle.polynomial.specs.Angle.{turn}
 use Rattle.sampling.specs.Samples.{three-samples}
-use Rattle.sampling.specs.Promises.Stream.{distinct, Woven}
+use Rattle.sampling.specs.SampleAngles.{first-cuts, second-cuts, third-cuts}
+use Rattle.sampling.specs.J1j2free.{folded, first-half, second-half, on-interval}
+use Rattle.sampling.specs.Angles.{first-free, second-free, by-kind, cut-count, hold}
+use Rattle.sampling.specs.Promises.Stream.{distinct, next, Woven}
+use Rattle.sampling.specs.declared.j1j2free.Folded.{Folded}
+use Rattle.sampling.specs.declared.job.Job.{Job}
+use Rattle.sampling.specs.declared.job.Joint.{Joint}
 use Rattle.sampling.specs.declared.lists.Lists.{Lists}
 use Rattle.sampling.specs.declared.plan.Halves.{Halves}
 use Rattle.sampling.specs.declared.plan.Plan.{Plan}
-use Rattle.sampling.specs.declared.plan.Plan.the-variants.{Refused, Short, Nothing, One, Two}
-use Rattle.sampling.specs.declared.sample_angles.Cutting.{Cutting}
-use Rattle.sampling.specs.declared.sample_angles.Cutting.the-variants as cutting
-use Rattle.sampling.specs.declared.j1j2free.Halving.{Halving}
-use Rattle.sampling.specs.declared.j1j2free.Halving.the-variants as halving
+use Rattle.sampling.specs.declared.plan.Plan.the-variants as of
+use Rattle.sampling.specs.declared.sample_angles.Free.{Free}
 use Rattle.sampling.specs.declared.stream.Cursor.{Cursor}
 use Rattle.sampling.specs.declared.stream.Step.{Step}
 use Rattle.sampling.specs.declared.stream.Step.the-variants.{Yield, Done}
+
+-- a joint whose sign, offset and reference are as 01 allows them where they are read
+pub record Moderate (j : Joint) : Type 0 where
+  pub sign : (j .sign ≡ one-float) ⊎ (j .sign ≡ neg one-float)
+  pub offset : Within turn (j .offset)
+  pub reference : T (finite (j .reference))
+
+-- ---- the cuts: three lists of one free joint, both halves' of two
+
+abbrev pub lists-of : List Float → List Float → List Float → Plan
+lists-of a b c = of.Lists (record { first = length a; second = length b; third = length c })
+
+abbrev pub halves-of : Float → List Float → List Float → Plan
+halves-of r a b = of.Halves (record { reference = r; first = length a; second = length b })
+
+unfoldable pub free-plan : Free → Plan
+free-plan f = lists-of (first-cuts f) (second-cuts f) (third-cuts f)
+
+-- where joint 1 has no interval there is no cut and no angle
+unfoldable pub folded-plan : Folded → Plan
+folded-plan t = on-interval (t .range1) (lists-of [] [] []) (λ lower upper. halves-of (t .reference) (first-half t lower upper) (second-half t lower upper))
+
+unfoldable pub laid : Job → Plan
+laid job = by-kind (job .kind) (free-plan (first-free job)) (free-plan (second-free job)) (folded-plan (folded job))
+
+-- one list after the other
+unfoldable pub free-cuts : Free → List Float
+free-cuts f = (first-cuts f ++ second-cuts f) ++ third-cuts f
+
+unfoldable pub folded-cuts : Folded → List Float
+folded-cuts t = on-interval (t .range1) [] (λ lower upper. first-half t lower upper ++ second-half t lower upper)
+
+unfoldable pub all-cuts : Job → List Float
+all-cuts job = by-kind (job .kind) (free-cuts (first-free job)) (free-cuts (second-free job)) (folded-cuts (folded job))
+
+-- ---- the plan
+
+-- l, by whether no inner call of the root finder is refused, the number of cuts, and that of the places
+abbrev pub granted : Bool → ℕ → Plan → ℕ → Plan
+granted holds count l places = cond holds (cond (leb count places) l of.Short) of.Refused
+
+unfoldable pub plan : Job → ℕ → Plan
+plan job places = granted (hold job) (cut-count job) (laid job) places
+
+-- what a plan has, by what came: refused, short, laid
+abbrev pub by-plan : {A : Type 0} → Plan → A → A → A → A
+by-plan of.Refused refused short found = refused
+by-plan of.Short refused short found = short
+by-plan (of.Lists n) refused short found = found
+by-plan (of.Halves h) refused short found = found
+
+-- how many places the cuts take
+abbrev pub filled : Plan → ℕ
+filled of.Refused = 0
+filled of.Short = 0
+filled (of.Lists n) = n .first + n .second + n .third
+filled (of.Halves h) = h .first + h .second
+
+-- ---- work
+
+-- n times +0.0
+abbrev pub zeros : ℕ → List Float
+zeros n = replicate n zero-float
+
+-- l where there are cuts to read, and other where the plan is refused or short
+abbrev pub where-laid : Plan → List Float → List Float → List Float
+where-laid p l other = by-plan p other other l
+
+-- a, b and c one after the other in w, which becomes after, where r says that there are places
+abbrev pub ListsLaid : List Float → List Float → List Float → List Float → Plan → List Float → Type 0
+ListsLaid a b c w r after =
+    let count = length a + length b + length c in
+    (r ≡ granted true count (lists-of a b c) (length w)) × (where-laid r after [] ≡ where-laid r (((a ++ b) ++ c) ++ drop count w) [])
+
+-- the cuts in front, and the rest as it was
+unfoldable pub work-after : Job → List Float → List Float
+work-after job w = where-laid (plan job (length w)) (all-cuts job ++ drop (cut-count job) w) (zeros (length w))
+
+-- ---- the angles
+
+-- as many cuts, with four samples each, can be counted in a usize
+abbrev pub countable : ℕ
+countable = 2 ^ 60
 
 -- the samples of three lists of cuts that stand one after the other in w
 abbrev pub all-samples : Lists → List Float → List Float
@@ -26,11 +117,10 @@ all-samples n w = three-samples (take (n .first) w) (take (n .second) (drop (n .
 
 -- what is still to come at a cursor
 abbrev pub to-come : Plan → List Float → Cursor → List Float
-to-come Refused w c = []
-to-come Short w c = []
-to-come Nothing w c = []
-to-come (One n) w c = drop (c .i) (all-samples n w)
-to-come (Two h) w c = distinct (take (h .first) w) (take (h .second) (drop (h .first) w)) (h .reference) c
+to-come of.Refused w c = []
+to-come of.Short w c = []
+to-come (of.Lists n) w c = drop (c .i) (all-samples n w)
+to-come (of.Halves h) w c = distinct (take (h .first) w) (take (h .second) (drop (h .first) w)) (h .reference) c
 
 -- what is asked of the cuts in w
 pub record Streamable (h : Halves) (w : List Float) : Type 0 where
@@ -38,27 +128,29 @@ pub record Streamable (h : Halves) (w : List Float) : Type 0 where
   pub first : Woven (take (h .first) w)
   pub second : Woven (take (h .second) (drop (h .first) w))
   pub number : T (not (isNan (h .reference)))
+  pub fit : T (fits binary64 (h .reference))
 
 abbrev pub Ready : Plan → List Float → Type 0
-Ready Refused w = Unit {0}
-Ready Short w = Unit {0}
-Ready Nothing w = Unit {0}
-Ready (One n) w = n .first + n .second + n .third ≤ length w
-Ready (Two h) w = Streamable h w
+Ready of.Refused w = Unit {0}
+Ready of.Short w = Unit {0}
+Ready (of.Lists n) w = n .first + n .second + n .third ≤ length w
+Ready (of.Halves h) w = Streamable h w
+
+-- the sample at the cursor, and the cursor behind it
+unfoldable pub sample-step : Lists → List Float → Cursor → Step
+sample-step n w c =
+    cond (ltb (c .i) (length (all-samples n w)))
+    (Yield (getD (all-samples n w) (c .i) nan) (record { i = c .i + 1; j = c .j; used = c .used; last = c .last }))
+    Done
+
+-- the next angle and the cursor behind it, or the end; `Laws.Plan` has that it gives the first of what is to come
+abbrev pub step : Plan → List Float → Cursor → Step
+step of.Refused w c = Done
+step of.Short w c = Done
+step (of.Lists n) w c = sample-step n w c
+step (of.Halves h) w c = next (take (h .first) w) (take (h .second) (drop (h .first) w)) (h .reference) c
 
 -- a step from what was to come, s: its first value, with what is to come at the cursor behind it; or the end
 abbrev pub Gives : List Float → (Cursor → List Float) → Step → Type 0
 Gives s f Done = s ≡ []
 Gives s f (Yield y c) = s ≡ y ∷ f c
-
--- the plan of one free joint's cuts, and of both halves' cuts
-abbrev pub of-cutting : Cutting → Plan
-of-cutting cutting.Refused = Refused
-of-cutting cutting.Short = Short
-of-cutting (cutting.Cuts n) = One n
-
-abbrev pub of-halving : Halving → Float → Plan
-of-halving halving.Refused r = Refused
-of-halving halving.Short r = Short
-of-halving halving.Nothing r = Nothing
-of-halving (halving.Halves a b) r = Two (record { reference = r; first = a; second = b })

@@ -1,7 +1,12 @@
 -- `sampling::j1j2free::cut` meets its contract: at each return, what the calls and the tests on the way to it say. Assumes nothing.
 use mathlib.Core.Path.{refl}
+use mathlib.Core.List.{[]}
+use native.Mathlib.Omega.{arith}
+use lib.ListN.{length}
 use borrow.Author.Needs.{needs}
-use Rattle.sampling.specs.Promises.Halving.{cut-answer, both-halves}
+use Rattle.sampling.specs.J1j2free.{hold, cut-count}
+use Rattle.sampling.specs.Promises.Plan.{folded-plan, folded-cuts}
+use Rattle.sampling.proofs.Laid.{all-three}
 use Rattle.sampling.proofs.j1j2free.cut.Statement.{statement}
 use Rattle.sampling.proofs.j1j2free.cut.Tie as tie
 
@@ -15,14 +20,14 @@ cut-halves-requires : tie.Need-cut-halves-requires
 cut-halves-requires c = search needs
 
 returns : tie.Need-returns
-unfolding cut-answer both-halves
-returns c = simp (c .enum-told .given .1) (refl, refl)
+unfolding hold cut-count folded-plan folded-cuts
+returns c = simp (c .enum-told .given .1) (all-three [] [] [] (length (c .before .before .before .args .work .now)) 0 0 0 refl refl refl (omega arith), refl)
 
 same-length : tie.Need-same-length
 same-length c = search needs
 
 returns-2 : tie.Need-returns-2
-unfolding cut-answer both-halves
+unfolding hold cut-count folded-plan folded-cuts
 returns-2 c = simp (c .before .before .before .before .before .range1 .given .1) (c .before .before .cut-halves .ensures)
 
 pub cut-spec : {M : Type 1} → statement M

@@ -46,8 +46,8 @@ slice-aggregate-half-cuts-2 c = search needs
 half-cuts-requires-2 : tie.Need-half-cuts-requires-2
 half-cuts-requires-2 c κs = search needs
 
-halving-of-requires : tie.Need-halving-of-requires
-halving-of-requires c κs = search needs
+halves-of-requires : tie.Need-halves-of-requires
+halves-of-requires c κs = search needs
 
 same-length : tie.Need-same-length
 same-length c = search needs
@@ -64,7 +64,7 @@ returns c =
     _ (first .before .before .before .before .boundaries .ensures .1) _ (found .bend-slices .ensures .1 .front)
     _ _ _ (found .bend-slices .ensures .0) (first .half-cuts .ensures .0) (second .half-cuts2 .ensures .0)
     _ _ _ (first .half-cuts .result .cuts) (second .half-cuts2 .result .cuts) _ (second .before .before .before .start-of .ensures) (first .half-cuts .ensures .1) (second .half-cuts2 .ensures .1)
-    (c .before .if1 .taken) (c .halving-of .result) (c .halving-of .ensures)
+    (c .before .if1 .taken) (c .halves-of .result) (c .halves-of .ensures)
 
 same-length-2 : tie.Need-same-length-2
 same-length-2 c = search needs
@@ -101,7 +101,7 @@ cut-halves-spec =
     part-half-cuts-end
     slice-aggregate-half-cuts-2
     half-cuts-requires-2
-    halving-of-requires
+    halves-of-requires
     same-length
     returns
     same-length-2

@@ -1,7 +1,7 @@
 -- `sampling::plan::next` meets its contract: by what came of the cuts. Assumes nothing.
 use borrow.Author.Needs.{needs}
-use mathlib.Core.Path.{sym, subst}
-use Rattle.sampling.specs.Promises.Plan.{to-come, Ready, Gives}
+use mathlib.Core.Path.{sym, ap, subst, _∙_}
+use Rattle.sampling.specs.Promises.Plan.{Ready, step}
 use Rattle.sampling.specs.declared.plan.Plan.{Plan}
 use Rattle.sampling.proofs.plan.next.Statement.{statement}
 use Rattle.sampling.proofs.plan.next.Tie as tie
@@ -11,9 +11,6 @@ enum-told c = search needs
 
 enum-told-2 : tie.Need-enum-told-2
 enum-told-2 c = search needs
-
-enum-told-3 : tie.Need-enum-told-3
-enum-told-3 c = search needs
 
 enum-known-plan : tie.Need-enum-known-plan
 enum-known-plan c = search needs
@@ -25,7 +22,9 @@ enum-known-plan-2 : tie.Need-enum-known-plan-2
 enum-known-plan-2 c = search needs
 
 next-slice-requires : tie.Need-next-slice-requires
-next-slice-requires c κs = let s = c .before .before .before .before in subst (λ (p : Plan). Ready p (s .args .work .now)) (c .before .plan2 .given .1) (s .pre)
+next-slice-requires c κs =
+    let s = c .before .before .before .before in
+    subst (λ (p : Plan). Ready p (s .args .work .now)) (c .before .plan2 .given .1) (s .pre) .room
 
 returns : tie.Need-returns
 returns c = search needs
@@ -34,13 +33,16 @@ returns-2 : tie.Need-returns-2
 returns-2 c = search needs
 
 returns-3 : tie.Need-returns-3
-returns-3 c = search needs
+returns-3 c =
+    let a = c .before .before .before .before .before .args in
+    c .next-sample .ensures ∙ ap (λ (p : Plan). step p (a .work .now) (a .c)) (sym (c .before .before .plan .given .1))
 
 returns-4 : tie.Need-returns-4
-returns-4 c = let a = c .before .before .before .before .before .args in subst (λ (p : Plan). Gives (to-come p (a .work .now) (a .c)) (to-come p (a .work .now)) (c .next-sample .result)) (sym (c .before .before .plan .given .1)) (c .next-sample .ensures)
-
-returns-5 : tie.Need-returns-5
-returns-5 c = let a = c .before .before .before .before .before .args in subst (λ (p : Plan). Gives (to-come p (a .work .now) (a .c)) (to-come p (a .work .now)) (c .next-slice .result)) (sym (c .before .before .plan2 .given .1)) (c .next-slice .ensures)
+returns-4 c =
+    let a = c .before .before .before .before .before .args in
+    c .next-slice .ensures ∙ ap (λ (p : Plan). step p (a .work .now) (a .c)) (sym (c .before .before .plan2 .given .1))
 
 pub next-spec : {M : Type 1} → statement M
-next-spec = tie.close (tie.spec enum-told enum-told-2 enum-told-3 enum-known-plan next-sample-requires enum-known-plan-2 next-slice-requires returns returns-2 returns-3 returns-4 returns-5)
+next-spec =
+    tie.close
+    (tie.spec enum-told enum-told-2 enum-known-plan next-sample-requires enum-known-plan-2 next-slice-requires returns returns-2 returns-3 returns-4)

@@ -1,65 +1,25 @@
--- `sampling::plan::plan_of` meets its contract: by the job's kind. Assumes nothing.
+-- `sampling::plan::plan_of` meets its contract: what `cut` leaves where the plan is laid, and `settle` elsewhere. Assumes nothing.
 use borrow.Author.Needs.{needs}
-use borrow.Author.Tests.{ne-eqb}
-use mathlib.Core.Path.{sym, subst}
-use lib.Dec.{T}
-use lib.Ieee.{binary64, fits}
-use Rattle.sampling.proofs.Planned.{folded-streams, first-planned, second-planned, both-planned}
+use Rattle.sampling.proofs.plan.ByKind.{settled}
 use Rattle.sampling.proofs.plan.plan_of.Statement.{statement}
 use Rattle.sampling.proofs.plan.plan_of.Tie as tie
 
-first-free-requires : tie.Need-first-free-requires
-first-free-requires c = search needs
+cut-requires : tie.Need-cut-requires
+cut-requires c κs = search needs
 
-one-plan-requires : tie.Need-one-plan-requires
-one-plan-requires c = search needs
-
-second-free-requires : tie.Need-second-free-requires
-second-free-requires c = search needs
-
-one-plan-requires-2 : tie.Need-one-plan-requires-2
-one-plan-requires-2 c = search needs
-
-folded-of-requires : tie.Need-folded-of-requires
-folded-of-requires c = search needs
-
-two-plan-requires : tie.Need-two-plan-requires
-two-plan-requires c κs =
-    let start = c .before .before .before .before in
-    let j1 = start .good .1 .0 .1 .1 .1 .1 .1 .1 .1 .0 in
-    let fit : T (fits binary64 (start .args .job .j1 .reference)) = subst T (sym (j1 .1 .1 .1 .1 .0 .1)) tt in
-    let rest = c .before .before .match .rest in
-    rw (c .folded-of .ensures) (folded-streams (start .args .m) (start .args .job) fit (start .pre (ne-eqb _ _ (rest .0 .1)) (ne-eqb _ _ (rest .1))))
+settle-requires : tie.Need-settle-requires
+settle-requires c κs = search needs
 
 same-length : tie.Need-same-length
 same-length c = search needs
 
 returns : tie.Need-returns
 returns c =
-    let start = c .before .before .before .before .before .before .before in
-    first-planned (start .args .job) (start .args .m) _ _ _ (c .before .before .before .before .before .match .keys1)
-    (rw (← c .before .before .before .first-free .ensures) (c .before .before .one-plan .ensures))
-
-same-length-2 : tie.Need-same-length-2
-same-length-2 c = search needs
-
-returns-2 : tie.Need-returns-2
-returns-2 c =
-    let start = c .before .before .before .before .before .before .before in
-    second-planned (start .args .job) (start .args .m) _ _ _ (c .before .before .before .before .before .match .keys2)
-    (rw (← c .before .before .before .second-free .ensures) (c .before .before .one-plan2 .ensures))
-
-same-length-3 : tie.Need-same-length-3
-same-length-3 c = search needs
-
-returns-3 : tie.Need-returns-3
-returns-3 c =
-    let start = c .before .before .before .before .before .before .before in
-    let rest = c .before .before .before .before .before .match .rest in
-    both-planned (start .args .job) (start .args .m) _ _ _ (rest .0 .1) (rest .1)
-    (rw (← c .before .before .before .folded-of .ensures) (c .before .before .two-plan .ensures))
+    let cut = c .before .before .before .before .before .before .cut in
+    let start = c .before .before .before .before .before .before .before .before .before in (
+      cut .ensures .0,
+      settled (start .args .job) (cut .result) (start .args .work .now) _ _ (cut .ensures .0) (cut .kept .0) (cut .ensures .1) (c .before .before .settle .ensures),
+    )
 
 pub plan-of-spec : {M : Type 1} → statement M
-plan-of-spec =
-    tie.close
-    (tie.spec first-free-requires one-plan-requires second-free-requires one-plan-requires-2 folded-of-requires two-plan-requires same-length returns same-length-2 returns-2 same-length-3 returns-3)
+plan-of-spec = tie.close (tie.spec cut-requires settle-requires same-length returns)

@@ -6,7 +6,7 @@ use lib.ListN.{take}
 use lib.Ieee.{Float}
 use borrow.Author.Needs.{needs}
 use Rattle.sampling.specs.Samples.{interval-values, interval-cuts}
-use Rattle.sampling.proofs.Cutting.{Laid, no-place-behind, laid-first, laid-next, laid-front, replaced, short-first, short-second, short-third, all-three}
+use Rattle.sampling.proofs.Laid.{Laid, no-place-behind, laid-first, laid-next, replaced, short-first, short-second, short-third, all-three, laid-three}
 use Rattle.sampling.specs.declared.intervals.Range.{Range}
 use Rattle.sampling.proofs.sample_angles.cut_intervals.Statement.{statement}
 use Rattle.sampling.proofs.sample_angles.cut_intervals.Tie as tie
@@ -21,6 +21,15 @@ values s range = interval-values (s .args .near) (take (s .args .n) (s .args .ro
 
 abbrev of : tie.Start → Range → List Float
 of s range = interval-cuts (s .args .near) (take (s .args .n) (s .args .roots .now)) range
+
+abbrev first-of : tie.Start → List Float
+first-of s = of s (s .args .three .first)
+
+abbrev second-of : tie.Start → List Float
+second-of s = of s (s .args .three .second)
+
+abbrev third-of : tie.Start → List Float
+third-of s = of s (s .args .three .third)
 
 -- the first list stands in the front
 module _ (c : tie.After-known-told) where
@@ -66,7 +75,12 @@ same-length c = search needs
 
 returns : tie.Need-returns
 unfolding interval-cuts
-returns c = (short-first _ _ _ _ (kept-full _ _ _ _ (c .before .before .before .before .interval-cuts .ensures) (c .enum-told .given .1)), refl)
+returns c =
+    let s = c .before .before .before .before .before .before .before .before in (
+      short-first (first-of s) (second-of s) (third-of s) _
+          (kept-full _ _ _ _ (c .before .before .before .before .interval-cuts .ensures) (c .enum-told .given .1)),
+      refl,
+    )
 
 mul-interval-cuts : tie.Need-mul-interval-cuts
 mul-interval-cuts c = let h = one c .within in search (needs, h)
@@ -94,7 +108,13 @@ same-length-2 c = search needs
 
 returns-2 : tie.Need-returns-2
 unfolding interval-cuts
-returns-2 c = (short-second _ _ _ _ (no-place-behind _ _ _ _ (one (c .before .before .before .before .before .before)) _ _ _ (c .before .before .before .before .interval-cuts2 .ensures) (c .enum-told2 .given .1)), refl)
+returns-2 c =
+    let p = c .before .before .before .before .before .before in
+    let s = start p in (
+      short-second (first-of s) (second-of s) (third-of s) _
+          (no-place-behind _ _ _ _ (one p) _ _ _ (c .before .before .before .before .interval-cuts2 .ensures) (c .enum-told2 .given .1)),
+      refl,
+    )
 
 add-interval-cuts : tie.Need-add-interval-cuts
 add-interval-cuts c = let h = two c .within in search (needs, h)
@@ -125,7 +145,13 @@ same-length-3 c = search needs
 
 returns-3 : tie.Need-returns-3
 unfolding interval-cuts
-returns-3 c = (short-third _ _ _ _ (no-place-behind _ _ _ _ (two (c .before .before .before .before .before .before)) _ _ _ (c .before .before .before .before .interval-cuts3 .ensures) (c .enum-told3 .given .1)), refl)
+returns-3 c =
+    let p = c .before .before .before .before .before .before in
+    let s = start (before p) in (
+      short-third (first-of s) (second-of s) (third-of s) _
+          (no-place-behind _ _ _ _ (two p) _ _ _ (c .before .before .before .before .interval-cuts3 .ensures) (c .enum-told3 .given .1)),
+      refl,
+    )
 
 same-length-4 : tie.Need-same-length-4
 same-length-4 c = search needs
@@ -134,11 +160,15 @@ returns-4 : tie.Need-returns-4
 unfolding interval-cuts
 returns-4 c =
     let p = c .before .before .before .before .before .before .before in
+    let s = start (before p) in
     let k = c .before .before .before .before .before .interval-cuts3 .ensures in
     let e = c .before .third .given .1 in
     let h = laid-next _ _ _ _ (two p) (values (start (before p)) (start (before p) .args .three .third)) _ _ k _ e in
-    let i = p .before .before .before .before .before .interval-cuts2 .ensures .held _ (p .before .second .given .1) .count in
-    (all-three _ _ _ _ _ _ _ (one (p .before .before .before .before .before .before .before) .count) i (k .held _ e .count) (h .within), laid-front _ _ _ _ h)
+    let i = p .before .before .before .before .before .interval-cuts2 .ensures .held _ (p .before .second .given .1) .count in (
+      all-three (first-of s) (second-of s) (third-of s) _ _ _ _
+          (one (p .before .before .before .before .before .before .before) .count) i (k .held _ e .count) (h .within),
+      laid-three (first-of s) (second-of s) (third-of s) _ _ _ h,
+    )
 
 pub cut-intervals-spec : {M : Type 1} → statement M
 cut-intervals-spec =

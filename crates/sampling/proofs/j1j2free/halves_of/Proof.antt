@@ -1,7 +1,7 @@
--- `sampling::j1j2free::halving_of` meets its contract: at each return, what the calls and the tests on the way to it say. Assumes nothing.
+-- `sampling::j1j2free::halves_of` meets its contract: at each return, what the calls and the tests on the way to it say. Assumes nothing.
 use borrow.Author.Needs.{needs}
-use Rattle.sampling.proofs.j1j2free.halving_of.Statement.{statement}
-use Rattle.sampling.proofs.j1j2free.halving_of.Tie as tie
+use Rattle.sampling.proofs.j1j2free.halves_of.Statement.{statement}
+use Rattle.sampling.proofs.j1j2free.halves_of.Tie as tie
 
 enum-known-first : tie.Need-enum-known-first
 enum-known-first c = search needs
@@ -24,5 +24,5 @@ returns-2 c = simp (c .before .before .before .first .given .1, c .enum-told .gi
 returns-3 : tie.Need-returns-3
 returns-3 c = simp (c .enum-told2 .given .1)
 
-pub halving-of-spec : {M : Type 1} → statement M
-halving-of-spec = tie.close (tie.spec enum-known-first enum-known-second enum-told enum-told-2 returns returns-2 returns-3)
+pub halves-of-spec : {M : Type 1} → statement M
+halves-of-spec = tie.close (tie.spec enum-known-first enum-known-second enum-told enum-told-2 returns returns-2 returns-3)

@@ -15,8 +15,8 @@ use Rattle.polynomial.specs.Cuts.{cuts}
 use Rattle.polynomial.specs.Promises.Held.{Kept}
 use Rattle.polynomial.specs.Laws.Held.{kept-full}
 use Rattle.polynomial.specs.Laws.Lists.{tail-part, tail-post}
-use Rattle.sampling.specs.Promises.Cutting.{cutting}
-use Rattle.sampling.specs.declared.sample_angles.Cutting.the-variants.{Short, Cuts}
+use Rattle.sampling.specs.Promises.Plan.{lists-of, granted}
+use Rattle.sampling.specs.declared.plan.Plan.the-variants.{Short, Lists}
 
 -- the first n places of r hold l, and the others are as in w
 pub record Laid (l w r : List Float) (n : ℕ) : Type 0 where
@@ -65,22 +65,28 @@ module _ (l w r : List Float) (n : ℕ) (h : Laid l w r n) where
 
 -- ---- what is answered of three lists
 
-module _ (a b c : List Float) (places : ℕ) where
-  short : places < length a + length b + length c → Short ≡ cutting a b c places
-  unfolding cutting
-  short h = rw (lt-leb (length a + length b + length c) places h)
+module _ (a b c : List Float) where
+  abbrev count : ℕ
+  count = length a + length b + length c
 
-  pub short-first : places < length a → Short ≡ cutting a b c places
-  short-first h = short (omega (arith, h))
+  module _ (places : ℕ) where
+    short : places < count → Short ≡ granted true count (lists-of a b c) places
+    short h = rw (lt-leb count places h)
 
-  pub short-second : places < length a + length b → Short ≡ cutting a b c places
-  short-second h = short (omega (arith, h))
+    pub short-first : places < length a → Short ≡ granted true count (lists-of a b c) places
+    short-first h = short (omega (arith, h))
 
-  pub short-third : places < length (a ++ b) + length c → Short ≡ cutting a b c places
-  short-third h = short (omega (arith, h, length-append a b))
+    pub short-second : places < length a + length b → Short ≡ granted true count (lists-of a b c) places
+    short-second h = short (omega (arith, h))
 
-  pub all-three : (m n k : ℕ) → m ≡ length a → n ≡ length b → k ≡ length c → m + n + k ≤ places → Cuts (record { first = m; second = n; third = k }) ≡ cutting a b c places
-  unfolding cutting
-  all-three m n k p q s h =
-      let t : leb (length a + length b + length c) places ≡ true = le-leb (length a + length b + length c) places (omega arith) in
-      rw (t, p, q, s)
+    pub short-third : places < length (a ++ b) + length c → Short ≡ granted true count (lists-of a b c) places
+    short-third h = short (omega (arith, h, length-append a b))
+
+    pub all-three : (m n k : ℕ) → m ≡ length a → n ≡ length b → k ≡ length c → m + n + k ≤ places
+        → Lists (record { first = m; second = n; third = k }) ≡ granted true count (lists-of a b c) places
+    all-three m n k e f g h = let t : count ≤ places = omega (arith, e, f, g, h) in rw (le-leb count places t, e, f, g)
+
+  pub laid-three : (w r : List Float) (m : ℕ) → Laid ((a ++ b) ++ c) w r m → r ≡ ((a ++ b) ++ c) ++ drop count w
+  laid-three w r m h =
+      let e : m ≡ count = omega (arith, h .count, length-append (a ++ b) c, length-append a b) in
+      h .list ∙ ap (λ (n : ℕ). ((a ++ b) ++ c) ++ drop n w) e

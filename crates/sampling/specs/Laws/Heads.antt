@@ -1,4 +1,4 @@
--- What `advance` has to show at each of its ends: x, y and z are the heads of the two lists and of the reference, a NaN where there is none. Assumes nothing.
+-- What a step has to show at each of its ends: x, y and z are the heads of the two lists and of the reference, a NaN where there is none. Assumes nothing.
 use Prim.Native.Nat.{ℕ, _+_, _<_}
 use native.Mathlib.Decide.{decLt}
 use native.Mathlib.Omega.{arith}
@@ -15,7 +15,7 @@ use Rattle.polynomial.specs.Promises.Lists.{Sorted, Fit}
 use Rattle.polynomial.specs.Laws.Cuts.{fit-drop}
 use Rattle.sampling.specs.Promises.Stream.{weave, pending, Woven}
 use Rattle.sampling.specs.Laws.Weave.{weave-fit}
-use Rattle.sampling.proofs.stream.Least.{head, Numbers, take-first, take-second, take-third, all-empty, sorted-drop, numbers-drop, head-drop, no-head}
+use Rattle.sampling.specs.Laws.Least.{head, Numbers, take-first, take-second, take-third, all-empty, sorted-drop, numbers-drop, head-drop, no-head}
 
 -- a number at k: the list reaches there
 pub number-index : (l : List Float) (k : ℕ) → T (not (isNan (getD l k nan))) → k < length l
@@ -29,8 +29,6 @@ pub record Heads (a b : List Float) (r : Float) (i j : ℕ) (u : Bool) (x y z : 
   pub woven-a : Woven a
   pub woven-b : Woven b
   pub number-r : T (not (isNan r))
-  pub fit-a : Fit a
-  pub fit-b : Fit b
   pub fit-r : T (fits binary64 r)
   pub at-x : x ≡ getD (weave a) i nan
   pub at-y : y ≡ getD (weave b) j nan
@@ -66,10 +64,10 @@ module _ {a b : List Float} {r : Float} {i j : ℕ} {u : Bool} {x y z : Float} (
       go false = tt
 
   fA : Fit A
-  fA = fit-drop i (weave a) (weave-fit a (H .fit-a))
+  fA = fit-drop i (weave a) (weave-fit a (H .woven-a .fit))
 
   fB : Fit B
-  fB = fit-drop j (weave b) (weave-fit b (H .fit-b))
+  fB = fit-drop j (weave b) (weave-fit b (H .woven-b .fit))
 
   fE : Fit E
   fE = go u
