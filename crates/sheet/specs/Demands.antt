@@ -1,12 +1,14 @@
--- The three demands as statements about the definitions that the contracts of Sampling and Check cite; `Laws.Demands` proves each. What stays with the contracts: that the code's answer, output and work are these definitions' (`sample::sample`, `check::check`).
-use Prim.Native.Nat.{ℕ, _+_, _≤_, _<_}
+-- The three demands as statements about the definitions that the contracts of Sampling and Check cite; `Laws.Demands` proves each. What stays with the
+-- contracts: that the code's answer, output and work are these definitions' (`sample::sample`, `check::check`).
+use Prim.Native.Nat.{ℕ, _+_, _*_, _≤_, _<_}
 use mathlib.Core.Path.{_≡_}
 use mathlib.Core.List.{List}
 use mathlib.Core.Bool.{true}
 use mathlib.Core.Logic.{_↔_}
-use lib.ListN.{length, take}
+use lib.ListN.{length, take, getD}
 use Rattle.sampling.specs.declared.job.Job.{Job}
-use Rattle.sampling.specs.declared.pose.Matrix.{Matrix}
+use Rattle.float.specs.Number.{zero-float}
+use Rattle.sheet.specs.Bytes.{float-at}
 use Rattle.sheet.specs.Request.{core-size, Agree}
 use Rattle.sheet.specs.Validate.{head-right}
 use Rattle.sheet.specs.Refusals.{Answer, accepted, refused}
@@ -33,6 +35,11 @@ Leaves = (r output : List ℕ) (k : ℕ) → output-after (refused k) r output �
 abbrev pub Counted : Type 0
 Counted = (r : List ℕ) (places room n : ℕ) → answer r places room ≡ accepted n → (n ≡ length (angles r)) × (length (sheet r) ≡ sheet-size n)
 
+-- The i-th eight bytes of its sheet, read back as a float, are the i-th angle.
+abbrev pub Faithful : Type 0
+Faithful =
+    (r : List ℕ) (places room n : ℕ) → answer r places room ≡ accepted n → (i : ℕ) → i < n → float-at (sheet r) (8 * i) ≡ getD (angles r) i zero-float
+
 -- A sheet that names another edition than 1, by the u16 at byte 8 of its trailer, is refused as 32.
 abbrev pub OtherEdition : Type 0
 OtherEdition =
@@ -51,7 +58,7 @@ Exact = (s : List ℕ) (places n : ℕ) → (Check.answer s places ≡ accepted 
 
 -- what the trailer's u32 fields ask: 8n is below 2^32
 abbrev pub Few : Type 0
-Few = (job : Job) (m : Matrix) → length (Angles.angles job m) < items-bound
+Few = (job : Job) → length (Angles.angles job) < items-bound
 
 -- Demand 3. Requests that agree in what is read get the same answer, with equally long work and output.
 abbrev pub SameAnswer : Type 0
@@ -64,9 +71,11 @@ SameAngles = (r s : List ℕ) → Agree r s → head-right r ≡ true → angles
 -- Two accepted requests give equal sheets exactly when they agree in what is read.
 abbrev pub SameSheet : Type 0
 SameSheet =
-    (r s : List ℕ) (places room n places′ room′ n′ : ℕ) → answer r places room ≡ accepted n → answer s places′ room′ ≡ accepted n′ → (sheet r ≡ sheet s) ↔ Agree r s
+    (r s : List ℕ) (places room n places′ room′ n′ : ℕ) → answer r places room ≡ accepted n → answer s places′ room′ ≡ accepted n′ → (sheet r ≡ sheet s) ↔
+    Agree r s
 
--- The same of two calls with requests r and s and so many work places each: their answers a and b, and their outputs x and y afterwards, of which a sheet is the first 8n + 280 bytes.
+-- The same of two calls with requests r and s and so many work places each: their answers a and b, and their outputs x and y afterwards, of which a sheet is
+-- the first 8n + 280 bytes.
 pub record Together (r s : List ℕ) (places places′ : ℕ) (a b : Answer) (x y : List ℕ) : Type 0 where
   pub answers : places ≡ places′ → length x ≡ length y → Agree r s → a ≡ b
   pub sheets : (n m : ℕ) → a ≡ accepted n → b ≡ accepted m → (take (sheet-size n) x ≡ take (sheet-size m) y) ↔ Agree r s

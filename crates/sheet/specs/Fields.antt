@@ -1,7 +1,7 @@
--- The job that a request's fields say, every field as given, none blanked, and its rotation matrix. Definitions only.
+-- The job that a request's fields say, every field as given, none blanked. Definitions only.
 use Prim.Native.Nat.{ℕ, _+_}
 use mathlib.Core.List.{List}
-use mathlib.Core.Bool.{cond}
+use mathlib.Core.Bool.{Bool, false, cond}
 use lib.ListN.{getD}
 use lib.Dec.{eqb}
 use lib.Ieee.{Float, neg}
@@ -11,12 +11,16 @@ use Rattle.sampling.specs.declared.pose.Quaternion.{Quaternion}
 use Rattle.sampling.specs.declared.pose.Matrix.{Matrix}
 use Rattle.sampling.specs.declared.pose.Normalized.{Normalized}
 use Rattle.sampling.specs.declared.pose.Normalized.the-variants.{Unit, NotFinite, Zero}
+use Rattle.sampling.specs.declared.job.Kind.{Kind}
+use Rattle.sampling.specs.declared.job.Kind.the-variants.{J1free}
 use Rattle.sampling.specs.declared.job.Joint.{Joint}
 use Rattle.sampling.specs.declared.job.Job.{Job}
+use Rattle.sheet.specs.declared.request.Shape.{Shape}
+use Rattle.sheet.specs.declared.request.Shape.the-variants.{Bad, Right}
 use Rattle.sheet.specs.declared.request.Field.{Field}
 use Rattle.sheet.specs.declared.request.Field.the-variants.{Sign, Arm, Reference, Offset, From, To}
 use Rattle.sheet.specs.Bytes.{float-at}
-use Rattle.sheet.specs.Request.{place, rotation-at}
+use Rattle.sheet.specs.Request.{place, rotation-at, shape-of}
 use Rattle.sampling.specs.declared.job.Arm as arms
 
 -- byte 1 is the sign 1, any other -1
@@ -49,22 +53,6 @@ rotation-of r =
 unfoldable pub arm-of : List ℕ → arms.Arm
 arm-of r = record { q1 = field r Arm 1; q2 = field r Arm 2; q3 = field r Arm 3 }
 
-unfoldable pub job-of : List ℕ → Job
-job-of r =
-    record {
-      kind = getD r 0 0;
-      limited = eqb (getD r 1 0) 1;
-      fixed = eqb (getD r 2 0) 1;
-      rotation = rotation-of r;
-      arm = arm-of r;
-      j1 = joint-at r 1;
-      j2 = joint-at r 2;
-      j3 = joint-at r 3;
-      j4 = joint-at r 4;
-      j5 = joint-at r 5;
-      j6 = joint-at r 6;
-    }
-
 unfoldable pub zero-matrix : Matrix
 zero-matrix =
     record {
@@ -81,3 +69,31 @@ matrix-by Zero = zero-matrix
 
 unfoldable pub matrix : Quaternion → Matrix
 matrix q = matrix-by (try-normalize q)
+
+-- kind and flags; a wrong one is refused, whatever stands for it here
+unfoldable pub kind-of : Shape → Kind
+kind-of Bad = J1free
+kind-of (Right kind limits fixed) = kind
+
+unfoldable pub limited-of : Shape → Bool
+limited-of Bad = false
+limited-of (Right kind limits fixed) = limits
+
+unfoldable pub fixed-of : Shape → Bool
+fixed-of Bad = false
+fixed-of (Right kind limits fixed) = fixed
+
+unfoldable pub job-of : List ℕ → Job
+job-of r =
+    record {
+      kind = kind-of (shape-of r);
+      limited = limited-of (shape-of r);
+      fixed = fixed-of (shape-of r);
+      matrix = matrix (rotation-of r);
+      arm = arm-of r;
+      j1 = joint-at r 1;
+      j2 = joint-at r 2;
+      j4 = joint-at r 4;
+      j5 = joint-at r 5;
+      j6 = joint-at r 6;
+    }

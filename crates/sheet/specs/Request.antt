@@ -2,12 +2,14 @@
 use Prim.Native.Nat.{ℕ, suc, _+_, _-_, _*_, _/_, _≤_}
 use mathlib.Core.Path.{_≡_}
 use mathlib.Core.List.{List, [], _∷_}
-use mathlib.Core.Bool.{Bool, true, false, not, cond, _&&_, _||_}
+use mathlib.Core.Bool.{Bool, true, false, cond, _&&_}
 use lib.ListN.{length, getD}
 use lib.Dec.{T, eqb, ltb}
+use Rattle.sampling.specs.Reads.{joint-read, reference-read, arm-read}
+use Rattle.sampling.specs.declared.job.Kind.the-variants.{J1free, J2free, J1j2free}
 use Rattle.sheet.specs.Bytes.{part}
 use Rattle.sheet.specs.declared.request.Shape.{Shape}
-use Rattle.sheet.specs.declared.request.Shape.the-variants.{Bad, One, Two, Three}
+use Rattle.sheet.specs.declared.request.Shape.the-variants.{Bad, Right}
 use Rattle.sheet.specs.declared.request.Field.{Field}
 use Rattle.sheet.specs.declared.request.Field.the-variants.{Sign, Arm, Reference, Offset, From, To}
 
@@ -63,9 +65,9 @@ place f j = start f + width f * (j - 1)
 
 unfoldable pub shape-by : ℕ → Bool → Bool → Shape
 shape-by kind limits fixed =
-    cond (eqb kind 1) (One limits fixed)
-    (cond (eqb kind 2) (Two limits fixed)
-    (cond (eqb kind 3) (Three limits fixed)
+    cond (eqb kind 1) (Right J1free limits fixed)
+    (cond (eqb kind 2) (Right J2free limits fixed)
+    (cond (eqb kind 3) (Right J1j2free limits fixed)
     Bad))
 
 unfoldable pub shape-fixed : ℕ → Bool → ℕ → Shape
@@ -77,46 +79,17 @@ shape-from kind limits fixed = cond (eqb limits 0) (shape-fixed kind false fixed
 unfoldable pub shape-of : List ℕ → Shape
 shape-of r = shape-from (getD r 0 0) (getD r 1 0) (getD r 2 0)
 
--- ---- which fields are read; under a wrong kind or flag none
-
--- joints 4, 5 and, unless fixed, 6
-abbrev pub wrist-read : Bool → ℕ → Bool
-wrist-read fixed j = eqb j 4 || eqb j 5 || (not fixed && eqb j 6)
-
--- signs and offsets
-unfoldable pub joint-read : Shape → ℕ → Bool
-joint-read Bad j = false
-joint-read (One limits fixed) j = eqb j 1 || wrist-read fixed j
-joint-read (Two limits fixed) j = eqb j 2 || wrist-read fixed j
-joint-read (Three limits fixed) j = eqb j 1 || eqb j 2 || (limits && wrist-read fixed j)
-
--- kind 3 with limits reads reference 1 only
-unfoldable pub reference-read : Shape → ℕ → Bool
-reference-read Bad j = false
-reference-read (One limits fixed) j = eqb j 1 || wrist-read fixed j
-reference-read (Two limits fixed) j = eqb j 2 || wrist-read fixed j
-reference-read (Three limits fixed) j = eqb j 1 || (not limits && eqb j 2)
-
-unfoldable pub arm-read : Shape → ℕ → Bool
-arm-read Bad q = false
-arm-read (One limits fixed) q = eqb q 2 || eqb q 3
-arm-read (Two limits fixed) q = eqb q 1 || eqb q 3
-arm-read (Three limits fixed) q = eqb q 3
-
--- limits, if present, are read for the joints whose signs are read
-unfoldable pub limits-read : Shape → Bool
-limits-read Bad = false
-limits-read (One limits fixed) = limits
-limits-read (Two limits fixed) = limits
-limits-read (Three limits fixed) = limits
+-- ---- which fields are read: by kind and flags what sampling's `Reads` says, and limits, if present, for the joints whose signs are; under a wrong kind or
+-- flag none
 
 unfoldable pub reads : Shape → Field → ℕ → Bool
-reads s Sign j = joint-read s j
-reads s Arm j = arm-read s j
-reads s Reference j = reference-read s j
-reads s Offset j = joint-read s j
-reads s From j = limits-read s && joint-read s j
-reads s To j = limits-read s && joint-read s j
+reads Bad f j = false
+reads (Right kind limits fixed) Sign j = joint-read kind limits fixed j
+reads (Right kind limits fixed) Arm j = arm-read kind j
+reads (Right kind limits fixed) Reference j = reference-read kind limits fixed j
+reads (Right kind limits fixed) Offset j = joint-read kind limits fixed j
+reads (Right kind limits fixed) From j = limits && joint-read kind limits fixed j
+reads (Right kind limits fixed) To j = limits && joint-read kind limits fixed j
 
 -- a byte of the request: bytes 0 to 3 and 10 to 15 and the rotation are read always, any other as its field is
 unfoldable pub byte-read : Shape → ℕ → Bool

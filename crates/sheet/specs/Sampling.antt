@@ -7,7 +7,7 @@ use lib.Dec.{leb}
 use lib.Ieee.{Float, binary64, toBits}
 use Rattle.sheet.specs.Bytes.{words-bytes}
 use Rattle.sheet.specs.Request.{blank}
-use Rattle.sheet.specs.Fields.{job-of, rotation-of, matrix}
+use Rattle.sheet.specs.Fields.{job-of}
 use Rattle.sheet.specs.Refusals.{Answer, accepted, refused, need, number}
 use Rattle.sheet.specs.Validate.{validate}
 use Rattle.sheet.specs.Sheet.{trailer, frame-size}
@@ -22,14 +22,14 @@ answer-of (sampled.Refused k) = refused (number k)
 
 -- The angles of a request: every field as given, none blanked first.
 unfoldable pub angles : List ℕ → List Float
-angles r = Angles.angles (job-of r) (matrix (rotation-of r))
+angles r = Angles.angles (job-of r)
 
 -- the cuts counted, and whether no inner call of the root finder is refused
 unfoldable pub cut-count : List ℕ → ℕ
-cut-count r = Angles.cut-count (job-of r) (matrix (rotation-of r))
+cut-count r = Angles.cut-count (job-of r)
 
 unfoldable pub holds : List ℕ → Bool
-holds r = Angles.hold (job-of r) (matrix (rotation-of r))
+holds r = Angles.hold (job-of r)
 
 -- what a sheet lists, 64 bits each: the angles; the NaN is 7FF8000000000000
 unfoldable pub items : List ℕ → List ℕ

@@ -12,7 +12,7 @@ use Rattle.sampling.specs.Pose.{try-normalize}
 use Rattle.sampling.specs.declared.pose.Normalized.{Normalized}
 use Rattle.sampling.specs.declared.pose.Normalized.the-variants.{Unit, NotFinite, Zero}
 use Rattle.sheet.specs.declared.request.Shape.{Shape}
-use Rattle.sheet.specs.declared.request.Shape.the-variants.{Bad, One, Two, Three}
+use Rattle.sheet.specs.declared.request.Shape.the-variants.{Bad, Right}
 use Rattle.sheet.specs.declared.request.Field.{Field}
 use Rattle.sheet.specs.declared.request.Field.the-variants.{Sign, Arm, Reference, Offset, From, To}
 use Rattle.sheet.specs.Refusals.{Answer, need}
@@ -28,9 +28,7 @@ all-from (suc n) j p = p j && all-from n (suc j) p
 
 unfoldable pub right : Shape → Bool
 right Bad = false
-right (One limits fixed) = true
-right (Two limits fixed) = true
-right (Three limits fixed) = true
+right (Right kind limits fixed) = true
 
 abbrev pub zero-at : List ℕ → ℕ → Bool
 zero-at r i = eqb (getD r i 0) 0

@@ -5,7 +5,6 @@ ghost use Prim.Native.Nat.{_+_, _^_, _<_, _≤_};
 ghost use lib.ListN.{length};
 ghost use Rattle.sampling.specs.Promises.Stream.{start};
 ghost use Rattle.sampling.specs.Promises.Plan.{to-come, Ready};
-ghost use Rattle.sampling.specs.Promises.Planned.{came};
 ghost use Rattle.sheet.specs.Bytes as Bytes;
 ghost use Rattle.sheet.specs.Promises.Floats as Floats;
 ghost use Rattle.sheet.specs.Request as Request;
@@ -99,7 +98,7 @@ fn formed(sheet: &[u8], n: usize) -> bool
 fn compare(s: &[u8], request: &[u8], work: &[f64], plan: Plan, n: usize) -> Checked
     requires { ⌜ length (now request) ≡ Request.request-size ⌝ }
     requires { ⌜ Promise.PlannedFor (now request) plan (now work) ⌝ }
-    requires { ⌜ Promise.is-refused (came plan) ≡ false ⌝ }
+    requires { ⌜ Promise.is-refused plan ≡ false ⌝ }
     ensures { λ r. ⌜ Check.answer-of r ≡ Promise.compared (now (request .entry)) (now (s .entry)) n (length (now (work .entry))) ⌝ }
 {
     if !unread_zero(request) {

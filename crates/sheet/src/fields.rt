@@ -8,10 +8,14 @@ use crate::bytes::byte_at;
 use crate::bytes::float_at;
 use crate::request::Field;
 use crate::request::ROTATION;
+use crate::request::Shape;
 use crate::request::place;
+use crate::request::shape_of;
 use sampling::job::Arm;
 use sampling::job::Job;
 use sampling::job::Joint;
+use sampling::job::Kind;
+use sampling::pose::Matrix;
 use sampling::pose::Quaternion;
 
 // The sign of a byte.
@@ -72,20 +76,48 @@ fn arm_of(request: &[u8]) -> Arm
     }
 }
 
-// The job, every field as given.
-pub(crate) fn job_of(request: &[u8]) -> Job
-    requires { ⌜ Request.core-size ≤ length (now request) ⌝ }
+// Kind and flags; a wrong one is refused, whatever stands for it here.
+fn kind_of(s: Shape) -> Kind
+    ensures { λ r. ⌜ r ≡ Fields.kind-of s ⌝ }
+{
+    match s {
+        Shape::Bad => Kind::J1free,
+        Shape::Right(kind, _, _) => kind,
+    }
+}
+
+fn limited_of(s: Shape) -> bool
+    ensures { λ r. ⌜ r ≡ Fields.limited-of s ⌝ }
+{
+    match s {
+        Shape::Bad => false,
+        Shape::Right(_, limits, _) => limits,
+    }
+}
+
+fn fixed_of(s: Shape) -> bool
+    ensures { λ r. ⌜ r ≡ Fields.fixed-of s ⌝ }
+{
+    match s {
+        Shape::Bad => false,
+        Shape::Right(_, _, fixed) => fixed,
+    }
+}
+
+// The job, every field as given, with the rotation's matrix m.
+pub(crate) fn job_of(request: &[u8], m: Matrix) -> Job
+    requires { ⌜ (Request.core-size ≤ length (now request)) × (m ≡ Fields.matrix (Fields.rotation-of (now request))) ⌝ }
     ensures { λ r. ⌜ r ≡ Fields.job-of (now (request .entry)) ⌝ }
 {
+    let s = shape_of(request);
     Job {
-        kind: byte_at(request, 0),
-        limited: byte_at(request, 1) == 1,
-        fixed: byte_at(request, 2) == 1,
-        rotation: rotation_of(request),
+        kind: kind_of(s),
+        limited: limited_of(s),
+        fixed: fixed_of(s),
+        matrix: m,
         arm: arm_of(request),
         j1: joint_at(request, 1),
         j2: joint_at(request, 2),
-        j3: joint_at(request, 3),
         j4: joint_at(request, 4),
         j5: joint_at(request, 5),
         j6: joint_at(request, 6),

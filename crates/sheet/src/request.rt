@@ -7,10 +7,15 @@ ghost use lib.ListN.{length};
 ghost use lib.Seq.{sets};
 ghost use Rattle.sheet.specs.Bytes as Bytes;
 ghost use Rattle.sheet.specs.Request as Request;
+ghost use Rattle.sheet.specs.declared.request.Shape.the-variants.{Right};
 use crate::bytes::byte_at;
+use sampling::job::Kind;
+use sampling::reads::arm_read;
+use sampling::reads::joint_read;
+use sampling::reads::reference_read;
 
-// Sizes and positions, in bytes; specs/Request.antt has the same.
-// What every request has.
+// Sizes and positions, in bytes; specs/Request.antt has the same. The core is what every request
+// has.
 pub(crate) const CORE: usize = 264;
 
 pub(crate) const REQUEST: usize = CORE;
@@ -34,9 +39,7 @@ pub(crate) const TO: usize = 216;
 // What kind, limits present and sixth joint fixed say; `Bad` where one of the three is wrong.
 pub enum Shape {
     Bad,
-    One(bool, bool),
-    Two(bool, bool),
-    Three(bool, bool),
+    Right(Kind, bool, bool),
 }
 
 // The classes of fields that are not always read.
@@ -53,9 +56,9 @@ fn shape_by(kind: u8, limits: bool, fixed: bool) -> Shape
     ensures { λ r. ⌜ r ≡ Request.shape-by kind limits fixed ⌝ }
 {
     match kind {
-        1 => Shape::One(limits, fixed),
-        2 => Shape::Two(limits, fixed),
-        3 => Shape::Three(limits, fixed),
+        1 => Shape::Right(Kind::J1free, limits, fixed),
+        2 => Shape::Right(Kind::J2free, limits, fixed),
+        3 => Shape::Right(Kind::J1j2free, limits, fixed),
         _ => Shape::Bad,
     }
 }
@@ -92,58 +95,17 @@ pub(crate) fn shape_of(request: &[u8]) -> Shape
     shape_from(kind, limits, fixed)
 }
 
-// Joints 4, 5 and, unless fixed, 6.
-fn wrist_read(fixed: bool, j: usize) -> bool
-    ensures { λ r. ⌜ r ≡ Request.wrist-read fixed j ⌝ }
+// Whether a field is read, under a right kind and flags.
+fn right_read(kind: Kind, limits: bool, fixed: bool, f: Field, j: usize) -> bool
+    ensures { λ r. ⌜ r ≡ Request.reads (Right kind limits fixed) f j ⌝ }
 {
-    (j == 4) | (j == 5) | (!fixed & (j == 6))
-}
-
-// Whether sign and offset of joint j are read.
-fn joint_read(s: Shape, j: usize) -> bool
-    ensures { λ r. ⌜ r ≡ Request.joint-read s j ⌝ }
-{
-    match s {
-        Shape::Bad => false,
-        Shape::One(_, fixed) => (j == 1) | wrist_read(fixed, j),
-        Shape::Two(_, fixed) => (j == 2) | wrist_read(fixed, j),
-        Shape::Three(limits, fixed) => (j == 1) | (j == 2) | (limits & wrist_read(fixed, j)),
-    }
-}
-
-// Whether the reference of joint j is read.
-fn reference_read(s: Shape, j: usize) -> bool
-    ensures { λ r. ⌜ r ≡ Request.reference-read s j ⌝ }
-{
-    match s {
-        Shape::Bad => false,
-        Shape::One(_, fixed) => (j == 1) | wrist_read(fixed, j),
-        Shape::Two(_, fixed) => (j == 2) | wrist_read(fixed, j),
-        Shape::Three(limits, _) => (j == 1) | (!limits & (j == 2)),
-    }
-}
-
-// Whether the arm's angle q is read.
-fn arm_read(s: Shape, q: usize) -> bool
-    ensures { λ r. ⌜ r ≡ Request.arm-read s q ⌝ }
-{
-    match s {
-        Shape::Bad => false,
-        Shape::One(_, _) => (q == 2) | (q == 3),
-        Shape::Two(_, _) => (q == 1) | (q == 3),
-        Shape::Three(_, _) => q == 3,
-    }
-}
-
-// Whether limits are read at all.
-fn limits_read(s: Shape) -> bool
-    ensures { λ r. ⌜ r ≡ Request.limits-read s ⌝ }
-{
-    match s {
-        Shape::Bad => false,
-        Shape::One(limits, _) => limits,
-        Shape::Two(limits, _) => limits,
-        Shape::Three(limits, _) => limits,
+    match f {
+        Field::Sign => joint_read(kind, limits, fixed, j),
+        Field::Arm => arm_read(kind, j),
+        Field::Reference => reference_read(kind, limits, fixed, j),
+        Field::Offset => joint_read(kind, limits, fixed, j),
+        Field::From => limits & joint_read(kind, limits, fixed, j),
+        Field::To => limits & joint_read(kind, limits, fixed, j),
     }
 }
 
@@ -151,13 +113,9 @@ fn limits_read(s: Shape) -> bool
 pub(crate) fn field_read(s: Shape, f: Field, j: usize) -> bool
     ensures { λ r. ⌜ r ≡ Request.reads s f j ⌝ }
 {
-    match f {
-        Field::Sign => joint_read(s, j),
-        Field::Arm => arm_read(s, j),
-        Field::Reference => reference_read(s, j),
-        Field::Offset => joint_read(s, j),
-        Field::From => limits_read(s) & joint_read(s, j),
-        Field::To => limits_read(s) & joint_read(s, j),
+    match s {
+        Shape::Bad => false,
+        Shape::Right(kind, limits, fixed) => right_read(kind, limits, fixed, f, j),
     }
 }
 

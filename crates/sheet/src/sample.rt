@@ -67,7 +67,7 @@ fn put_angles(output: &mut [u8], work: &[f64], plan: Plan)
     requires { ⌜ 8 * length (to-come plan (now work) start) ≤ length (now output) ⌝ }
     ensures { λ _. ⌜ now (output .exit) ≡ sets (now (output .entry)) 0 (Floats.floats-bytes (to-come plan (now (work .entry)) start)) ⌝ }
 {
-    if let Plan::One(n) = plan {
+    if let Plan::Lists(n) = plan {
         put_lists(output, work, n);
         return;
     }

@@ -36,9 +36,7 @@ fn right(s: Shape) -> bool
 {
     match s {
         Shape::Bad => false,
-        Shape::One(_, _) => true,
-        Shape::Two(_, _) => true,
-        Shape::Three(_, _) => true,
+        Shape::Right(_, _, _) => true,
     }
 }
 
@@ -143,42 +141,18 @@ fn fields_right(f: Field, request: &[u8], n: usize) -> bool
     true
 }
 
-// 6: a read arm angle is within ±8.
-fn arm_within(request: &[u8]) -> bool
-    requires { ⌜ Request.core-size ≤ length (now request) ⌝ }
-    ensures { λ r. ⌜ r ≡ Validate.arm-within (now (request .entry)) ⌝ }
-{
-    fields_right(Field::Arm, request, 3)
-}
-
-// 7: a read reference is finite.
-fn references_finite(request: &[u8]) -> bool
-    requires { ⌜ Request.core-size ≤ length (now request) ⌝ }
-    ensures { λ r. ⌜ r ≡ Validate.references-finite (now (request .entry)) ⌝ }
-{
-    fields_right(Field::Reference, request, 6)
-}
-
-// 8: a read offset is within ±2P.
-fn offsets_within(request: &[u8]) -> bool
-    requires { ⌜ Request.core-size ≤ length (now request) ⌝ }
-    ensures { λ r. ⌜ r ≡ Validate.offsets-within (now (request .entry)) ⌝ }
-{
-    fields_right(Field::Offset, request, 6)
-}
-
-// 6 to 8, for a rotation that is normalized to q.
+// 6 to 8: arm angles, references, offsets; for a rotation that is normalized to q.
 fn validate_fields(request: &[u8], q: Quaternion) -> Tested
     requires { ⌜ Request.core-size ≤ length (now request) ⌝ }
     ensures { λ t. ⌜ t ≡ Promise.tested-fields (now (request .entry)) q ⌝ }
 {
-    if !arm_within(request) {
+    if !fields_right(Field::Arm, request, 3) {
         return Tested::Refused(Refusal::Arm);
     }
-    if !references_finite(request) {
+    if !fields_right(Field::Reference, request, 6) {
         return Tested::Refused(Refusal::Reference);
     }
-    if !offsets_within(request) {
+    if !fields_right(Field::Offset, request, 6) {
         return Tested::Refused(Refusal::Offset);
     }
     Tested::Passed(q)

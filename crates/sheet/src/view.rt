@@ -8,6 +8,7 @@ ghost use Rattle.sheet.specs.Request as Request;
 ghost use Rattle.sheet.specs.Fields as Fields;
 use crate::fields::job_of;
 use sampling::job::Job;
+use sampling::pose::Matrix;
 
 pub struct View<'a> {
     pub request: &'a [u8],
@@ -20,18 +21,18 @@ pub fn new<'a>(request: &'a [u8]) -> View<'a>
     View { request }
 }
 
-// The job that the request's fields say.
-pub(crate) fn job<'a>(v: View<'a>) -> Job
-    requires { ⌜ Request.core-size ≤ length (now (v .request)) ⌝ }
+// The job that the request's fields say, with its rotation's matrix m.
+pub(crate) fn job<'a>(v: View<'a>, m: Matrix) -> Job
+    requires { ⌜ (Request.core-size ≤ length (now (v .request))) × (m ≡ Fields.matrix (Fields.rotation-of (now (v .request)))) ⌝ }
     ensures { λ r. ⌜ r ≡ Fields.job-of (now (v .entry .request)) ⌝ }
 {
-    job_of(v.request)
+    job_of(v.request, m)
 }
 
 // The job of a request, read through a view of it.
-pub(crate) fn read_job(request: &[u8]) -> Job
-    requires { ⌜ Request.core-size ≤ length (now request) ⌝ }
+pub(crate) fn read_job(request: &[u8], m: Matrix) -> Job
+    requires { ⌜ (Request.core-size ≤ length (now request)) × (m ≡ Fields.matrix (Fields.rotation-of (now request))) ⌝ }
     ensures { λ r. ⌜ r ≡ Fields.job-of (now (request .entry)) ⌝ }
 {
-    job(new(request))
+    job(new(request), m)
 }

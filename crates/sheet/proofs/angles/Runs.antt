@@ -1,4 +1,4 @@
--- Runs of floats one after the other, and the samples of a list of cuts: what the functions that write them need. Assumes nothing.
+-- Runs of floats one after the other, and the samples of a list of cuts: what the functions that write them need.
 use Prim.Native.Nat.{ℕ, suc, _+_, _-_, _*_, _≤_, _<_}
 use native.Mathlib.Omega.{arith}
 use mathlib.Core.Path.{_≡_, refl, sym, ap, _∙_}
@@ -27,7 +27,8 @@ runs out at to xs ys e =
 
 -- a turn of `put_list`, and its end
 pub list-turn : (out : List ℕ) (at i : ℕ) (l : List Float) → i < length l
-    → sets (sets out (at + 8 * i) (float-bytes (getD l i nan))) (at + 8 * (i + 1)) (floats-bytes (drop (i + 1) l)) ≡ sets out (at + 8 * i) (floats-bytes (drop i l))
+    → sets (sets out (at + 8 * i) (float-bytes (getD l i nan))) (at + 8 * (i + 1)) (floats-bytes (drop (i + 1) l)) ≡ sets out (at + 8 * i)
+    (floats-bytes (drop i l))
 list-turn out at i l h =
     let e : at + 8 * (i + 1) ≡ at + 8 * i + 8 = omega arith in
     let f : i + 1 ≡ suc i = omega arith in
@@ -44,7 +45,8 @@ three out at a b c =
     ∙ floats-turn x (at + 8) b (b ∷ (c ∷ [])) (c ∷ []) refl ∙ floats-turn out at a (a ∷ (b ∷ (c ∷ []))) (b ∷ (c ∷ [])) refl)
 
 -- a turn of `put_between`, and its end
-between-next : (l : List Float) (i : ℕ) → i + 1 < length l → all-between (drop i l) ≡ between (getD l i nan) (getD l (i + 1) nan) ++ all-between (drop (i + 1) l)
+between-next : (l : List Float) (i : ℕ) → i + 1 < length l → all-between (drop i l) ≡ between (getD l i nan) (getD l (i + 1) nan) ++ all-between
+    (drop (i + 1) l)
 unfolding all-between
 between-next l i h =
     let f : i + 1 ≡ suc i = omega arith in
@@ -57,13 +59,15 @@ unfolding between
 length-between a b = refl
 
 pub between-turn : (out : List ℕ) (at i : ℕ) (l : List Float) → i + 1 < length l
-    → sets (sets out (at + 24 * i) (floats-bytes (between (getD l i nan) (getD l (i + 1) nan)))) (at + 24 * (i + 1)) (floats-bytes (all-between (drop (i + 1) l)))
+    → sets (sets out (at + 24 * i) (floats-bytes (between (getD l i nan) (getD l (i + 1) nan)))) (at + 24 * (i + 1))
+    (floats-bytes (all-between (drop (i + 1) l)))
     ≡ sets out (at + 24 * i) (floats-bytes (all-between (drop i l)))
 between-turn out at i l h =
     let a = getD l i nan in
     let b = getD l (i + 1) nan in
     let e : at + 24 * (i + 1) ≡ at + 24 * i + 8 * length (between a b) = omega (arith, length-between a b) in
-    runs out (at + 24 * i) (at + 24 * (i + 1)) (between a b) (all-between (drop (i + 1) l)) e ∙ ap (λ (z : List Float). sets out (at + 24 * i) (floats-bytes z)) (sym (between-next l i h))
+    runs out (at + 24 * i) (at + 24 * (i + 1)) (between a b) (all-between (drop (i + 1) l)) e ∙ ap
+    (λ (z : List Float). sets out (at + 24 * i) (floats-bytes z)) (sym (between-next l i h))
 
 no-pair : (l : List Float) → length l ≤ 1 → all-between l ≡ []
 unfolding all-between
@@ -89,7 +93,8 @@ module _ (out : List ℕ) (w : List Float) (f g h k m : ℕ) (b : f + g + h ≤ 
   first-length = samples-length (take f w) ∙ ap (λ (x : ℕ). sample-count x) (length-take-le f w (omega (arith, b))) ∙ sym p
 
   second-length : length second ≡ m
-  second-length = samples-length (take g (drop f w)) ∙ ap (λ (x : ℕ). sample-count x) (length-take-le g (drop f w) (omega (arith, b, length-drop f w))) ∙ sym q
+  second-length = samples-length (take g (drop f w)) ∙ ap (λ (x : ℕ). sample-count x) (length-take-le g (drop f w) (omega (arith, b, length-drop f w))) ∙ sym
+      q
 
   in-turn : sets (sets (sets out 0 (floats-bytes first)) (8 * k) (floats-bytes second)) (8 * (k + m)) (floats-bytes third)
       ≡ sets out 0 (floats-bytes ((first ++ second) ++ third))
@@ -98,7 +103,8 @@ module _ (out : List ℕ) (w : List Float) (f g h k m : ℕ) (b : f + g + h ≤ 
       let d : 8 * (k + m) ≡ 0 + 8 * length (first ++ second) = omega (arith, length-append first second, first-length, second-length) in
       ap (λ (o : List ℕ). sets o (8 * (k + m)) (floats-bytes third)) (runs out 0 (8 * k) first second e) ∙ runs out 0 (8 * (k + m)) (first ++ second) third d
 
-  pub lists-laid : sets (sets (sets out 0 (floats-bytes (samples (take (f - 0) w)))) (8 * k) (floats-bytes (samples (take (f + g - f) (drop f w))))) (8 * (k + m)) (floats-bytes (samples (take (f + g + h - (f + g)) (drop (f + g) w))))
+  pub lists-laid : sets (sets (sets out 0 (floats-bytes (samples (take (f - 0) w)))) (8 * k) (floats-bytes (samples (take (f + g - f) (drop f w)))))
+      (8 * (k + m)) (floats-bytes (samples (take (f + g + h - (f + g)) (drop (f + g) w))))
       ≡ sets out 0 (floats-bytes (three-samples (take f w) (take g (drop f w)) (take h (drop (f + g) w))))
   unfolding three-samples
   lists-laid =

@@ -1,4 +1,4 @@
--- Bytes compared one by one: what a loop that leaves at the first difference needs. Assumes nothing.
+-- Bytes compared one by one: what a loop that leaves at the first difference needs.
 use Prim.Native.Nat.{ℕ, suc, _+_, _-_, _≤_, _<_}
 use native.Mathlib.Omega.{arith}
 use mathlib.Core.Path.{_≡_, _∙_}

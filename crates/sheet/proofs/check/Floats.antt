@@ -1,4 +1,4 @@
--- Bytes compared with those of floats, one float at a time. Assumes nothing.
+-- Bytes compared with those of floats, one float at a time.
 use Prim.Native.Nat.{ℕ, _+_, _-_, _≤_, _<_}
 use native.Mathlib.Omega.{arith}
 use mathlib.Core.Path.{_≡_, refl, sym, ap, _∙_}
@@ -38,14 +38,16 @@ module _ (s : List ℕ) (at : ℕ) (y : Float) (xs ys : List Float) (e : xs ≡ 
           let l = ap length (same-is (drop at s) (floats-bytes xs) q ∙ first) in
           absurd (omega (arith, l, length-drop at s, length-append (float-bytes y) (floats-bytes ys), length-bytes 8 (toBits binary64 y)))
 
-  both : at + 8 ≤ length s → same-bytes (drop at s) (floats-bytes xs) ≡ (same-bytes (part at 8 s) (float-bytes y) && same-bytes (drop (at + 8) s) (floats-bytes ys))
+  both : at + 8 ≤ length s → same-bytes (drop at s) (floats-bytes xs) ≡
+      (same-bytes (part at 8 s) (float-bytes y) && same-bytes (drop (at + 8) s) (floats-bytes ys))
   both h =
       let d : drop at s ≡ part at 8 s ++ drop (at + 8) s = sym (take-append-drop 8 (drop at s)) ∙ rw (drop-drop 8 at s) in
       ap (λ (l : List ℕ). same-bytes l (floats-bytes xs)) d ∙ ap (same-bytes (part at 8 s ++ drop (at + 8) s)) first
       ∙ (same-append (part at 8 s) (float-bytes y) (drop (at + 8) s) (floats-bytes ys) (length-part at 8 s h ∙ sym (length-bytes 8 (toBits binary64 y))))
 
   -- the bytes of a float are the same, or not
-  pub float-turn : at + 8 ≤ length s → same-bytes (part at 8 s) (float-bytes y) ≡ true → same-bytes (drop (at + 8) s) (floats-bytes ys) ≡ same-bytes (drop at s) (floats-bytes xs)
+  pub float-turn : at + 8 ≤ length s → same-bytes (part at 8 s) (float-bytes y) ≡ true → same-bytes (drop (at + 8) s) (floats-bytes ys) ≡ same-bytes
+      (drop at s) (floats-bytes xs)
   float-turn h q = sym (both h ∙ rw q)
 
   pub float-stop : at + 8 ≤ length s → same-bytes (part at 8 s) (float-bytes y) ≡ false → false ≡ same-bytes (drop at s) (floats-bytes xs)

@@ -1,4 +1,4 @@
--- The blanked request byte by byte: what the loops that write it and compare it need. Assumes nothing.
+-- The blanked request byte by byte: what the loops that write it and compare it need.
 use Prim.Native.Nat.{ℕ, suc, _+_, _-_, _/_, _%_, _≤_, _<_}
 use native.Mathlib.Omega.{arith}
 use mathlib.Core.Path.{_≡_, refl, sym, _∙_}

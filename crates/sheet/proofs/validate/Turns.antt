@@ -1,4 +1,4 @@
--- A test at each of n numbers in a row: what a loop that leaves at the first failure needs. Assumes nothing.
+-- A test at each of n numbers in a row: what a loop that leaves at the first failure needs.
 use Prim.Native.Nat.{ℕ, suc}
 use mathlib.Core.Path.{_≡_}
 use mathlib.Core.Bool.{Bool, true, false}

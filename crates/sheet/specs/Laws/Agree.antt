@@ -1,5 +1,5 @@
 -- Two requests that agree in all that is read: what follows for their fields, that byte by byte and field by field say the same, and that
--- they agree exactly where their blanked requests are equal. Assumes nothing.
+-- they agree exactly where their blanked requests are equal.
 use Prim.Native.Nat.{ℕ, _+_, _-_, _/_, _≤_, _<_}
 use native.Mathlib.Omega.{arith}
 use native.Mathlib.Decide.{decLt}

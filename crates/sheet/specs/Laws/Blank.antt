@@ -1,4 +1,4 @@
--- Laws of `blank-from`: byte by byte, and its length. Assumes nothing.
+-- Laws of `blank-from`: byte by byte, and its length.
 use Prim.Native.Nat.{ℕ, zero, suc, _+_, _<_}
 use native.Mathlib.Omega.{arith}
 use native.Mathlib.Nat.{add-zero}

@@ -1,4 +1,4 @@
--- Laws of `Bytes`: numbers of bytes and bytes of numbers, runs of stores, comparison. Assumes nothing.
+-- Laws of `Bytes`: numbers of bytes and bytes of numbers, runs of stores, comparison.
 use Prim.Native.Nat.{ℕ, zero, suc, _+_, _*_, _/_, _%_, _^_, _≤_, _<_}
 use native.Mathlib.Omega.{arith}
 use native.Mathlib.Nat.{add-zero}

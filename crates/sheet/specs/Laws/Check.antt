@@ -55,7 +55,8 @@ formed-by s z b n e h w l f =
     let g : b ≡ trailer n = f ∙ sets-all z (trailer n) (length-trailer n ∙ sym l) in
     let k : length s ≡ sheet-size (count-of s) = h ∙ ap sheet-size e in
     let v : ltb (count-of s) items-bound ≡ true = lt-ltb (count-of s) items-bound (omega (arith, e)) in
-    rw (eq-eqb (length s) (sheet-size (count-of s)) k, v, g, length-trailer n) (ap (λ (m : ℕ). same-bytes (part (length s - trailer-size) trailer-size s) (trailer m)) e)
+    rw (eq-eqb (length s) (sheet-size (count-of s)) k, v, g, length-trailer n)
+    (ap (λ (m : ℕ). same-bytes (part (length s - trailer-size) trailer-size s) (trailer m)) e)
 
 -- ---- the edition
 

@@ -13,19 +13,20 @@ use Rattle.float.specs.Laws.Tests.{and-right}
 use Rattle.sampling.specs.Laws.Angles.{angles-few}
 use Rattle.sheet.specs.Bytes.{words-bytes, same-bytes}
 use Rattle.sheet.specs.Request.{core-size, blank, Agree}
-use Rattle.sheet.specs.Fields.{job-of, rotation-of, matrix}
+use Rattle.sheet.specs.Fields.{job-of}
 use Rattle.sheet.specs.Validate.{head-right, validate}
 use Rattle.sheet.specs.Refusals.{Answer, accepted, need}
 use Rattle.sheet.specs.Sheet.{trailer, trailer-size, frame-size, items-bound}
 use Rattle.sheet.specs.Sampling.{angles, items, cut-count, by-request, by-work, answer, before-output, sheet, sheet-size, output-after}
 use Rattle.sheet.specs.Check.{trailer-of, count-of, request-of, items-of, formed, meets-none, clean}
-use Rattle.sheet.specs.Demands.{Within, Answers, Leaves, Counted, OtherEdition, Sound, Complete, Exact, Few, SameAnswer, SameAngles, SameSheet, Together}
+use Rattle.sheet.specs.Demands.{Within, Answers, Leaves, Counted, Faithful, OtherEdition, Sound, Complete, Exact, Few, SameAnswer, SameAngles, SameSheet, Together}
 use Rattle.sheet.specs.Promises.Plan.{compared, checked}
 use Rattle.sheet.specs.Laws.Bytes.{length-words-bytes, same-is, same-itself}
 use Rattle.sheet.specs.Laws.Agree.{agree-blank, blank-agree, agree-own, blank-twice}
 use Rattle.sheet.specs.Laws.Tested.{need-holds, need-accepted}
 use Rattle.sheet.specs.Laws.Plan.{holds-meets}
 use Rattle.sheet.specs.Laws.Sampling.{length-items, length-sheet}
+use Rattle.sheet.specs.Laws.Faithful.{angle-at}
 use Rattle.sheet.specs.Laws.Check.{formed-length, answer-formed}
 use Rattle.sheet.specs.Laws.Alike.{angles-same, items-same, answer-same, before-same}
 use Rattle.sheet.specs.Laws.Accepted.{work-passed, work-holds, work-fits, work-on, before-passed, before-count, answer-passed, answer-count, meets-passed}
@@ -85,6 +86,9 @@ counted r places room n e =
     let k = answer-count r places room n e in
     (k ∙ length-items r, length-sheet r (answer-passed r places room n e .whole) ∙ ap sheet-size (sym k))
 
+pub faithful : Faithful
+faithful r places room n e i h = angle-at r i (omega (arith, answer-count r places room n e))
+
 -- what is equal where Check accepts
 record Parts (r a : List ℕ) (m n places : ℕ) : Type 0 where
   meets : meets-none r ≡ true
@@ -115,7 +119,8 @@ sound s places n e =
     let h : frame-size ≤ length s = leb-true (core-size + trailer-size) (length s) (need-holds (leb (core-size + trailer-size) (length s)) 31 n _ e) in
     let g : formed s ≡ true = need-holds (formed s) 32 n _ f in
     let p = checked-parts (request-of s) (items-of s) (count-of s) n places (need-accepted (formed s) 32 n _ f) in
-    let t : trailer-of s ≡ trailer (count-of s) = same-is _ _ (and-right (ltb (count-of s) items-bound) _ (and-right (eqb (length s) (sheet-size (count-of s))) _ g)) in
+    let t : trailer-of s ≡ trailer (count-of s) = same-is _ _
+    (and-right (ltb (count-of s) items-bound) _ (and-right (eqb (length s) (sheet-size (count-of s))) _ g)) in
     let m : count-of s ≡ length (items (request-of s)) =
     omega
     (arith, formed-length s g, length-words-bytes (items (request-of s)), ap length (p .bytes), length-take-le (length s - frame-size) s (omega arith)) in
@@ -143,7 +148,7 @@ few = angles-few
 few-items : (r : List ℕ) → length (items r) < items-bound
 unfolding angles
 few-items r =
-    let f : length (angles r) < items-bound = few (job-of r) (matrix (rotation-of r)) in
+    let f : length (angles r) < items-bound = few (job-of r) in
     omega (arith, length-items r)
 
 pub complete : Complete

@@ -1,4 +1,4 @@
--- Where the fields stand: they lie inside the request, and each byte of a field is read where the field is. Assumes nothing.
+-- Where the fields stand: they lie inside the request, and each byte of a field is read where the field is.
 use Prim.Native.Nat.{ℕ, _+_, _-_, _/_, _≤_, _<_}
 use native.Mathlib.Omega.{arith}
 use mathlib.Core.Path.{_≡_}
@@ -31,13 +31,42 @@ byte-is s Reference j i a b c d =
     rw (le-ltb i 4 (omega arith), le-ltb i 10 (omega arith), le-ltb i 48 (omega arith), le-ltb i 72 (omega arith), lt-ltb i 120 (omega arith), e)
 byte-is s Offset j i a b c d =
     let e : (i - 120) / 8 + 1 ≡ j = omega arith in
-    rw (le-ltb i 4 (omega arith), le-ltb i 10 (omega arith), le-ltb i 48 (omega arith), le-ltb i 72 (omega arith), le-ltb i 120 (omega arith), lt-ltb i 168 (omega arith), e)
+    rw (
+      le-ltb i 4 (omega arith),
+      le-ltb i 10 (omega arith),
+      le-ltb i 48 (omega arith),
+      le-ltb i 72 (omega arith),
+      le-ltb i 120 (omega arith),
+      lt-ltb i 168
+          (omega arith),
+      e,
+    )
 byte-is s From j i a b c d =
     let e : (i - 168) / 8 + 1 ≡ j = omega arith in
-    rw (le-ltb i 4 (omega arith), le-ltb i 10 (omega arith), le-ltb i 48 (omega arith), le-ltb i 72 (omega arith), le-ltb i 120 (omega arith), le-ltb i 168 (omega arith), lt-ltb i 216 (omega arith), e)
+    rw (
+      le-ltb i 4 (omega arith),
+      le-ltb i 10 (omega arith),
+      le-ltb i 48 (omega arith),
+      le-ltb i 72 (omega arith),
+      le-ltb i 120 (omega arith),
+      le-ltb i 168
+          (omega arith),
+      lt-ltb i 216 (omega arith),
+      e,
+    )
 byte-is s To j i a b c d =
     let e : (i - 216) / 8 + 1 ≡ j = omega arith in
-    rw (le-ltb i 4 (omega arith), le-ltb i 10 (omega arith), le-ltb i 48 (omega arith), le-ltb i 72 (omega arith), le-ltb i 120 (omega arith), le-ltb i 168 (omega arith), le-ltb i 216 (omega arith), e)
+    rw (
+      le-ltb i 4 (omega arith),
+      le-ltb i 10 (omega arith),
+      le-ltb i 48 (omega arith),
+      le-ltb i 72 (omega arith),
+      le-ltb i 120 (omega arith),
+      le-ltb i 168
+          (omega arith),
+      le-ltb i 216 (omega arith),
+      e,
+    )
 
 -- bytes 0 to 3
 pub byte-first : (s : Shape) (i : ℕ) → i < 4 → byte-read s i ≡ true

@@ -1,77 +1,59 @@
 -- What inner functions find of a request that passed its tests is what the definitions say of it.
-use Prim.Native.Nat.{ℕ}
+use Prim.Native.Nat.{ℕ, _≤_}
 use native.Mathlib.Omega.{arith}
 use mathlib.Core.Path.{_≡_, refl, sym, ap, subst, _∙_}
 use mathlib.Core.Logic.{_⊎_, inl, inr}
-use mathlib.Core.List.{List}
+use mathlib.Core.List.{List, [], _∷_}
 use mathlib.Core.Bool.{Bool, true, false, cond, _&&_, false≢true}
 use lib.ListN.{length, getD}
 use lib.Dec.{T, eqb, leb}
-use lib.Ieee.{Float, nan, inf, fin, neg, le}
+use lib.Ieee.{Float, nan, inf, fin, neg, le, fits, binary64}
+use lib.Ieee.Bits.{ofBits-fits}
 use lib.Ieee.Fits.{and-l, and-r}
+use borrow.Author.Tests.{leb-true}
 use Rattle.float.specs.Number.{one-float}
 use Rattle.float.specs.Laws.Le.{le→Le, yes-of}
 use Rattle.float.specs.Laws.Tests.{and-left, and-right}
 use Rattle.float.specs.Promises.Order.{Within}
 use Rattle.float.specs.Laws.Within.{Le→within}
 use Rattle.polynomial.specs.Angle.{turn}
-use Rattle.sampling.specs.Pose.{try-normalize, from-quat}
+use Rattle.sampling.specs.Reads.{joint-read, reference-read}
 use Rattle.sampling.specs.Promises.Stream.{start}
-use Rattle.sampling.specs.Promises.Plan.{to-come}
-use Rattle.sampling.specs.Promises.Planned.{Moderate, Planned, Outcome, refused, short, found, came, outcome}
+use Rattle.sampling.specs.Promises.Plan.{Moderate, plan, work-after, to-come, Ready, Gives, step}
+use Rattle.sampling.specs.Laws.Plan.{plan-by, plan-ready, plan-yields, step-gives}
 use Rattle.sampling.specs.declared.plan.Plan.{Plan}
-use Rattle.sampling.specs.declared.job.Job.{Job}
-use Rattle.sampling.specs.declared.pose.Matrix.{Matrix}
-use Rattle.sampling.specs.declared.pose.Quaternion.{Quaternion}
-use Rattle.sampling.specs.declared.pose.Normalized.the-variants.{Unit}
+use Rattle.sampling.specs.declared.stream.Cursor.{Cursor}
+use Rattle.sampling.specs.declared.stream.Step.{Step}
+use Rattle.sampling.specs.declared.stream.Step.the-variants.{Yield, Done}
+use Rattle.sampling.specs.declared.job.Kind.the-variants.{J1free, J2free, J1j2free}
 use Rattle.sheet.specs.declared.refusals.Refusal.{Refusal}
 use Rattle.sheet.specs.declared.request.Shape.{Shape}
-use Rattle.sheet.specs.declared.request.Shape.the-variants.{Bad, Three}
-use Rattle.sheet.specs.Request.{shape-by, shape-fixed, shape-from, shape-of, joint-read, reference-read, reads}
-use Rattle.sheet.specs.Fields.{sign-of, joint-at, job-of, rotation-of, matrix, matrix-by}
+use Rattle.sheet.specs.declared.request.Shape.the-variants.{Bad, Right}
+use Rattle.sheet.specs.declared.request.Field.the-variants.{Sign, Reference, Offset}
+use Rattle.sheet.specs.Bytes.{words-bytes}
+use Rattle.sheet.specs.Request.{shape-of, reads}
+use Rattle.sheet.specs.Fields.{sign-of, joint-at, kind-of, job-of}
 use Rattle.sheet.specs.Refusals.{accepted, need, number}
 use Rattle.sheet.specs.Validate.{right, head-right, within}
 use Rattle.sheet.specs.Sampling.{angles, items, cut-count, holds, by-request, by-work, answer}
 use Rattle.sheet.specs.Check.{is-accepted, meets-none}
-use Rattle.sheet.specs.Bytes.{words-bytes}
 use Rattle.sheet.specs.Promises.Floats.{floats-bytes}
-use Rattle.sheet.specs.Laws.Bytes.{floats-words}
-use Rattle.sheet.specs.Laws.Sampling.{length-items}
 use Rattle.sheet.specs.Promises.Tested.{tested, Passed}
 use Rattle.sheet.specs.Promises.Plan.{is-refused, is-short, PlannedFor, planned-answer}
+use Rattle.sheet.specs.Laws.Bytes.{floats-words}
+use Rattle.sheet.specs.Laws.Sampling.{length-items}
 use Rattle.sheet.specs.Laws.Tested.{passed-validate, tested-refused, passed-reference, passed-offset}
 use Rattle.sheet.specs.Refusals as Refusals
 use Rattle.sheet.specs.declared.validate.Tested.the-variants as tests
 
 -- ---- kind 3 reads sign, offset and reference of joint 1
 
-Third : Shape → Type 0
-Third s = right s ≡ true → T (joint-read s 1 && reference-read s 1)
-
-third-bad : Third Bad
-unfolding Third right
-third-bad e = absurd (false≢true e)
-
-third-cond : (b : Bool) (s t : Shape) → Third s → Third t → Third (cond b s t)
-third-cond true s t x y = x
-third-cond false s t x y = y
-
-module _ (k : ℕ) (e : eqb k 1 ≡ false) (f : eqb k 2 ≡ false) where
-  third-three : (b c : Bool) → Third (Three b c)
-  unfolding Third joint-read reference-read
-  third-three b c h = tt
-
-  third-by : (b c : Bool) → Third (shape-by k b c)
-  unfolding shape-by
-  third-by b c = rw (e, f) (third-cond (eqb k 3) (Three b c) Bad (third-three b c) third-bad)
-
-  third-fixed : (b : Bool) (c : ℕ) → Third (shape-fixed k b c)
-  unfolding shape-fixed
-  third-fixed b c = third-cond (eqb c 0) _ _ (third-by b false) (third-cond (eqb c 1) _ _ (third-by b true) third-bad)
-
-  third-from : (b c : ℕ) → Third (shape-from k b c)
-  unfolding shape-from
-  third-from b c = third-cond (eqb b 0) _ _ (third-fixed false c) (third-cond (eqb b 1) _ _ (third-fixed true c) third-bad)
+folded-reads : (s : Shape) → right s ≡ true → kind-of s ≡ J1j2free → T (reads s Sign 1 && (reads s Offset 1 && reads s Reference 1))
+unfolding right kind-of reads joint-read reference-read
+folded-reads Bad h e = absurd (false≢true h)
+folded-reads (Right J1free limits fixed) h e = let z : _≡_ {A = ℕ} 0 1 = cc in absurd (omega arith)
+folded-reads (Right J2free limits fixed) h e = let z : _≡_ {A = ℕ} 0 1 = cc in absurd (omega arith)
+folded-reads (Right J1j2free limits fixed) h e = tt
 
 sign-either : (b : ℕ) → (sign-of b ≡ one-float) ⊎ (sign-of b ≡ neg one-float)
 unfolding sign-of
@@ -90,78 +72,83 @@ within-is (fin s m k) e =
     Le→within tt (le→Le (fin s m k) turn tt tt (yes-of (and-right (le (neg turn) (fin s m k)) _ e)))
     (le→Le (neg turn) (fin s m k) tt tt (yes-of (and-left (le (neg turn) (fin s m k)) _ e)))
 
--- so the plan may be asked for
-pub passed-moderate : (r : List ℕ) → Passed r → eqb (job-of r .kind) 1 ≡ false → eqb (job-of r .kind) 2 ≡ false → Moderate (job-of r .j1)
-unfolding job-of joint-at head-right shape-of Third reads
-passed-moderate r g e f =
-    let t = third-from (getD r 0 0) e f (getD r 1 0) (getD r 2 0) (and-left _ _ (g .head)) in
-    record {
-      sign = sign-either (getD r 4 0);
-      offset = within-is _ (passed-offset r g 1 (omega arith) (omega arith) (and-l (joint-read (shape-of r) 1) _ t));
-      reference = yes-of (passed-reference r g 1 (omega arith) (omega arith) (and-r (joint-read (shape-of r) 1) _ t));
-    }
+-- so the angles can be read off the plan
+module _ (r : List ℕ) (g : Passed r) where
+  passed-moderate : job-of r .kind ≡ J1j2free → Moderate (job-of r .j1)
+  unfolding job-of joint-at head-right
+  passed-moderate e =
+      let t = folded-reads (shape-of r) (and-left _ _ (g .head)) e in
+      let u = and-r (reads (shape-of r) Sign 1) _ t in
+      record {
+        sign = sign-either (getD r 4 0);
+        offset = within-is _ (passed-offset r g 1 (omega arith) (omega arith) (and-l (reads (shape-of r) Offset 1) _ u));
+        reference = yes-of (passed-reference r g 1 (omega arith) (omega arith) (and-r (reads (shape-of r) Offset 1) _ u));
+      }
 
--- a plan for the job that was read and the matrix of its normalized rotation
-pub planned-for : (r : List ℕ) (j : Job) (q : Quaternion) (m : Matrix) (n : ℕ) (p : Plan) (w : List Float)
-    → j ≡ job-of r → try-normalize (rotation-of r) ≡ Unit q → m ≡ from-quat q → length w ≡ n → Planned j m n p w → PlannedFor r p w
-unfolding matrix matrix-by
-planned-for r j q m n p w a b d e g =
-    let k : m ≡ matrix (rotation-of r) = d ∙ sym (ap matrix-by b) in
-    subst (λ (k : ℕ). Planned (job-of r) (matrix (rotation-of r)) k p w) (sym e)
-    (subst (λ (x : Matrix). Planned (job-of r) x n p w) k (subst (λ (x : Job). Planned x m n p w) a g))
+  -- a reference is read from its bits
+  reference-fits : T (fits binary64 (job-of r .j1 .reference))
+  unfolding job-of joint-at
+  reference-fits = ofBits-fits binary64 _
+
+  pub planned-for : (p : Plan) (v w : List Float) → p ≡ plan (job-of r) (length v) → w ≡ work-after (job-of r) v → length w ≡ length v → PlannedFor r p w
+  unfolding holds cut-count angles
+  planned-for p v w a b e =
+      record {
+        made = a ∙ ap (plan (job-of r)) (sym e);
+        ready = rw (a, b) (plan-ready v (job-of r) reference-fits passed-moderate);
+        yields = λ h k. rw (a, b) (plan-yields v (job-of r) reference-fits passed-moderate h (omega (arith, e)));
+      }
 
 -- ---- 9 and 10
 
--- what the outcome says of the two tests
-refused-no : (b c : Bool) → is-refused (cond b (cond c found short) refused) ≡ true → b ≡ false
+-- what the plan says of the two tests
+refused-no : (b c : Bool) → cond b (cond c false false) true ≡ true → b ≡ false
 refused-no true true e = absurd (false≢true e)
 refused-no true false e = absurd (false≢true e)
 refused-no false c e = refl
 
-refused-yes : (b c : Bool) → is-refused (cond b (cond c found short) refused) ≡ false → b ≡ true
+refused-yes : (b c : Bool) → cond b (cond c false false) true ≡ false → b ≡ true
 refused-yes true c e = refl
 refused-yes false c e = absurd (false≢true (sym e))
 
-short-no : (b c : Bool) → is-short (cond b (cond c found short) refused) ≡ true → c ≡ false
+short-no : (b c : Bool) → cond b (cond c false true) false ≡ true → c ≡ false
 short-no true true e = absurd (false≢true e)
 short-no true false e = refl
 short-no false c e = absurd (false≢true e)
 
-short-yes : (b c : Bool) → b ≡ true → is-short (cond b (cond c found short) refused) ≡ false → c ≡ true
+short-yes : (b c : Bool) → b ≡ true → cond b (cond c false true) false ≡ false → c ≡ true
 short-yes true true f e = refl
 short-yes true false f e = absurd (false≢true (sym e))
 short-yes false c f e = absurd (false≢true f)
 
-found-is : (o : Outcome) → is-refused o ≡ false → is-short o ≡ false → o ≡ found
-found-is refused e f = absurd (false≢true (sym e))
-found-is short e f = absurd (false≢true (sym f))
-found-is found e f = refl
-
 module _ (r : List ℕ) (p : Plan) (w : List Float) (g : PlannedFor r p w) where
-  abbrev fits : Bool
-  fits = leb (cut-count r) (length w)
+  abbrev fits-in : Bool
+  fits-in = leb (cut-count r) (length w)
 
-  came-is : came p ≡ cond (holds r) (cond fits found short) refused
-  unfolding holds cut-count outcome
-  came-is = g .outcome-is
+  refused-is : is-refused p ≡ cond (holds r) (cond fits-in false false) true
+  unfolding holds cut-count
+  refused-is = ap is-refused (g .made) ∙ plan-by true false false (job-of r) (length w)
 
-  pub holds-no : is-refused (came p) ≡ true → holds r ≡ false
-  holds-no e = refused-no (holds r) fits (sym (ap is-refused came-is) ∙ e)
+  short-is : is-short p ≡ cond (holds r) (cond fits-in false true) false
+  unfolding holds cut-count
+  short-is = ap is-short (g .made) ∙ plan-by false true false (job-of r) (length w)
 
-  pub fits-no : is-short (came p) ≡ true → fits ≡ false
-  fits-no e = short-no (holds r) fits (sym (ap is-short came-is) ∙ e)
+  pub holds-no : is-refused p ≡ true → holds r ≡ false
+  holds-no e = refused-no (holds r) fits-in (sym refused-is ∙ e)
 
-  module _ (e : is-refused (came p) ≡ false) where
+  pub fits-no : is-short p ≡ true → fits-in ≡ false
+  fits-no e = short-no (holds r) fits-in (sym short-is ∙ e)
+
+  module _ (e : is-refused p ≡ false) where
     pub holds-yes : holds r ≡ true
-    holds-yes = refused-yes (holds r) fits (sym (ap is-refused came-is) ∙ e)
+    holds-yes = refused-yes (holds r) fits-in (sym refused-is ∙ e)
 
-    module _ (f : is-short (came p) ≡ false) where
-      pub fits-yes : fits ≡ true
-      fits-yes = short-yes (holds r) fits holds-yes (sym (ap is-short came-is) ∙ f)
+    module _ (f : is-short p ≡ false) where
+      pub fits-yes : fits-in ≡ true
+      fits-yes = short-yes (holds r) fits-in holds-yes (sym short-is ∙ f)
 
       pub found-angles : to-come p w start ≡ angles r
-      unfolding angles
-      found-angles = g .yields (found-is (came p) e f)
+      found-angles = g .yields holds-yes (leb-true (cut-count r) (length w) fits-yes)
 
       pub found-count : length (to-come p w start) ≡ length (items r)
       found-count = ap length found-angles ∙ sym (length-items r)
@@ -169,6 +156,18 @@ module _ (r : List ℕ) (p : Plan) (w : List Float) (g : PlannedFor r p w) where
       pub found-items : floats-bytes (to-come p w start) ≡ words-bytes (items r)
       unfolding items
       found-items = ap floats-bytes found-angles ∙ floats-words (angles r)
+
+-- ---- the angles one at a time
+
+module _ (p : Plan) (w : List Float) (c : Cursor) (t : Step) (g : Ready p w) (e : t ≡ step p w c) where
+  gives : (s : Step) → t ≡ s → Gives (to-come p w c) (to-come p w) s
+  gives s f = subst (Gives (to-come p w c) (to-come p w)) (sym e ∙ f) (step-gives p w c g)
+
+  pub step-yields : (y : Float) (d : Cursor) → t ≡ Yield y d → to-come p w c ≡ y ∷ to-come p w d
+  step-yields y d f = gives (Yield y d) f
+
+  pub step-done : t ≡ Done → to-come p w c ≡ []
+  step-done f = gives Done f
 
 -- ---- Sampling
 

@@ -1,4 +1,4 @@
--- Sheets: how their runs of stores lie one after the other, and how long they are. Assumes nothing.
+-- Sheets: how their runs of stores lie one after the other, and how long they are.
 use Prim.Native.Nat.{ℕ, _+_, _*_, _≤_}
 use native.Mathlib.Omega.{arith}
 use mathlib.Core.Path.{_≡_, refl, sym, ap, _∙_}
@@ -45,8 +45,15 @@ lay-sheet r o xs n e h =
 length-laid : (r : List ℕ) (xs : List Float) (n : ℕ) → length r ≡ request-size → n ≡ length xs
     → length (floats-bytes xs ++ (blank r ++ trailer n)) ≡ sheet-size n
 length-laid r xs n e h =
-    omega
-    (arith, length-append (floats-bytes xs) (blank r ++ trailer n), length-append (blank r) (trailer n), length-floats-bytes xs, length-blank (shape-of r) 0 r, length-trailer n)
+    omega (
+      arith,
+      length-append (floats-bytes xs) (blank r ++ trailer n),
+      length-append (blank r) (trailer n),
+      length-floats-bytes xs,
+      length-blank (shape-of r) 0
+          r,
+      length-trailer n,
+    )
 
 pub length-items : (r : List ℕ) → length (items r) ≡ length (angles r)
 unfolding items

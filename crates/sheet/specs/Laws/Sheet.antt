@@ -1,4 +1,4 @@
--- The trailer: its length, and its four runs of stores one after the other. Assumes nothing.
+-- The trailer: its length, and its four runs of stores one after the other.
 use Prim.Native.Nat.{ℕ, _+_, _*_}
 use native.Mathlib.Omega.{arith}
 use mathlib.Core.Path.{_≡_}

@@ -74,7 +74,8 @@ test false k t v u e = refl
 after-fields : (r : List ℕ) (q : Quaternion) (v : Answer)
     → after (tested-fields r q) v ≡ need (arm-within r) 6 (need (references-finite r) 7 (need (offsets-within r) 8 v))
 after-fields r q v =
-    test (arm-within r) refusal.Arm _ v _ (test (references-finite r) refusal.Reference _ v _ (test (offsets-within r) refusal.Offset (tests.Passed q) v v refl))
+    test (arm-within r) refusal.Arm _ v _
+    (test (references-finite r) refusal.Reference _ v _ (test (offsets-within r) refusal.Offset (tests.Passed q) v v refl))
 
 after-rotation : (r : List ℕ) (n : Normalized) (v : Answer)
     → after (tested-rotation r n) v
@@ -106,7 +107,8 @@ module _ (r : List ℕ) (q : Quaternion) (e : tested r ≡ tests.Passed q) where
   unit : (n : Normalized) → tested-rotation r n ≡ tests.Passed q → n ≡ Unit q
   unfolding tested-rotation
   unit (Unit p) h =
-      let i : tests.Passed p ≡ tests.Passed q = inner (offsets-within r) refusal.Offset _ (inner (references-finite r) refusal.Reference _ (inner (arm-within r) refusal.Arm _ h)) in
+      let i : tests.Passed p ≡ tests.Passed q = inner (offsets-within r) refusal.Offset _
+      (inner (references-finite r) refusal.Reference _ (inner (arm-within r) refusal.Arm _ h)) in
       let z : p ≡ q = cc in
       ap Unit z
   unit NotFinite h = let z : _≡_ {A = ℕ} 0 1 = cc in absurd (omega arith)

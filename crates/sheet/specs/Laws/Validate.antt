@@ -1,4 +1,4 @@
--- Refusals 1 to 8 depend on what is read alone. Assumes nothing.
+-- Refusals 1 to 8 depend on what is read alone.
 use Prim.Native.Nat.{ℕ, zero, suc, _+_, _≤_, _<_}
 use native.Mathlib.Omega.{arith}
 use mathlib.Core.Path.{_≡_, refl, ap}

@@ -22,7 +22,8 @@ pub cut : (s : List ℕ) → frame-size ≤ length s → s ≡ items-of s ++ (re
 cut s h =
     let a : length s - frame-size + request-size ≡ length s - trailer-size = omega arith in
     let l : length (drop (length s - trailer-size) s) ≤ trailer-size = simp length-drop (omega arith) in
-    let t : trailer-of s ≡ drop request-size (drop (length s - frame-size) s) = take-all trailer-size (drop (length s - trailer-size) s) l ∙ ap (λ (k : ℕ). drop k s) (sym a) ∙ sym (drop-drop request-size (length s - frame-size) s) in
+    let t : trailer-of s ≡ drop request-size (drop (length s - frame-size) s) = take-all trailer-size (drop (length s - trailer-size) s) l ∙ ap
+    (λ (k : ℕ). drop k s) (sym a) ∙ sym (drop-drop request-size (length s - frame-size) s) in
     sym
     (ap (λ (x : List ℕ). items-of s ++ (request-of s ++ x)) t
     ∙ ap (λ (x : List ℕ). items-of s ++ x) (take-append-drop request-size (drop (length s - frame-size) s)) ∙ take-append-drop (length s - frame-size) s)

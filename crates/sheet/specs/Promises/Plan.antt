@@ -1,33 +1,32 @@
 -- What inner functions of Sampling and Check promise one another of a request's plan. Definitions only; `Laws.Plan` joins them to `Sampling` and `Check`.
-use Prim.Native.Nat.{ℕ}
+use Prim.Native.Nat.{ℕ, _≤_}
+use mathlib.Core.Path.{_≡_}
 use mathlib.Core.Bool.{Bool, true, false}
 use mathlib.Core.List.{List}
 use lib.ListN.{length}
 use lib.Dec.{leb}
 use lib.Ieee.{Float}
-use Rattle.sampling.specs.Promises.Planned.{Planned, Outcome}
+use Rattle.sampling.specs.Promises.Stream.{start}
+use Rattle.sampling.specs.Promises.Plan.{by-plan, plan, Ready, to-come}
 use Rattle.sampling.specs.declared.plan.Plan.{Plan}
 use Rattle.sheet.specs.Bytes.{words-bytes, same-bytes}
-use Rattle.sheet.specs.Fields.{job-of, rotation-of, matrix}
+use Rattle.sheet.specs.Fields.{job-of}
 use Rattle.sheet.specs.Refusals.{Answer, accepted, need}
-use Rattle.sheet.specs.Sampling.{items, cut-count, holds, sheet-size}
+use Rattle.sheet.specs.Sampling.{angles, items, cut-count, holds, sheet-size}
 use Rattle.sheet.specs.Check.{clean, meets-none}
-use Rattle.sampling.specs.Promises.Planned as planned
 
 -- 9, and 10
-abbrev pub is-refused : Outcome → Bool
-is-refused planned.refused = true
-is-refused planned.short = false
-is-refused planned.found = false
+abbrev pub is-refused : Plan → Bool
+is-refused p = by-plan p true false false
 
-abbrev pub is-short : Outcome → Bool
-is-short planned.refused = false
-is-short planned.short = true
-is-short planned.found = false
+abbrev pub is-short : Plan → Bool
+is-short p = by-plan p false true false
 
--- the plan for a request whose cuts stand in w
-abbrev pub PlannedFor : List ℕ → Plan → List Float → Type 0
-PlannedFor r p w = Planned (job-of r) (matrix (rotation-of r)) (length w) p w
+-- the plan for a request that passed its tests, whose cuts stand in w
+pub record PlannedFor (r : List ℕ) (p : Plan) (w : List Float) : Type 0 where
+  pub made : p ≡ plan (job-of r) (length w)
+  pub ready : Ready p w
+  pub yields : holds r ≡ true → cut-count r ≤ length w → to-come p w start ≡ angles r
 
 -- Sampling of a request that passed its tests: 9 to 11
 unfoldable pub planned-answer : List ℕ → ℕ → ℕ → Answer

@@ -1,4 +1,4 @@
--- `sheet::angles::put_between` meets its contract. The invariant: the samples that are left, stored now, give what is asked. Assumes nothing.
+-- `sheet::angles::put_between` meets its contract. The invariant: the samples that are left, stored now, give what is asked.
 use Prim.Native.Nat.{ℕ, _+_, _-_, _*_, _≤_}
 use native.Mathlib.Nat.{add-zero}
 use native.Mathlib.Omega.{arith}
@@ -15,7 +15,8 @@ use Rattle.sheet.proofs.angles.put_between.Tie as tie
 
 abbrev Inv-loop : tie.InvT-loop
 Inv-loop output₀ at list i₀ output i =
-    (i ≤ length list) × (length output ≡ length output₀) × (sets output (at + 24 * i) (floats-bytes (all-between (drop i list))) ≡ sets output₀ at (floats-bytes (all-between list)))
+    (i ≤ length list) × (length output ≡ length output₀) ×
+    (sets output (at + 24 * i) (floats-bytes (all-between (drop i list))) ≡ sets output₀ at (floats-bytes (all-between list)))
 
 abbrev μ-loop : tie.MeasureT-loop
 μ-loop output₀ at list i₀ output i = length list - i

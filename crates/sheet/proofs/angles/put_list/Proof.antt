@@ -1,4 +1,4 @@
--- `sheet::angles::put_list` meets its contract. The invariant: the floats that are left, stored now, give what is asked. Assumes nothing.
+-- `sheet::angles::put_list` meets its contract. The invariant: the floats that are left, stored now, give what is asked.
 use Prim.Native.Nat.{ℕ, _+_, _-_, _*_, _≤_}
 use native.Mathlib.Nat.{add-zero}
 use native.Mathlib.Omega.{arith}
@@ -63,9 +63,11 @@ returns : tie.Need-returns Inv-loop μ-loop
 returns c =
     let l = c .before in
     let a = l .before .before .before .args in
-    floats-end (l .loop .output) (a .at + 8 * l .loop .i) (drop (l .loop .i) (a .list .now)) (drop-of-length-le (a .list .now) (c .loop-test .left)) ∙ l .loop .inv .2
+    floats-end (l .loop .output) (a .at + 8 * l .loop .i) (drop (l .loop .i) (a .list .now)) (drop-of-length-le (a .list .now) (c .loop-test .left)) ∙
+    l .loop .inv .2
 
 pub put-list-spec : {M : Type 1} → statement M
 put-list-spec =
     tie.close
-    (tie.spec Inv-loop μ-loop loop-holds mul-put-float add-put-float mul-put-float-2 shared-slice-read-put-float put-float-requires add-i loop-less loop-again same-length returns)
+    (tie.spec Inv-loop μ-loop loop-holds mul-put-float add-put-float mul-put-float-2 shared-slice-read-put-float put-float-requires add-i loop-less loop-again
+    same-length returns)

@@ -1,4 +1,4 @@
--- `sheet::angles::put_part` meets its contract: what `put_samples` says of the part. Assumes nothing.
+-- `sheet::angles::put_part` meets its contract: what `put_samples` says of the part.
 use Prim.Native.Nat.{ℕ, _+_, _-_, _*_, _≤_}
 use native.Mathlib.Omega.{arith}
 use mathlib.Core.Path.{_≡_, sym, subst}
@@ -26,7 +26,8 @@ put-samples-requires c κs =
     let s = c .before .before .before .before in
     let a = s .args in
     let k = a .end - a .start in
-    let e : length (take k (drop (a .start) (a .work .now))) ≡ k = length-take-le k (drop (a .start) (a .work .now)) (omega (arith, length-drop (a .start) (a .work .now), s .pre .0, s .pre .1 .0)) in
+    let e : length (take k (drop (a .start) (a .work .now))) ≡ k = length-take-le k (drop (a .start) (a .work .now))
+    (omega (arith, length-drop (a .start) (a .work .now), s .pre .0, s .pre .1 .0)) in
     subst (λ (x : ℕ). a .at + 8 * sample-count x ≤ length (a .output .now)) (sym e) (s .pre .1 .1)
 
 same-length : tie.Need-same-length

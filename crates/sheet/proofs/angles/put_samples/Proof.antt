@@ -1,4 +1,4 @@
--- `sheet::angles::put_samples` meets its contract: the cuts, then the samples between neighbours. Assumes nothing.
+-- `sheet::angles::put_samples` meets its contract: the cuts, then the samples between neighbours.
 use Prim.Native.Nat.{_+_, _*_}
 use native.Mathlib.Omega.{arith}
 use mathlib.Core.Path.{refl}

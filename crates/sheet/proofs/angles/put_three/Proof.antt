@@ -1,4 +1,4 @@
--- `sheet::angles::put_three` meets its contract: one float after the other. Assumes nothing.
+-- `sheet::angles::put_three` meets its contract: one float after the other.
 use mathlib.Core.Path.{ap, _∙_}
 use mathlib.Core.List.{List}
 use lib.Ieee.{Float}
@@ -35,8 +35,12 @@ returns c =
     let b = c .before .before .before .before .before .before .before .before .before .before .before .before in
     let a = b .before .before .args in
     let r = b .between .result in
-    rw (c .before .before .put-float3 .ensures, c .before .before .before .before .before .before .put-float2 .ensures, c .before .before .before .before .before .before .before .before .before .before .put-float .ensures)
-    (three (a .output .now) (a .at) (r .first) (r .second) (r .third) ∙ ap (λ (l : List Float). sets (a .output .now) (a .at) (floats-bytes l)) (b .between .ensures))
+    let x = c .before .before .before .before .before .before .before .before .before .before .put-float .ensures in
+    let y = c .before .before .before .before .before .before .put-float2 .ensures in
+    rw (c .before .before .put-float3 .ensures, y, x)
+    (three (a .output .now) (a .at) (r .first) (r .second) (r .third) ∙ ap (λ (l : List Float). sets (a .output .now) (a .at) (floats-bytes l))
+    (b .between .ensures))
 
 pub put-three-spec : {M : Type 1} → statement M
-put-three-spec = tie.close (tie.spec between-requires put-float-requires add-put-float put-float-requires-2 add-put-float-2 put-float-requires-3 same-length returns)
+put-three-spec = tie.close (tie.spec between-requires put-float-requires add-put-float put-float-requires-2 add-put-float-2 put-float-requires-3 same-length
+    returns)

@@ -1,4 +1,4 @@
--- `sheet::bytes::float_at` meets its contract: at each return, what the calls and the tests on the way to it say. Assumes nothing.
+-- `sheet::bytes::float_at` meets its contract: at each return, what the calls and the tests on the way to it say.
 use borrow.Author.Needs.{needs}
 use Rattle.sheet.proofs.bytes.float_at.Statement.{statement}
 use Rattle.sheet.proofs.bytes.float_at.Tie as tie

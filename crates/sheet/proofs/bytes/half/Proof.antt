@@ -1,4 +1,4 @@
--- `sheet::bytes::half` meets its contract: at each return, what the calls and the tests on the way to it say. Assumes nothing.
+-- `sheet::bytes::half` meets its contract: at each return, what the calls and the tests on the way to it say.
 use mathlib.Core.Path.{sym, _∙_}
 use borrow.Author.Needs.{needs}
 use Rattle.sheet.specs.Laws.Bytes.{half-is}
@@ -33,4 +33,5 @@ returns : tie.Need-returns
 returns c = (c .of-four .ensures) ∙ sym (half-is _ _ (c .before .before .before .before .before .before .pre))
 
 pub half-spec : {M : Type 1} → statement M
-half-spec = tie.close (tie.spec shared-slice-read-of-four add-of-four shared-slice-read-of-four-2 add-of-four-2 shared-slice-read-of-four-3 add-of-four-3 shared-slice-read-of-four-4 of-four-requires returns)
+half-spec = tie.close (tie.spec shared-slice-read-of-four add-of-four shared-slice-read-of-four-2 add-of-four-2 shared-slice-read-of-four-3 add-of-four-3
+    shared-slice-read-of-four-4 of-four-requires returns)

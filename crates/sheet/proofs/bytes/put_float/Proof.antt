@@ -1,4 +1,4 @@
--- `sheet::bytes::put_float` meets its contract: at each return, what the calls and the tests on the way to it say. Assumes nothing.
+-- `sheet::bytes::put_float` meets its contract: at each return, what the calls and the tests on the way to it say.
 use Prim.Native.Nat.{ℕ}
 use mathlib.Core.Path.{ap, _∙_}
 use lib.Seq.{sets}
@@ -17,7 +17,9 @@ same-length : tie.Need-same-length
 same-length c = search needs
 
 returns : tie.Need-returns
-returns c = (c .before .before .put .ensures) ∙ ap (λ (v : ℕ). sets (c .before .before .before .before .before .before .args .out .now) (c .before .before .before .before .before .before .args .at) (bytes 8 v)) (c .before .before .before .bits .ensures)
+returns c = (c .before .before .put .ensures) ∙ ap
+    (λ (v : ℕ). sets (c .before .before .before .before .before .before .args .out .now) (c .before .before .before .before .before .before .args .at)
+    (bytes 8 v)) (c .before .before .before .bits .ensures)
 
 pub put-float-spec : {M : Type 1} → statement M
 put-float-spec = tie.close (tie.spec bits-requires put-requires same-length returns)

@@ -1,4 +1,4 @@
--- `sheet::bytes::same_float` meets its contract: at each return, what the calls and the tests on the way to it say. Assumes nothing.
+-- `sheet::bytes::same_float` meets its contract: at each return, what the calls and the tests on the way to it say.
 use mathlib.Core.Path.{_∙_}
 use lib.Ieee.{toBits, binary64}
 use lib.ListN.{replicate}
@@ -22,7 +22,9 @@ same-at-requires : tie.Need-same-at-requires
 same-at-requires c = search needs
 
 returns : tie.Need-returns
-returns c = (c .same-at .ensures) ∙ over-same (c .before .before .before .before .before .before .args .s .now) _ (replicate 8 0) (float-bytes (c .before .before .before .before .before .before .args .x)) (c .before .before .before .before .before .before .args .at) (length-bytes 8 (toBits binary64 (c .before .before .before .before .before .before .args .x))) (c .before .before .before .put-float .ensures)
+returns c = (c .same-at .ensures) ∙ over-same (c .before .before .before .before .before .before .args .s .now) _ (replicate 8 0)
+    (float-bytes (c .before .before .before .before .before .before .args .x)) (c .before .before .before .before .before .before .args .at)
+    (length-bytes 8 (toBits binary64 (c .before .before .before .before .before .before .args .x))) (c .before .before .before .put-float .ensures)
 
 pub same-float-spec : {M : Type 1} → statement M
 same-float-spec = tie.close (tie.spec slice-aggregate-put-float put-float-requires slice-aggregate-same-at same-at-requires returns)

@@ -1,4 +1,4 @@
--- `sheet::bytes::word` meets its contract: at each return, what the calls and the tests on the way to it say. Assumes nothing.
+-- `sheet::bytes::word` meets its contract: at each return, what the calls and the tests on the way to it say.
 use native.Mathlib.Omega.{arith}
 use borrow.Author.Needs.{needs}
 use Rattle.sheet.specs.Laws.Bytes.{word-is}
@@ -18,7 +18,14 @@ of-halves-requires : tie.Need-of-halves-requires
 of-halves-requires c = search needs
 
 returns : tie.Need-returns
-returns c = omega (arith, (c .of-halves .ensures), (c .before .before .half .ensures), (c .before .half2 .ensures), word-is (c .before .before .before .before .args .s .now) (c .before .before .before .before .args .at) (c .before .before .before .before .pre))
+returns c = omega (
+  arith,
+  (c .of-halves .ensures),
+  (c .before .before .half .ensures),
+  (c .before .half2 .ensures),
+  word-is
+      (c .before .before .before .before .args .s .now) (c .before .before .before .before .args .at) (c .before .before .before .before .pre),
+)
 
 pub word-spec : {M : Type 1} → statement M
 word-spec = tie.close (tie.spec half-requires add-half half-requires-2 of-halves-requires returns)

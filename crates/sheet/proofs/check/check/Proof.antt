@@ -1,6 +1,6 @@
--- `sheet::check::check` meets its contract: at each return, what the calls and the tests on the way to it say. Assumes nothing.
-use mathlib.Core.Path.{ap, _∙_}
+-- `sheet::check::check` meets its contract: at each return, what the calls and the tests on the way to it say.
 use borrow.Author.Needs.{needs}
+use mathlib.Core.Path.{ap, _∙_}
 use Rattle.sheet.specs.Bytes.{zeros}
 use Rattle.sheet.proofs.check.check.Statement.{statement}
 use Rattle.sheet.proofs.check.check.Tie as tie
@@ -15,7 +15,9 @@ same-length : tie.Need-same-length
 same-length c = search needs
 
 returns : tie.Need-returns
-returns c = ((c .before .before .before .before .before .before .inspect .ensures), (c .before .before .clear .ensures) ∙ ap zeros (c .before .before .before .before .before .before .inspect .kept .1 .0))
+returns c =
+    let r = c .before .before .before .before .before .before .inspect in
+    (r .ensures, c .before .before .clear .ensures ∙ ap zeros (r .kept .1 .0))
 
 pub check-spec : {M : Type 1} → statement M
 check-spec = tie.close (tie.spec inspect-requires clear-requires same-length returns)

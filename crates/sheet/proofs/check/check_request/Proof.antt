@@ -1,10 +1,10 @@
 -- `sheet::check::check_request` meets its contract: at each return, what the calls and the tests on the way to it say.
 use borrow.Author.Needs.{needs}
-use mathlib.Core.Path.{sym, ap, _∙_}
-use lib.ListN.{length}
+use native.Mathlib.Omega.{arith}
+use mathlib.Core.Path.{sym, _∙_}
 use Rattle.sheet.specs.Refusals.{need}
-use Rattle.sheet.specs.Promises.Plan.{checked, compared}
-use Rattle.sheet.specs.Laws.Plan.{holds-no, holds-yes, refused-meets, holds-meets}
+use Rattle.sheet.specs.Promises.Plan.{checked}
+use Rattle.sheet.specs.Laws.Plan.{planned-for, holds-no, holds-yes, refused-meets, holds-meets}
 use Rattle.sheet.specs.Laws.Tested.{tested-passed, tested-unit}
 use Rattle.sheet.proofs.check.check_request.Statement.{statement}
 use Rattle.sheet.proofs.check.check_request.Tie as tie
@@ -18,7 +18,7 @@ enum-known-t c = search needs
 plan-request-requires : tie.Need-plan-request-requires
 plan-request-requires c =
     let e = sym (c .before .before .before .before .validate .ensures) ∙ c .before .before .t .given .1 in
-    λ κs. (tested-passed _ _ e, tested-unit _ _ e)
+    λ κs. (omega (arith, tested-passed _ _ e .whole), tested-unit _ _ e)
 
 is-refused-requires : tie.Need-is-refused-requires
 is-refused-requires c = search needs
@@ -29,14 +29,23 @@ same-length c = search needs
 returns : tie.Need-returns
 unfolding checked need
 returns c =
-    let e = sym (c .before .before .before .before .before .before .before .before .before .validate .ensures) ∙ c .before .before .before .before .before .before .before .t .given .1 in
-    let h = holds-no _ _ _ (c .before .before .before .before .plan-request .ensures) (sym (c .before .is-refused .ensures) ∙ c .if1 .taken) in
-    rw (holds-meets _ (tested-passed _ _ e) ∙ h)
+    let e = sym (c .before .before .before .before .before .before .before .before .before .validate .ensures)
+    ∙ c .before .before .before .before .before .before .before .t .given .1 in
+    let p = c .before .before .before .before .plan-request in
+    let g = tested-passed _ _ e in
+    let w = c .before .before .before .before .before .before .before .before .before .before .before .before .before .args .work .now in
+    let f = planned-for _ g (p .result) w (p .last .0) (p .ensures .0) (p .ensures .1) (p .kept .0) in
+    rw (holds-meets _ g ∙ holds-no _ _ _ f (sym (c .before .is-refused .ensures) ∙ c .if1 .taken))
 
 compare-requires : tie.Need-compare-requires
 compare-requires c =
-    let e = sym (c .before .before .before .before .before .before .before .before .before .before .validate .ensures) ∙ c .before .before .before .before .before .before .before .before .t .given .1 in
-    λ κs. (tested-passed _ _ e .whole, (c .before .before .before .before .before .plan-request .ensures, sym (c .before .before .is-refused .ensures) ∙ c .before .if1 .left))
+    let e = sym (c .before .before .before .before .before .before .before .before .before .before .validate .ensures)
+    ∙ c .before .before .before .before .before .before .before .before .t .given .1 in
+    let p = c .before .before .before .before .before .plan-request in
+    let g = tested-passed _ _ e in
+    let w = c .before .before .before .before .before .before .before .before .before .before .before .before .before .before .args .work .now in
+    let f = planned-for _ g (p .result) w (p .last .0) (p .ensures .0) (p .ensures .1) (p .kept .0) in
+    λ κs. (g .whole, (f, sym (c .before .before .is-refused .ensures) ∙ c .before .if1 .left))
 
 enum-told : tie.Need-enum-told
 enum-told c = search needs
@@ -47,9 +56,14 @@ same-length-2 c = search needs
 returns-2 : tie.Need-returns-2
 unfolding checked need
 returns-2 c =
-    let e = sym (c .before .before .before .before .before .before .before .before .before .before .before .validate .ensures) ∙ c .before .before .before .before .before .before .before .before .before .t .given .1 in
-    let h = holds-yes _ _ _ (c .before .before .before .before .before .before .plan-request .ensures) (sym (c .before .before .before .is-refused .ensures) ∙ c .before .before .if1 .left) in
-    rw (holds-meets _ (tested-passed _ _ e) ∙ h, ← c .before .before .before .before .before .before .plan-request .kept .0) (c .compare .ensures)
+    let e = sym (c .before .before .before .before .before .before .before .before .before .before .before .validate .ensures)
+    ∙ c .before .before .before .before .before .before .before .before .before .t .given .1 in
+    let p = c .before .before .before .before .before .before .plan-request in
+    let g = tested-passed _ _ e in
+    let w = c .before .before .before .before .before .before .before .before .before .before .before .before .before .before .before .args .work .now in
+    let f = planned-for _ g (p .result) w (p .last .0) (p .ensures .0) (p .ensures .1) (p .kept .0) in
+    rw (holds-meets _ g ∙ holds-yes _ _ _ f (sym (c .before .before .before .is-refused .ensures) ∙ c .before .before .if1 .left), ← p .kept .0)
+    (c .compare .ensures)
 
 returns-3 : tie.Need-returns-3
 unfolding checked need
@@ -58,4 +72,5 @@ returns-3 c =
     rw (refused-meets (a .request .now) _ (sym (c .before .before .validate .ensures) ∙ c .enum-told .given .1))
 
 pub check-request-spec : {M : Type 1} → statement M
-check-request-spec = tie.close (tie.spec validate-requires enum-known-t plan-request-requires is-refused-requires same-length returns compare-requires enum-told same-length-2 returns-2 returns-3)
+check-request-spec = tie.close (tie.spec validate-requires enum-known-t plan-request-requires is-refused-requires same-length returns compare-requires
+    enum-told same-length-2 returns-2 returns-3)

@@ -1,6 +1,6 @@
--- `sheet::check::formed` meets its contract: at each return, what the calls and the tests on the way to it say. Assumes nothing.
-use mathlib.Core.Path.{refl, _∙_}
+-- `sheet::check::formed` meets its contract: at each return, what the calls and the tests on the way to it say.
 use borrow.Author.Needs.{needs}
+use mathlib.Core.Path.{refl, _∙_}
 use Rattle.sheet.specs.Laws.Check.{formed-no, formed-wide, formed-by}
 use Rattle.sheet.proofs.check.formed.Statement.{statement}
 use Rattle.sheet.proofs.check.formed.Tie as tie
@@ -12,10 +12,14 @@ add-if1 : tie.Need-add-if1
 add-if1 c = search needs
 
 returns : tie.Need-returns
-returns c = formed-no (c .before .before .args .sheet .now) (c .before .before .args .n) (c .before .before .pre .1 .0) (c .if1 .taken)
+returns c =
+    let s = c .before .before in
+    formed-no (s .args .sheet .now) (s .args .n) (s .pre .1 .0) (c .if1 .taken)
 
 returns-2 : tie.Need-returns-2
-returns-2 c = formed-wide (c .before .before .before .args .sheet .now) (c .before .before .before .args .n) (c .before .before .before .pre .1 .0) (c .before .if1 .left) (c .if2 .taken)
+returns-2 c =
+    let s = c .before .before .before in
+    formed-wide (s .args .sheet .now) (s .args .n) (s .pre .1 .0) (c .before .if1 .left) (c .if2 .taken)
 
 slice-aggregate-put-trailer : tie.Need-slice-aggregate-put-trailer
 slice-aggregate-put-trailer c = search needs
@@ -33,7 +37,12 @@ same-at-requires : tie.Need-same-at-requires
 same-at-requires c = search needs
 
 returns-3 : tie.Need-returns-3
-returns-3 c = (c .same-at .ensures) ∙ formed-by (c .before .before .before .before .before .before .before .before .args .sheet .now) _ _ (c .before .before .before .before .before .before .before .before .args .n) (c .before .before .before .before .before .before .before .before .pre .1 .0) (c .before .before .before .before .before .before .if1 .left) (c .before .before .before .before .before .if2 .left) refl (c .before .before .before .put-trailer .ensures)
+returns-3 c =
+    let s = c .before .before .before .before .before .before .before .before in
+    let e = c .before .before .before .before .before .before .if1 .left in
+    let f = c .before .before .before .before .before .if2 .left in
+    c .same-at .ensures ∙ formed-by (s .args .sheet .now) _ _ (s .args .n) (s .pre .1 .0) e f refl (c .before .before .before .put-trailer .ensures)
 
 pub formed-spec : {M : Type 1} → statement M
-formed-spec = tie.close (tie.spec mul-if1 add-if1 returns returns-2 slice-aggregate-put-trailer put-trailer-requires sub-same-at slice-aggregate-same-at same-at-requires returns-3)
+formed-spec = tie.close (tie.spec mul-if1 add-if1 returns returns-2 slice-aggregate-put-trailer put-trailer-requires sub-same-at slice-aggregate-same-at
+    same-at-requires returns-3)

@@ -26,7 +26,8 @@ formed-requires c = search needs
 returns-2 : tie.Need-returns-2
 returns-2 c =
     let a = c .before .before .before .before .before .before .args in
-    answer-trailer (a .sheet .now) (length (a .work .now)) (c .before .before .before .if1 .left) (sym (c .before .formed .ensures) ∙ not-true _ (c .if2 .taken))
+    answer-trailer (a .sheet .now) (length (a .work .now)) (c .before .before .before .if1 .left)
+    (sym (c .before .formed .ensures) ∙ not-true _ (c .if2 .taken))
 
 sub-at : tie.Need-sub-at
 sub-at c = search needs
@@ -35,7 +36,8 @@ add-end : tie.Need-add-end
 add-end c = search needs
 
 slice-aggregate-check-request : tie.Need-slice-aggregate-check-request
-slice-aggregate-check-request c = sym (length-take-le (length (c .before .before .before .before .before .before .before .args .sheet .now) - frame-size) (c .before .before .before .before .before .before .before .args .sheet .now) (omega arith))
+slice-aggregate-check-request c = sym (length-take-le (length (c .before .before .before .before .before .before .before .args .sheet .now) - frame-size)
+    (c .before .before .before .before .before .before .before .args .sheet .now) (omega arith))
 
 sub-check-request : tie.Need-sub-check-request
 sub-check-request c = search needs
@@ -58,9 +60,13 @@ returns-3 c =
     let p = length (a .work .now) in
     let n = c .before .before .before .before .before .before .before .before .count-of .ensures .0 in
     c .before .before .check-request .ensures
-    ∙ ap (λ (q : List ℕ). checked q (items-of (a .sheet .now)) (c .before .before .before .before .before .before .before .before .count-of .result) p) (request-is (a .sheet .now) _ refl)
+    ∙ ap (λ (q : List ℕ). checked q (items-of (a .sheet .now)) (c .before .before .before .before .before .before .before .before .count-of .result) p)
+    (request-is (a .sheet .now) _ refl)
     ∙ ap (λ (m : ℕ). checked (request-of (a .sheet .now)) (items-of (a .sheet .now)) m p) n
-    ∙ sym (answer-formed (a .sheet .now) p (c .before .before .before .before .before .before .before .before .before .if1 .left) (sym (c .before .before .before .before .before .before .before .formed .ensures) ∙ not-false _ (c .before .before .before .before .before .before .if2 .left)))
+    ∙ sym (answer-formed (a .sheet .now) p (c .before .before .before .before .before .before .before .before .before .if1 .left)
+    (sym (c .before .before .before .before .before .before .before .formed .ensures) ∙ not-false _
+    (c .before .before .before .before .before .before .if2 .left)))
 
 pub inspect-spec : {M : Type 1} → statement M
-inspect-spec = tie.close (tie.spec returns count-of-requires formed-requires returns-2 sub-at add-end slice-aggregate-check-request sub-check-request part-check-request-start part-check-request-end check-request-requires same-length returns-3)
+inspect-spec = tie.close (tie.spec returns count-of-requires formed-requires returns-2 sub-at add-end slice-aggregate-check-request sub-check-request
+    part-check-request-start part-check-request-end check-request-requires same-length returns-3)

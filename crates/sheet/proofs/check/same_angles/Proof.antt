@@ -1,4 +1,4 @@
--- `sheet::check::same_angles` meets its contract. The invariant: the bytes and the angles that are left decide. The measure is what is still to come. Assumes nothing.
+-- `sheet::check::same_angles` meets its contract. The invariant: the bytes and the angles that are left decide. The measure is what is still to come.
 use Prim.Native.Nat.{_≤_}
 use native.Mathlib.Omega.{arith}
 use mathlib.Core.Path.{_≡_, sym, ap, subst, _∙_}
@@ -8,17 +8,18 @@ use lib.Ieee.{Float}
 use borrow.Author.Needs.{needs}
 use borrow.Author.Tests.{not-true, not-false}
 use Rattle.sampling.specs.Promises.Stream.{start}
-use Rattle.sampling.specs.Promises.Plan.{to-come, Gives}
+use Rattle.sampling.specs.Promises.Plan.{to-come}
 use Rattle.sampling.specs.declared.stream.Cursor.{Cursor}
-use Rattle.sampling.specs.declared.stream.Step.{Step}
 use Rattle.sheet.specs.Bytes.{same-bytes}
+use Rattle.sheet.specs.Laws.Plan.{step-yields, step-done}
 use Rattle.sheet.specs.Promises.Floats.{floats-bytes}
 use Rattle.sheet.proofs.check.Floats.{float-short, float-turn, float-stop, float-end}
 use Rattle.sheet.proofs.check.same_angles.Statement.{statement}
 use Rattle.sheet.proofs.check.same_angles.Tie as tie
 
 abbrev Inv-loop : tie.InvT-loop
-Inv-loop s work plan c₀ at₀ c at = (at ≤ length s) × (same-bytes (drop at s) (floats-bytes (to-come plan work c)) ≡ same-bytes s (floats-bytes (to-come plan work start)))
+Inv-loop s work plan c₀ at₀ c at = (at ≤ length s) ×
+    (same-bytes (drop at s) (floats-bytes (to-come plan work c)) ≡ same-bytes s (floats-bytes (to-come plan work start)))
 
 abbrev μ-loop : tie.MeasureT-loop
 μ-loop s work plan c₀ at₀ c at = length (to-come plan work c)
@@ -41,7 +42,7 @@ module _ (c : tie.After-t Inv-loop μ-loop) where
   d = c .t .given .0 .1 .0
 
   came : left (at .loop .c) ≡ y ∷ left d
-  came = subst (λ (s : Step). Gives (left (at .loop .c)) left s) (c .t .given .1) (c .before .before .next .ensures)
+  came = step-yields (first .args .plan) (first .args .work .now) (at .loop .c) _ (first .pre) (c .before .before .next .ensures) _ _ (c .t .given .1)
 
 start-requires : tie.Need-start-requires Inv-loop μ-loop
 start-requires c κs = tt
@@ -60,10 +61,10 @@ enum-told c = search needs
 returns : tie.Need-returns Inv-loop μ-loop
 returns c =
     let l = c .before .before .before .loop in
-    let p = c .before .before .before .before .before .before .before .args in
-    let left : Cursor → List Float = to-come (p .plan) (p .work .now) in
-    let e : left (l .c) ≡ [] = subst (λ (s : Step). Gives (left (l .c)) left s) (c .enum-told .given .1) (c .before .before .next .ensures) in
-    float-end (p .s .now) (l .at) (left (l .c)) e (l .inv .0) ∙ l .inv .1
+    let b = c .before .before .before .before .before .before .before in
+    let p = b .args in
+    let e = step-done (p .plan) (p .work .now) (l .c) _ (b .pre) (c .before .before .next .ensures) (c .enum-told .given .1) in
+    float-end (p .s .now) (l .at) (to-come (p .plan) (p .work .now) (l .c)) e (l .inv .0) ∙ l .inv .1
 
 enum-known-t : tie.Need-enum-known-t Inv-loop μ-loop
 enum-known-t c = search needs

@@ -1,4 +1,4 @@
--- `sheet::fields::arm_of` meets its contract: at each return, what the calls and the tests on the way to it say. Assumes nothing.
+-- `sheet::fields::arm_of` meets its contract: at each return, what the calls and the tests on the way to it say.
 use borrow.Author.Needs.{needs}
 use Rattle.sheet.specs.Fields.{arm-of}
 use Rattle.sheet.proofs.fields.arm_of.Statement.{statement}

@@ -1,4 +1,4 @@
--- `sheet::fields::joint_at` meets its contract: at each return, what the calls and the tests on the way to it say. Assumes nothing.
+-- `sheet::fields::joint_at` meets its contract: at each return, what the calls and the tests on the way to it say.
 use borrow.Author.Needs.{needs}
 use Rattle.sheet.specs.Fields.{joint-at}
 use Rattle.sheet.proofs.fields.joint_at.Statement.{statement}
@@ -27,7 +27,16 @@ field-at-requires-4 c = search needs
 
 returns : tie.Need-returns
 unfolding joint-at
-returns c = simp (← c .before .before .before .before .before .before .place .ensures, ← c .before .before .before .before .before .byte-at .ensures, ← c .before .before .before .before .sign-of .ensures, ← c .before .before .before .field-at .ensures, ← c .before .before .field-at2 .ensures, ← c .before .field-at3 .ensures, ← c .field-at4 .ensures)
+returns c = simp (
+  ← c .before .before .before .before .before .before .place .ensures,
+  ← c .before .before .before .before .before .byte-at .ensures,
+  ← c .before .before .before .before .sign-of .ensures,
+  ← c .before .before .before .field-at .ensures,
+  ← c .before .before .field-at2 .ensures,
+  ← c .before .field-at3 .ensures,
+  ← c .field-at4 .ensures,
+)
 
 pub joint-at-spec : {M : Type 1} → statement M
-joint-at-spec = tie.close (tie.spec place-requires byte-at-requires sign-of-requires field-at-requires field-at-requires-2 field-at-requires-3 field-at-requires-4 returns)
+joint-at-spec = tie.close (tie.spec place-requires byte-at-requires sign-of-requires field-at-requires field-at-requires-2 field-at-requires-3
+    field-at-requires-4 returns)

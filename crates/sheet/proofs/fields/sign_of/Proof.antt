@@ -1,4 +1,4 @@
--- `sheet::fields::sign_of` meets its contract: at each return, what the calls and the tests on the way to it say. Assumes nothing.
+-- `sheet::fields::sign_of` meets its contract: at each return, what the calls and the tests on the way to it say.
 use lib.Ieee.{ofBits}
 use borrow.Author.Tests.{ne-eqb}
 use Rattle.sheet.specs.Fields.{sign-of}

@@ -1,8 +1,8 @@
--- `sheet::interface::sheet_check` meets its contract: at each return, what the calls and the tests on the way to it say. Assumes nothing.
+-- `sheet::interface::sheet_check` meets its contract: at each return, what the calls and the tests on the way to it say.
+use borrow.Author.Needs.{needs}
 use native.Mathlib.Omega.{arith}
 use mathlib.Core.Path.{sym, ap, _∙_}
 use lib.ListN.{length}
-use borrow.Author.Needs.{needs}
 use mir.Syntax.{w64}
 use mir.ValLaws.{toZ-ofZ}
 use Rattle.sheet.specs.Laws.Demands.{checked-length}
@@ -14,13 +14,19 @@ check-requires : tie.Need-check-requires
 check-requires c = search needs
 
 checked-number-requires : tie.Need-checked-number-requires
-checked-number-requires c = λ κs n e. omega (arith, checked-length (c .before .before .before .before .before .before .args .sheet .now) (length (c .before .before .before .before .before .before .args .work .now)) n (sym ((c .before .before .check .ensures) .0) ∙ e), c .before .before .before .before .before .before .good)
+checked-number-requires c =
+    let s = c .before .before .before .before .before .before in
+    let p = c .before .before .check .ensures .0 in
+    λ κs n e. omega (arith, checked-length (s .args .sheet .now) (length (s .args .work .now)) n (sym p ∙ e), s .good)
 
 same-length : tie.Need-same-length
 same-length c = search needs
 
 returns : tie.Need-returns
-returns c = (toZ-ofZ w64 (c .checked-number .result) (record { sfits = c .checked-number .ok }) ∙ (c .checked-number .ensures) ∙ ap signed ((c .before .before .before .check .ensures) .0), (c .before .before .before .check .ensures) .1)
+returns c =
+    let p = c .before .before .before .check .ensures in
+    let r = c .checked-number in
+    (toZ-ofZ w64 (r .result) (record { sfits = r .ok }) ∙ r .ensures ∙ ap signed (p .0), p .1)
 
 pub sheet-check-spec : {M : Type 1} → statement M
 sheet-check-spec = tie.close (tie.spec check-requires checked-number-requires same-length returns)

@@ -40,4 +40,5 @@ returns-6 : tie.Need-returns-6
 returns-6 c = simp (c .enum-told6 .given .1)
 
 pub fault-number-spec : {M : Type 1} → statement M
-fault-number-spec = tie.close (tie.spec enum-told enum-told-2 enum-told-3 enum-told-4 enum-told-5 enum-told-6 returns returns-2 returns-3 returns-4 returns-5 returns-6)
+fault-number-spec = tie.close (tie.spec enum-told enum-told-2 enum-told-3 enum-told-4 enum-told-5 enum-told-6 returns returns-2 returns-3 returns-4 returns-5
+    returns-6)

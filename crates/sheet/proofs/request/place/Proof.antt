@@ -1,4 +1,4 @@
--- `sheet::request::place` meets its contract: at each return, what the calls and the tests on the way to it say. Assumes nothing.
+-- `sheet::request::place` meets its contract: at each return, what the calls and the tests on the way to it say.
 use native.Mathlib.Omega.{arith}
 use borrow.Author.Needs.{needs}
 use Rattle.sheet.proofs.request.place.Statement.{statement}
@@ -92,4 +92,6 @@ returns-6 : tie.Need-returns-6
 returns-6 c = simp (c .enum-told6 .given .1) (omega arith)
 
 pub place-spec : {M : Type 1} → statement M
-place-spec = tie.close (tie.spec enum-told sub-result add-result enum-told-2 sub-result-2 mul-result add-result-2 enum-told-3 sub-result-3 mul-result-2 add-result-3 enum-told-4 sub-result-4 mul-result-3 add-result-4 enum-told-5 sub-result-5 mul-result-4 add-result-5 enum-told-6 sub-result-6 mul-result-5 add-result-6 returns returns-2 returns-3 returns-4 returns-5 returns-6)
+place-spec = tie.close (tie.spec enum-told sub-result add-result enum-told-2 sub-result-2 mul-result add-result-2 enum-told-3 sub-result-3 mul-result-2
+    add-result-3 enum-told-4 sub-result-4 mul-result-3 add-result-4 enum-told-5 sub-result-5 mul-result-4 add-result-5 enum-told-6 sub-result-6 mul-result-5
+    add-result-6 returns returns-2 returns-3 returns-4 returns-5 returns-6)

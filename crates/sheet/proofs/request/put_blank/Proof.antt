@@ -1,4 +1,4 @@
--- `sheet::request::put_blank` meets its contract. The invariant: what is still to be stored, stored now, gives what is asked. Assumes nothing.
+-- `sheet::request::put_blank` meets its contract. The invariant: what is still to be stored, stored now, gives what is asked.
 use Prim.Native.Nat.{_≤_, _<_, _+_, _-_, _%_}
 use native.Mathlib.Omega.{arith}
 use native.Mathlib.Nat.{add-zero}

@@ -1,4 +1,4 @@
--- `sheet::request::read_on` meets its contract: at each return, what the call and the tests on the way to it say. Assumes nothing.
+-- `sheet::request::read_on` meets its contract: at each return, what the call and the tests on the way to it say.
 use native.Mathlib.Omega.{arith}
 use borrow.Author.Needs.{needs}
 use Rattle.sheet.proofs.request.read_on.Statement.{statement}

@@ -1,4 +1,4 @@
--- `sheet::request::shape_by` meets its contract: at each return, what the calls and the tests on the way to it say. Assumes nothing.
+-- `sheet::request::shape_by` meets its contract: at each return, what the calls and the tests on the way to it say.
 use borrow.Author.Tests.{ne-eqb}
 use Rattle.sheet.specs.Request.{shape-by}
 use Rattle.sheet.proofs.request.shape_by.Statement.{statement}

@@ -1,4 +1,4 @@
--- `sheet::request::shape_from` meets its contract: at each return, what the calls and the tests on the way to it say. Assumes nothing.
+-- `sheet::request::shape_from` meets its contract: at each return, what the calls and the tests on the way to it say.
 use borrow.Author.Needs.{needs}
 use borrow.Author.Tests.{ne-eqb}
 use Rattle.sheet.specs.Request.{shape-from}

@@ -1,4 +1,4 @@
--- `sheet::request::unread_zero` meets its contract. The invariant: the bytes that are left decide. Assumes nothing.
+-- `sheet::request::unread_zero` meets its contract. The invariant: the bytes that are left decide.
 use Prim.Native.Nat.{_≤_, _<_, _-_}
 use native.Mathlib.Omega.{arith}
 use mathlib.Core.Path.{_≡_, refl, sym, ap, _∙_}

@@ -1,6 +1,6 @@
--- `sheet::sample::fill` meets its contract: at each return, what the calls and the tests on the way to it say. Assumes nothing.
-use native.Mathlib.Omega.{arith}
+-- `sheet::sample::fill` meets its contract: the three runs of stores lie one after the other.
 use borrow.Author.Needs.{needs}
+use native.Mathlib.Omega.{arith}
 use Rattle.sampling.specs.Promises.Plan.{to-come}
 use Rattle.sampling.specs.Promises.Stream.{start}
 use Rattle.sheet.specs.Laws.Sampling.{lay-sheet}
@@ -8,7 +8,9 @@ use Rattle.sheet.proofs.sample.fill.Statement.{statement}
 use Rattle.sheet.proofs.sample.fill.Tie as tie
 
 put-angles-requires : tie.Need-put-angles-requires
-put-angles-requires c = λ κs. (c .before .before .before .before .pre .1 .0, omega (arith, c .before .before .before .before .pre .1 .1 .0, c .before .before .before .before .pre .1 .1 .1))
+put-angles-requires c =
+    let p = c .before .before .before .before .pre in
+    λ κs. (p .1 .0, omega (arith, p .1 .1 .0, p .1 .1 .1))
 
 mul-put-blank : tie.Need-mul-put-blank
 mul-put-blank c = search needs
@@ -29,7 +31,13 @@ same-length : tie.Need-same-length
 same-length c = search needs
 
 returns : tie.Need-returns
-returns c = rw ((c .before .before .put-trailer .ensures), (c .before .before .before .before .before .before .put-blank .ensures), (c .before .before .before .before .before .before .before .before .before .before .put-angles .ensures)) (lay-sheet (c .before .before .before .before .before .before .before .before .before .before .before .before .before .before .before .args .request .now) (c .before .before .before .before .before .before .before .before .before .before .before .before .before .before .before .args .output .now) (to-come (c .before .before .before .before .before .before .before .before .before .before .before .before .before .before .before .args .plan) (c .before .before .before .before .before .before .before .before .before .before .before .before .before .before .before .args .work .now) start) (c .before .before .before .before .before .before .before .before .before .before .before .before .before .before .before .args .n) (c .before .before .before .before .before .before .before .before .before .before .before .before .before .before .before .pre .0) (c .before .before .before .before .before .before .before .before .before .before .before .before .before .before .before .pre .1 .1 .0))
+returns c =
+    let s = c .before .before .before .before .before .before .before .before .before .before .before .before .before .before .before in
+    let a = s .args in
+    let x = c .before .before .before .before .before .before .before .before .before .before .put-angles .ensures in
+    let y = c .before .before .before .before .before .before .put-blank .ensures in
+    rw (c .before .before .put-trailer .ensures, y, x)
+    (lay-sheet (a .request .now) (a .output .now) (to-come (a .plan) (a .work .now) start) (a .n) (s .pre .0) (s .pre .1 .1 .0))
 
 pub fill-spec : {M : Type 1} → statement M
 fill-spec = tie.close (tie.spec put-angles-requires mul-put-blank put-blank-requires mul-put-trailer add-put-trailer put-trailer-requires same-length returns)

@@ -31,7 +31,8 @@ unfolding planned-answer need
 returns-2 c =
     let s = c .before .before .before .before .before .before .before in
     let a = s .args in
-    let h = holds-yes (a .request .now) (a .plan) (a .work .now) (s .pre .1) (sym (c .before .before .before .is-refused .ensures) ∙ c .before .before .if1 .left) in
+    let h = holds-yes (a .request .now) (a .plan) (a .work .now) (s .pre .1)
+    (sym (c .before .before .before .is-refused .ensures) ∙ c .before .before .if1 .left) in
     (rw (h, fits-no (a .request .now) (a .plan) (a .work .now) (s .pre .1) (sym (c .before .is-short .ensures) ∙ c .if2 .taken)), refl)
 
 count-requires : tie.Need-count-requires
@@ -41,7 +42,13 @@ has-room-requires : tie.Need-has-room-requires
 has-room-requires c = search needs
 
 fill-requires : tie.Need-fill-requires
-fill-requires c = λ κs. (c .before .before .before .before .before .before .before .before .before .before .before .pre .0, (c .before .before .before .before .before .before .before .before .before .before .before .pre .1 .ready, (c .before .before .before .count .ensures, leb-true _ _ (sym (c .before .before .has-room .ensures) ∙ c .before .if3 .taken))))
+fill-requires c = λ κs. (
+  c .before .before .before .before .before .before .before .before .before .before .before .pre .0,
+  (
+    c .before .before .before .before .before .before .before .before .before .before .before .pre .1 .ready,
+    (c .before .before .before .count .ensures, leb-true _ _ (sym (c .before .before .has-room .ensures) ∙ c .before .if3 .taken)),
+  ),
+)
 
 same-length : tie.Need-same-length
 same-length c = search needs
@@ -51,8 +58,10 @@ unfolding planned-answer need
 returns-3 c =
     let s = c .before .before .before .before .before .before .before .before .before .before .before .before .before .before in
     let a = s .args in
-    let e = sym (c .before .before .before .before .before .before .before .before .before .before .is-refused .ensures) ∙ c .before .before .before .before .before .before .before .before .before .if1 .left in
-    let f = sym (c .before .before .before .before .before .before .before .before .is-short .ensures) ∙ c .before .before .before .before .before .before .before .if2 .left in
+    let e = sym (c .before .before .before .before .before .before .before .before .before .before .is-refused .ensures)
+    ∙ c .before .before .before .before .before .before .before .before .before .if1 .left in
+    let f = sym (c .before .before .before .before .before .before .before .before .is-short .ensures)
+    ∙ c .before .before .before .before .before .before .before .if2 .left in
     let h = holds-yes (a .request .now) (a .plan) (a .work .now) (s .pre .1) e in
     let k = fits-yes (a .request .now) (a .plan) (a .work .now) (s .pre .1) e f in
     let t = found-angles (a .request .now) (a .plan) (a .work .now) (s .pre .1) e f in
@@ -60,7 +69,8 @@ returns-3 c =
     let r = sym (c .before .before .before .before .before .has-room .ensures) ∙ c .before .before .before .before .if3 .taken in
     let q = n ∙ found-count (a .request .now) (a .plan) (a .work .now) (s .pre .1) e f in (
       rw (h, k, ← q, r),
-      c .before .before .fill .ensures ∙ sheet-stands (a .request .now) (a .output .now) (to-come (a .plan) (a .work .now) start) _ (s .pre .0) n t (leb-true _ _ r),
+      c .before .before .fill .ensures ∙ sheet-stands (a .request .now) (a .output .now) (to-come (a .plan) (a .work .now) start) _ (s .pre .0) n t
+          (leb-true _ _ r),
     )
 
 returns-4 : tie.Need-returns-4
@@ -77,4 +87,5 @@ returns-4 c =
     (rw (h, k, ← q, r), refl)
 
 pub finish-spec : {M : Type 1} → statement M
-finish-spec = tie.close (tie.spec is-refused-requires returns is-short-requires returns-2 count-requires has-room-requires fill-requires same-length returns-3 returns-4)
+finish-spec = tie.close (tie.spec is-refused-requires returns is-short-requires returns-2 count-requires has-room-requires fill-requires same-length returns-3
+    returns-4)

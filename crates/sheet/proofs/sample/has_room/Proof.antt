@@ -1,4 +1,4 @@
--- `sheet::sample::has_room` meets its contract: at each return, what the calls and the tests on the way to it say. Assumes nothing.
+-- `sheet::sample::has_room` meets its contract: at each return, what the calls and the tests on the way to it say.
 use native.Mathlib.Omega.{arith}
 use mathlib.Core.Path.{sym}
 use borrow.Author.Tests.{le-leb, lt-leb}

@@ -1,4 +1,4 @@
--- `sheet::sample::put_angles` meets its contract: of one free joint by its lists, else as they come. Assumes nothing.
+-- `sheet::sample::put_angles` meets its contract: of one free joint by its lists, else as they come.
 use Prim.Native.Nat.{_*_, _≤_}
 use mathlib.Core.Path.{sym, ap, subst, _∙_}
 use lib.ListN.{length}
@@ -18,8 +18,11 @@ put-lists-requires : tie.Need-put-lists-requires
 put-lists-requires c κs =
     let s = c .before .before .before .before .before .before in
     let a = s .args in
-    let e = c .before .before .plan .given .1 in
-    (subst (λ (p : Plan). Ready p (a .work .now)) e (s .pre .0), subst (λ (p : Plan). 8 * length (to-come p (a .work .now) start) ≤ length (a .output .now)) e (s .pre .1))
+    let e = c .before .before .plan .given .1 in (
+      subst (λ (p : Plan). Ready p (a .work .now)) e (s .pre .0),
+      subst (λ (p : Plan). 8 * length (to-come p (a .work .now) start) ≤ length (a .output .now)) e
+          (s .pre .1),
+    )
 
 same-length : tie.Need-same-length
 same-length c = search needs
@@ -27,7 +30,8 @@ same-length c = search needs
 returns : tie.Need-returns
 returns c =
     let a = c .before .before .before .before .before .before .before .before .before .args in
-    c .before .before .put-lists .ensures ∙ ap (λ (p : Plan). sets (a .output .now) 0 (floats-bytes (to-come p (a .work .now) start))) (sym (c .before .before .before .before .before .plan .given .1))
+    c .before .before .put-lists .ensures ∙ ap (λ (p : Plan). sets (a .output .now) 0 (floats-bytes (to-come p (a .work .now) start)))
+    (sym (c .before .before .before .before .before .plan .given .1))
 
 put-stream-requires : tie.Need-put-stream-requires
 put-stream-requires c κs = search needs

@@ -1,6 +1,6 @@
--- `sheet::sample::sample` meets its contract: at each return, what the calls and the tests on the way to it say. Assumes nothing.
-use mathlib.Core.Path.{ap, _∙_}
+-- `sheet::sample::sample` meets its contract: at each return, what the calls and the tests on the way to it say.
 use borrow.Author.Needs.{needs}
+use mathlib.Core.Path.{ap, _∙_}
 use Rattle.sheet.specs.Bytes.{zeros}
 use Rattle.sheet.proofs.sample.sample.Statement.{statement}
 use Rattle.sheet.proofs.sample.sample.Tie as tie
@@ -18,7 +18,9 @@ same-length-2 : tie.Need-same-length-2
 same-length-2 c = search needs
 
 returns : tie.Need-returns
-returns c = ((c .before .before .before .before .before .before .before .before .run .ensures) .0, ((c .before .before .before .before .before .before .before .before .run .ensures) .1, (c .before .before .clear .ensures) ∙ ap zeros (c .before .before .before .before .before .before .before .before .run .kept .1 .0)))
+returns c =
+    let r = c .before .before .before .before .before .before .before .before .run in
+    (r .ensures .0, (r .ensures .1, c .before .before .clear .ensures ∙ ap zeros (r .kept .1 .0)))
 
 pub sample-spec : {M : Type 1} → statement M
 sample-spec = tie.close (tie.spec run-requires clear-requires same-length same-length-2 returns)

@@ -1,4 +1,4 @@
--- `sheet::trailer::put_trailer` meets its contract: at each return, what the calls and the tests on the way to it say. Assumes nothing.
+-- `sheet::trailer::put_trailer` meets its contract: the four runs of stores lie one after the other.
 use borrow.Author.Needs.{needs}
 use Rattle.sheet.specs.Laws.Sheet.{lay-trailer}
 use Rattle.sheet.proofs.trailer.put_trailer.Statement.{statement}
@@ -32,7 +32,12 @@ same-length : tie.Need-same-length
 same-length c = search needs
 
 returns : tie.Need-returns
-returns c = rw ((c .before .before .put4 .ensures), (c .before .before .before .before .before .before .put3 .ensures), (c .before .before .before .before .before .before .before .before .before .before .put2 .ensures), (c .before .before .before .before .before .before .before .before .before .before .before .before .before .before .put .ensures)) (lay-trailer (c .before .before .before .before .before .before .before .before .before .before .before .before .before .before .before .before .before .args .out .now) (c .before .before .before .before .before .before .before .before .before .before .before .before .before .before .before .before .before .args .at) (c .before .before .before .before .before .before .before .before .before .before .before .before .before .before .before .before .before .args .n))
+returns c =
+    let a = c .before .before .before .before .before .before .before .before .before .before .before .before .before .before .before .before .before .args in
+    let x = c .before .before .before .before .before .before .before .before .before .before .before .before .before .before .put .ensures in
+    let y = c .before .before .before .before .before .before .before .before .before .before .put2 .ensures in
+    let z = c .before .before .before .before .before .before .put3 .ensures in
+    rw (c .before .before .put4 .ensures, z, y, x) (lay-trailer (a .out .now) (a .at) (a .n))
 
 pub put-trailer-spec : {M : Type 1} → statement M
 put-trailer-spec = tie.close (tie.spec put-requires add-put mul-put put-requires-2 add-put-2 put-requires-3 add-put-3 put-requires-4 same-length returns)

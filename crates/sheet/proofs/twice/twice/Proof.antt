@@ -25,12 +25,14 @@ same-length-4 c = search needs
 
 returns : tie.Need-returns
 returns c =
-    let a = c .before .before .before .before .before .before .before .before .before .before .before .before .before .before .before .before .before .before .before .before .args in
+    let b = c .before .before .before .before .before .before .before .before .before .before in
+    let a = b .before .before .before .before .before .before .before .before .before .before .args in
     let p = c .before .before .before .before .before .before .before .before .before .before .before .sample .ensures in
     let q = c .before .before .before .before .sample2 .ensures in
     let k = c .before .before .before .before .before .before .before .before .before .before .before .sample .kept .1 .1 .0 in
     let l = c .before .before .before .before .sample2 .kept .1 .1 .0 in
-    let t = together (a .r .now) (a .s .now) _ _ (a .x .now) (a .y .now) (length (a .v .now)) (length (a .w .now)) _ _ k l (p .0) (q .0) (p .1 .0) (q .1 .0) in
+    let t = together (a .r .now) (a .s .now) _ _ (a .x .now) (a .y .now) (length (a .v .now)) (length (a .w .now)) _ _ k l (p .0) (q .0) (p .1 .0)
+    (q .1 .0) in
     (p .0, (q .0, (p .1 .0, (q .1 .0, (p .1 .1, (q .1 .1, t))))))
 
 pub twice-spec : {M : Type 1} → statement M

@@ -1,4 +1,4 @@
--- `sheet::validate::field_right` meets its contract: at each return, what the calls and the tests on the way to it say. Assumes nothing.
+-- `sheet::validate::field_right` meets its contract: at each return, what the calls and the tests on the way to it say.
 use borrow.Author.Needs.{needs}
 use Rattle.sheet.specs.Validate.{field-right}
 use Rattle.sheet.proofs.validate.field_right.Statement.{statement}

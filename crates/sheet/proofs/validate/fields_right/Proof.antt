@@ -1,4 +1,4 @@
--- `sheet::validate::fields_right` meets its contract. The invariant: the tests that are left decide. Assumes nothing.
+-- `sheet::validate::fields_right` meets its contract. The invariant: the tests that are left decide.
 use Prim.Native.Nat.{_≤_, _+_, _-_}
 use native.Mathlib.Omega.{arith}
 use mathlib.Core.Path.{_≡_, sym, ap, _∙_}
@@ -33,7 +33,8 @@ returns c =
     let b = c .before .before .before in
     let a = b .before .before .before .args in
     let s = b .before .shape-of .result in
-    all-stop (field-right s (a .f) (a .request .now)) (a .n - b .loop .j) _ _ (omega arith) (sym (c .before .field-right .ensures) ∙ not-true _ (c .if1 .taken)) ∙ b .loop .inv .2
+    all-stop (field-right s (a .f) (a .request .now)) (a .n - b .loop .j) _ _ (omega arith)
+    (sym (c .before .field-right .ensures) ∙ not-true _ (c .if1 .taken)) ∙ b .loop .inv .2
     ∙ ap (λ (h : Shape). all-from (a .n) 1 (field-right h (a .f) (a .request .now))) (b .before .shape-of .ensures)
 
 add-j : tie.Need-add-j Inv-loop μ-loop
@@ -49,7 +50,8 @@ loop-again c =
     let s = b .before .shape-of .result in (
       omega arith,
       omega arith,
-      all-turn (field-right s (a .f) (a .request .now)) _ _ _ _ (omega arith) (omega arith) (sym (c .before .field-right .ensures) ∙ not-false _ (c .if1 .left)) ∙ b .loop .inv .2,
+      all-turn (field-right s (a .f) (a .request .now)) _ _ _ _ (omega arith) (omega arith)
+          (sym (c .before .field-right .ensures) ∙ not-false _ (c .if1 .left)) ∙ b .loop .inv .2,
     )
 
 returns-2 : tie.Need-returns-2 Inv-loop μ-loop

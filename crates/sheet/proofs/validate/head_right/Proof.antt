@@ -1,4 +1,4 @@
--- `sheet::validate/head_right` meets its contract: at each return, what the calls and the tests on the way to it say. Assumes nothing.
+-- `sheet::validate/head_right` meets its contract: at each return, what the calls and the tests on the way to it say.
 use borrow.Author.Needs.{needs}
 use Rattle.sheet.specs.Validate.{head-right}
 use Rattle.sheet.proofs.validate.head_right.Statement.{statement}
@@ -18,7 +18,13 @@ zeros-from-requires c = search needs
 
 returns : tie.Need-returns
 unfolding head-right
-returns c = simp (← c .before .before .before .before .shape-of .ensures, ← c .before .before .before .right .ensures, c .before .before .if1 .taken, ← c .before .byte-at .ensures, ← c .zeros-from .ensures)
+returns c = simp (
+  ← c .before .before .before .before .shape-of .ensures,
+  ← c .before .before .before .right .ensures,
+  c .before .before .if1 .taken,
+  ← c .before .byte-at .ensures,
+  ← c .zeros-from .ensures,
+)
 
 returns-2 : tie.Need-returns-2
 unfolding head-right

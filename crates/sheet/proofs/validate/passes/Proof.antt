@@ -1,4 +1,4 @@
--- `sheet::validate::passes` meets its contract: at each return, what the calls and the tests on the way to it say. Assumes nothing.
+-- `sheet::validate::passes` meets its contract: at each return, what the calls and the tests on the way to it say.
 use lib.Ieee.{ofBits}
 use borrow.Author.Needs.{needs}
 use Rattle.sheet.specs.Validate.{passes}
@@ -57,4 +57,5 @@ unfolding passes ofBits
 returns-6 c = simp (c .enum-told6 .given .1)
 
 pub passes-spec : {M : Type 1} → statement M
-passes-spec = tie.close (tie.spec enum-told enum-told-2 within-requires enum-told-3 is-finite-requires enum-told-4 within-requires-2 enum-told-5 enum-told-6 returns returns-2 returns-3 returns-4 returns-5 returns-6)
+passes-spec = tie.close (tie.spec enum-told enum-told-2 within-requires enum-told-3 is-finite-requires enum-told-4 within-requires-2 enum-told-5 enum-told-6
+    returns returns-2 returns-3 returns-4 returns-5 returns-6)

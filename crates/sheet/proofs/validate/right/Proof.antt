@@ -1,4 +1,4 @@
--- `sheet::validate::right` meets its contract: at each return, what the calls and the tests on the way to it say. Assumes nothing.
+-- `sheet::validate::right` meets its contract: at each return, what the calls and the tests on the way to it say.
 use borrow.Author.Needs.{needs}
 use Rattle.sheet.specs.Validate.{right}
 use Rattle.sheet.proofs.validate.right.Statement.{statement}
@@ -10,12 +10,6 @@ enum-told c = search needs
 enum-told-2 : tie.Need-enum-told-2
 enum-told-2 c = search needs
 
-enum-told-3 : tie.Need-enum-told-3
-enum-told-3 c = search needs
-
-enum-told-4 : tie.Need-enum-told-4
-enum-told-4 c = search needs
-
 returns : tie.Need-returns
 unfolding right
 returns c = simp (c .enum-told .given .1)
@@ -24,13 +18,5 @@ returns-2 : tie.Need-returns-2
 unfolding right
 returns-2 c = simp (c .enum-told2 .given .1)
 
-returns-3 : tie.Need-returns-3
-unfolding right
-returns-3 c = simp (c .enum-told3 .given .1)
-
-returns-4 : tie.Need-returns-4
-unfolding right
-returns-4 c = simp (c .enum-told4 .given .1)
-
 pub right-spec : {M : Type 1} → statement M
-right-spec = tie.close (tie.spec enum-told enum-told-2 enum-told-3 enum-told-4 returns returns-2 returns-3 returns-4)
+right-spec = tie.close (tie.spec enum-told enum-told-2 returns returns-2)

@@ -1,4 +1,4 @@
--- `sheet::validate/sign_right` meets its contract: at each return, what the calls and the tests on the way to it say. Assumes nothing.
+-- `sheet::validate/sign_right` meets its contract: at each return, what the calls and the tests on the way to it say.
 use borrow.Author.Needs.{needs}
 use Rattle.sheet.specs.Validate.{sign-right}
 use Rattle.sheet.proofs.validate.sign_right.Statement.{statement}

@@ -1,4 +1,4 @@
--- `sheet::validate::signs_right` meets its contract. The invariant: the tests that are left decide. Assumes nothing.
+-- `sheet::validate::signs_right` meets its contract. The invariant: the tests that are left decide.
 use Prim.Native.Nat.{_≤_, _-_}
 use native.Mathlib.Omega.{arith}
 use mathlib.Core.Path.{_≡_, refl, sym, ap, _∙_}

@@ -33,7 +33,12 @@ returns-4 : tie.Need-returns-4
 unfolding tested
 returns-4 c =
     let h = sym (c .before .before .before .before .head-right .ensures) ∙ not-false _ (c .before .before .before .if2 .left) in
-    rw (eq-eqb _ _ (c .before .before .before .before .before .if1 .left), h, sym (c .before .before .signs-right .ensures) ∙ not-false _ (c .before .if3 .left)) (c .validate-rotation .ensures)
+    rw (
+      eq-eqb _ _ (c .before .before .before .before .before .if1 .left),
+      h,
+      sym (c .before .before .signs-right .ensures) ∙ not-false _
+          (c .before .if3 .left),
+    ) (c .validate-rotation .ensures)
 
 pub validate-spec : {M : Type 1} → statement M
 validate-spec = tie.close (tie.spec returns head-right-requires returns-2 signs-right-requires returns-3 validate-rotation-requires returns-4)

@@ -24,7 +24,12 @@ enum-told-2 c = search needs
 
 returns : tie.Need-returns
 unfolding tested-rotation
-returns c = simp (← c .before .before .before .before .before .rotation-of .ensures, ← c .before .before .before .before .try-normalize .ensures, c .before .before .n .given .1, ← c .validate-fields .ensures)
+returns c = simp (
+  ← c .before .before .before .before .before .rotation-of .ensures,
+  ← c .before .before .before .before .try-normalize .ensures,
+  c .before .before .n .given .1,
+  ← c .validate-fields .ensures,
+)
 
 returns-2 : tie.Need-returns-2
 unfolding tested-rotation
@@ -35,4 +40,5 @@ unfolding tested-rotation
 returns-3 c = simp (← c .before .before .before .rotation-of .ensures, ← c .before .before .try-normalize .ensures, c .enum-told2 .given .1)
 
 pub validate-rotation-spec : {M : Type 1} → statement M
-validate-rotation-spec = tie.close (tie.spec rotation-of-requires try-normalize-requires enum-known-n validate-fields-requires enum-told enum-told-2 returns returns-2 returns-3)
+validate-rotation-spec = tie.close (tie.spec rotation-of-requires try-normalize-requires enum-known-n validate-fields-requires enum-told enum-told-2 returns
+    returns-2 returns-3)

@@ -1,4 +1,4 @@
--- `sheet::validate::within` meets its contract: at each return, what the calls and the tests on the way to it say. Assumes nothing.
+-- `sheet::validate::within` meets its contract: at each return, what the calls and the tests on the way to it say.
 use mathlib.Core.Path.{refl}
 use Rattle.sheet.specs.Validate.{within}
 use Rattle.sheet.proofs.validate.within.Statement.{statement}

@@ -28,7 +28,8 @@ returns : tie.Need-returns Inv-loop μ-loop
 returns c =
     let b = c .before .before .before in
     let a = b .before .before .args in
-    all-stop (zero-at (a .request .now)) (a .n - (b .loop .i + 1)) _ _ (omega arith) (ne-eqb _ _ (λ q. c .if1 .taken (c .before .byte-at .ensures ∙ q))) ∙ b .loop .inv .1
+    all-stop (zero-at (a .request .now)) (a .n - (b .loop .i + 1)) _ _ (omega arith) (ne-eqb _ _ (λ q. c .if1 .taken (c .before .byte-at .ensures ∙ q))) ∙
+    b .loop .inv .1
 
 add-i : tie.Need-add-i Inv-loop μ-loop
 add-i c = omega arith
@@ -39,8 +40,11 @@ loop-less c = omega arith
 loop-again : tie.Need-loop-again Inv-loop μ-loop
 loop-again c =
     let b = c .before .before .before in
-    let a = b .before .before .args in
-    (omega arith, all-turn (zero-at (a .request .now)) _ _ _ _ (omega arith) (omega arith) (eq-eqb _ _ (sym (c .before .byte-at .ensures) ∙ c .if1 .left)) ∙ b .loop .inv .1)
+    let a = b .before .before .args in (
+      omega arith,
+      all-turn (zero-at (a .request .now)) _ _ _ _ (omega arith) (omega arith) (eq-eqb _ _ (sym (c .before .byte-at .ensures) ∙ c .if1 .left)) ∙
+          b .loop .inv .1,
+    )
 
 returns-2 : tie.Need-returns-2 Inv-loop μ-loop
 returns-2 c =
