@@ -14,8 +14,8 @@ use sampling::reads::arm_read;
 use sampling::reads::joint_read;
 use sampling::reads::reference_read;
 
-// Sizes and positions, in bytes; specs/Request.antt has the same.
-// What every request has.
+// Sizes and positions, in bytes; specs/Request.antt has the same. The core is what every request
+// has.
 pub(crate) const CORE: usize = 264;
 
 pub(crate) const REQUEST: usize = CORE;

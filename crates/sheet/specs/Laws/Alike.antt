@@ -24,45 +24,18 @@ use Rattle.sampling.specs.Laws.Reads as Reads
 
 -- ---- what the job's kind and flags read is what the shape reads
 
-module _ (s : Shape) (h : right s ≡ true) where
-  pub job-reads : (k : ℕ) → (joint-read (kind-of s) (limited-of s) (fixed-of s) k ≡ reads s Sign k) ×
-      (joint-read (kind-of s) (limited-of s) (fixed-of s) k ≡ reads s Offset k)
-  unfolding right reads kind-of limited-of fixed-of
-  job-reads k = go s h
-    where
-      go : (s : Shape) → right s ≡ true
-          → (joint-read (kind-of s) (limited-of s) (fixed-of s) k ≡ reads s Sign k) ×
-          (joint-read (kind-of s) (limited-of s) (fixed-of s) k ≡ reads s Offset k)
-      go Bad e = absurd (false≢true e)
-      go (Right kind limits fixed) e = (refl, refl)
+record Reading (s : Shape) (k : ℕ) : Type 0 where
+  sign : joint-read (kind-of s) (limited-of s) (fixed-of s) k ≡ reads s Sign k
+  offset : joint-read (kind-of s) (limited-of s) (fixed-of s) k ≡ reads s Offset k
+  reference : reference-read (kind-of s) (limited-of s) (fixed-of s) k ≡ reads s Reference k
+  arm : arm-read (kind-of s) k ≡ reads s Arm k
+  from : limited-of s && joint-read (kind-of s) (limited-of s) (fixed-of s) k ≡ reads s From k
+  to : limited-of s && joint-read (kind-of s) (limited-of s) (fixed-of s) k ≡ reads s To k
 
-  pub job-references : (k : ℕ) → reference-read (kind-of s) (limited-of s) (fixed-of s) k ≡ reads s Reference k
-  unfolding right reads kind-of limited-of fixed-of
-  job-references k = go s h
-    where
-      go : (s : Shape) → right s ≡ true → reference-read (kind-of s) (limited-of s) (fixed-of s) k ≡ reads s Reference k
-      go Bad e = absurd (false≢true e)
-      go (Right kind limits fixed) e = refl
-
-  job-arms : (k : ℕ) → arm-read (kind-of s) k ≡ reads s Arm k
-  unfolding right reads kind-of
-  job-arms k = go s h
-    where
-      go : (s : Shape) → right s ≡ true → arm-read (kind-of s) k ≡ reads s Arm k
-      go Bad e = absurd (false≢true e)
-      go (Right kind limits fixed) e = refl
-
-  job-limits : (k : ℕ)
-      → (limited-of s && joint-read (kind-of s) (limited-of s) (fixed-of s) k ≡ reads s From k) ×
-      (limited-of s && joint-read (kind-of s) (limited-of s) (fixed-of s) k ≡ reads s To k)
-  unfolding right reads kind-of limited-of fixed-of
-  job-limits k = go s h
-    where
-      go : (s : Shape) → right s ≡ true
-          → (limited-of s && joint-read (kind-of s) (limited-of s) (fixed-of s) k ≡ reads s From k) ×
-          (limited-of s && joint-read (kind-of s) (limited-of s) (fixed-of s) k ≡ reads s To k)
-      go Bad e = absurd (false≢true e)
-      go (Right kind limits fixed) e = (refl, refl)
+reading : (s : Shape) (k : ℕ) → right s ≡ true → Reading s k
+unfolding right reads kind-of limited-of fixed-of
+reading Bad k h = absurd (false≢true h)
+reading (Right kind limits fixed) k h = record { sign = refl; offset = refl; reference = refl; arm = refl; from = refl; to = refl }
 
 -- ---- from requests to jobs
 
@@ -72,22 +45,21 @@ module _ (r s : List ℕ) (g : Agree r s) where
     unfolding head-right
     shape-right = and-left (right (shape-of r)) _ h
 
+    read : (k : ℕ) → Reading (shape-of r) k
+    read k = reading (shape-of r) k shape-right
+
     joint-same : (k : ℕ) → 1 ≤ k → k ≤ 6
         → SameJoint (kind-of (shape-of r)) (limited-of (shape-of r)) (fixed-of (shape-of r)) k (joint-at r k) (joint-at s k)
     unfolding joint-at
     joint-same k a b =
         record {
-          sign = λ t. ap sign-of (same-sign r s g k a b (subst T (job-reads (shape-of r) shape-right k .0) t));
-          offset = λ t. same-float r s g Offset k a b refl (subst T (job-reads (shape-of r) shape-right k .1) t);
-          reference = λ t. same-float r s g Reference k a b refl (subst T (job-references (shape-of r) shape-right k) t);
+          sign = λ t. ap sign-of (same-sign r s g k a b (subst T (read k .sign) t));
+          offset = λ t. same-float r s g Offset k a b refl (subst T (read k .offset) t);
+          reference = λ t. same-float r s g Reference k a b refl (subst T (read k .reference) t);
           center = λ l t.
               let u = and-i (limited-of (shape-of r)) _ l t in
-              let e = job-limits (shape-of r) shape-right k in
-              rw (same-float r s g From k a b refl (subst T (e .0) u), same-float r s g To k a b refl (subst T (e .1) u));
+              rw (same-float r s g From k a b refl (subst T (read k .from) u), same-float r s g To k a b refl (subst T (read k .to) u));
         }
-
-    arm-same : (q : ℕ) → 1 ≤ q → q ≤ 3 → T (arm-read (kind-of (shape-of r)) q) → T (reads (shape-of r) Arm q)
-    arm-same q a b t = subst T (job-arms (shape-of r) shape-right q) t
 
     same-read : SameRead (job-of r) (job-of s)
     unfolding job-of arm-of
@@ -97,9 +69,9 @@ module _ (r s : List ℕ) (g : Agree r s) where
           limited = ap limited-of (same-shape r s g);
           fixed = ap fixed-of (same-shape r s g);
           matrix = ap matrix (rotation-same r s g);
-          q1 = λ t. same-float r s g Arm 1 (omega arith) (omega arith) refl (arm-same 1 (omega arith) (omega arith) t);
-          q2 = λ t. same-float r s g Arm 2 (omega arith) (omega arith) refl (arm-same 2 (omega arith) (omega arith) t);
-          q3 = λ t. same-float r s g Arm 3 (omega arith) (omega arith) refl (arm-same 3 (omega arith) (omega arith) t);
+          q1 = λ t. same-float r s g Arm 1 (omega arith) (omega arith) refl (subst T (read 1 .arm) t);
+          q2 = λ t. same-float r s g Arm 2 (omega arith) (omega arith) refl (subst T (read 2 .arm) t);
+          q3 = λ t. same-float r s g Arm 3 (omega arith) (omega arith) refl (subst T (read 3 .arm) t);
           j1 = joint-same 1 (omega arith) (omega arith);
           j2 = joint-same 2 (omega arith) (omega arith);
           j4 = joint-same 4 (omega arith) (omega arith);
