@@ -102,14 +102,3 @@ pub(crate) fn same_float(s: &[u8], at: usize, x: f64) -> bool
     put_float(&mut b, 0, x);
     same_at(s, at, &b)
 }
-
-// Every place becomes +0.0.
-pub(crate) fn clear(work: &mut [f64])
-    ensures { λ _. ⌜ now (work .exit) ≡ Bytes.zeros (length (now (work .entry))) ⌝ }
-{
-    let mut i = 0usize;
-    while i < work.len() {
-        work[i] = 0.0;
-        i += 1;
-    }
-}

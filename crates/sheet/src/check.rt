@@ -11,7 +11,6 @@ ghost use Rattle.sheet.specs.Request as Request;
 ghost use Rattle.sheet.specs.Sheet as Sheet;
 ghost use Rattle.sheet.specs.Check as Check;
 ghost use Rattle.sheet.specs.Promises.Plan as Promise;
-use crate::bytes::clear;
 use crate::bytes::half;
 use crate::bytes::same_at;
 use crate::bytes::same_float;
@@ -32,6 +31,7 @@ use sampling::lists::Plan;
 use sampling::plan::next;
 use sampling::plan::start;
 use sampling::stream::Step;
+use sampling::work::clear;
 
 // The number of angles, or a refusal.
 pub enum Checked {

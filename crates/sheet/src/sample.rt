@@ -14,7 +14,6 @@ ghost use Rattle.sheet.specs.Sheet as Sheet;
 ghost use Rattle.sheet.specs.Sampling as Sampling;
 ghost use Rattle.sheet.specs.Promises.Plan as Promise;
 use crate::angles::put_lists;
-use crate::bytes::clear;
 use crate::bytes::put_float;
 use crate::plan::is_refused;
 use crate::plan::is_short;
@@ -31,6 +30,7 @@ use sampling::plan::count;
 use sampling::plan::next;
 use sampling::plan::start;
 use sampling::stream::Step;
+use sampling::work::clear;
 
 // The number of angles, or a refusal.
 pub enum Sampled {
