@@ -1,5 +1,5 @@
 -- Every angle of a job is a float that the format holds, so that its 64 bits stand for it.
-use mathlib.Core.Bool.{Bool, true, false, cond}
+use mathlib.Core.Bool.{Bool, true, false, not, _&&_, _||_, cond}
 use mathlib.Core.List.{List, [], _∷_, _++_}
 use lib.Dec.{T}
 use lib.Ieee.{Float, binary64, neg, le, lt, fits, isNan}
@@ -42,7 +42,7 @@ middle-fits a b = add-fits binary64 a _
 
 inside-fit : (lower upper angle : Float) → Fits angle → Fit (inside lower upper angle)
 unfolding inside
-inside-fit lower upper angle f = picked (le lower angle) (cond (le angle upper) (angle ∷ []) []) (picked (le angle upper) (angle ∷ []) (f, tt))
+inside-fit lower upper angle f = picked (le lower angle && le angle upper) (angle ∷ []) (f, tt)
 
 turns-fit : (lower upper angle : Float) → Fit (turns lower upper angle)
 unfolding turns
@@ -131,17 +131,14 @@ all-slices-fit t (Between lower upper) r f = slices-fit t lower upper r (f .0) (
 
 limits-fit : (c : Center) (sign offset : Float) → RangeFits (limits-of c sign offset)
 unfolding limits-of
-limits-fit c sign offset = go (isNan (c .tolerance)) (lt (c .tolerance) zero-float) (finite (c .center))
+limits-fit c sign offset = go (isNan (c .tolerance) || lt (c .tolerance) zero-float || not (finite (c .center)))
   where
-    go : (x y z : Bool)
-        → RangeFits (cond x Nothing (cond y Nothing (cond z
+    go : (x : Bool)
+        → RangeFits (cond x Nothing
         (Between (wrapped-angle (wrapped-angle (c .center) ⊗ sign ⊖ offset) ⊖ minimum (c .tolerance) P)
-        (wrapped-angle (wrapped-angle (c .center) ⊗ sign ⊖ offset) ⊕ minimum (c .tolerance) P))
-        Nothing)))
-    go true y z = tt
-    go false true z = tt
-    go false false true = (sub-fits binary64 _ (minimum (c .tolerance) P), add-fits binary64 _ (minimum (c .tolerance) P))
-    go false false false = tt
+        (wrapped-angle (wrapped-angle (c .center) ⊗ sign ⊖ offset) ⊕ minimum (c .tolerance) P)))
+    go true = tt
+    go false = (sub-fits binary64 _ (minimum (c .tolerance) P), add-fits binary64 _ (minimum (c .tolerance) P))
 
 reference-fits : (j : Joint) → Fits (model-reference j)
 unfolding model-reference wrapped-angle
