@@ -116,6 +116,7 @@ fn compare(s: &[u8], request: &[u8], work: &[f64], plan: Plan, n: usize) -> Chec
 // 33 to 36, for the angles' bytes s and n angles.
 fn check_request(s: &[u8], request: &[u8], work: &mut [f64], n: usize) -> Checked
     ensures { λ r. ⌜ Check.answer-of r ≡ Promise.checked (now (request .entry)) (now (s .entry)) n (length (now (work .entry))) ⌝ }
+    ensures { λ _. ⌜ now (work .exit) ≡ Promise.work-left (now (request .entry)) (now (work .entry)) ⌝ }
 {
     let t = validate(request);
     match t {
@@ -132,6 +133,7 @@ fn check_request(s: &[u8], request: &[u8], work: &mut [f64], n: usize) -> Checke
 
 fn inspect(sheet: &[u8], work: &mut [f64]) -> Checked
     ensures { λ r. ⌜ Check.answer-of r ≡ Check.answer (now (sheet .entry)) (length (now (work .entry))) ⌝ }
+    ensures { λ _. ⌜ now (work .exit) ≡ Promise.work-checked (now (sheet .entry)) (now (work .entry)) ⌝ }
 {
     if sheet.len() < LEAST {
         return Checked::Refused(Fault::Length);

@@ -124,6 +124,7 @@ fn finish(output: &mut [u8], request: &[u8], work: &[f64], plan: Plan) -> Sample
 fn run(request: &[u8], work: &mut [f64], output: &mut [u8]) -> Sampled
     ensures { λ a. ⌜ Sampling.answer-of a ≡ Sampling.answer (now (request .entry)) (length (now (work .entry))) (length (now (output .entry))) ⌝ }
     ensures { λ a. ⌜ now (output .exit) ≡ Sampling.output-after (Sampling.answer-of a) (now (request .entry)) (now (output .entry)) ⌝ }
+    ensures { λ _. ⌜ now (work .exit) ≡ Promise.work-left (now (request .entry)) (now (work .entry)) ⌝ }
 {
     let t = validate(request);
     match t {

@@ -1,25 +1,24 @@
 -- Every angle of a job is a float that the format holds, so that its 64 bits stand for it.
 use mathlib.Core.Bool.{Bool, true, false, not, _&&_, _||_, cond}
 use mathlib.Core.List.{List, [], _∷_, _++_}
-use lib.Dec.{T}
-use lib.Ieee.{Float, binary64, neg, le, lt, fits, isNan}
+use mathlib.Core.Path.{sym, subst}
+use lib.Ieee.{Float, binary64, lt, isNan}
 use lib.Ieee.Fits.{add-fits, sub-fits}
 use lib.Ieee.Scale.{finite}
-use mathlib.Core.Path.{sym, subst}
-use Rattle.float.specs.Number.{_⊕_, _⊖_, _⊗_, middle, minimum, zero-float, one-float}
+use Rattle.float.specs.Number.{_⊕_, _⊖_, _⊗_, middle, minimum, zero-float}
 use Rattle.float.specs.Trig.{P}
-use Rattle.polynomial.specs.Angle.{turn, wrapped-angle}
+use Rattle.polynomial.specs.Angle.{wrapped-angle}
 use Rattle.polynomial.specs.Cuts.{cuts}
 use Rattle.polynomial.specs.Promises.Lists.{Fits, Fit}
 use Rattle.polynomial.specs.Laws.Cuts.{fit-append, fit-cuts}
-use Rattle.sampling.specs.Samples.{inside, turns, windings, all-windings, interval-values, interval-cuts, inset, between, all-between, samples, three-samples}
+use Rattle.sampling.specs.Samples.{turns, windings, all-windings, interval-values, interval-cuts, inset, between, all-between, samples, three-samples}
 use Rattle.sampling.specs.SampleAngles.{roots, intervals, first-cuts, second-cuts, third-cuts, sample-angles}
 use Rattle.sampling.specs.Slices.{mids, slices}
 use Rattle.sampling.specs.Limits.{centered, limits-of, limits}
 use Rattle.sampling.specs.J1j2free.{model-reference, folded, curves, bends, half-cuts, first-half, second-half, on-interval, all-slices}
 use Rattle.sampling.specs.Angles.{first-free, second-free, by-kind, angles}
 use Rattle.sampling.specs.Promises.Halves.{half-values}
-use Rattle.sampling.specs.Laws.J1j2free.{half-fit, half-cuts-are}
+use Rattle.sampling.specs.Laws.J1j2free.{picked, turns-fit, half-fit, half-cuts-are}
 use Rattle.sampling.specs.declared.constraints.Center.{Center}
 use Rattle.sampling.specs.declared.intervals.Range.{Range}
 use Rattle.sampling.specs.declared.intervals.Range.the-variants.{Nothing, Between}
@@ -30,27 +29,11 @@ use Rattle.sampling.specs.declared.job.Joint.{Joint}
 use Rattle.sampling.specs.declared.job.Kind.{Kind}
 use Rattle.sampling.specs.declared.job.Kind.the-variants.{J1free, J2free, J1j2free}
 
-picked : (b : Bool) (l : List Float) → Fit l → Fit (cond b l [])
-picked true l f = f
-picked false l f = tt
-
 middle-fits : (a b : Float) → Fits (middle a b)
 unfolding middle
 middle-fits a b = add-fits binary64 a _
 
 -- ---- one free joint: every cut and every sample is a sum or a difference
-
-inside-fit : (lower upper angle : Float) → Fits angle → Fit (inside lower upper angle)
-unfolding inside
-inside-fit lower upper angle f = picked (le lower angle && le angle upper) (angle ∷ []) (f, tt)
-
-turns-fit : (lower upper angle : Float) → Fit (turns lower upper angle)
-unfolding turns
-turns-fit lower upper angle =
-    let at : Float → List Float = λ w. inside lower upper (angle ⊕ w ⊗ turn) in
-    let fit : (w : Float) → Fit (at w) = λ w. inside-fit lower upper (angle ⊕ w ⊗ turn) (add-fits binary64 angle (w ⊗ turn)) in
-    fit-append (at (neg one-float) ++ at zero-float) (at one-float) (fit-append (at (neg one-float)) (at zero-float) (fit (neg one-float)) (fit zero-float))
-    (fit one-float)
 
 windings-fit : (lower upper root : Float) → Fit (windings lower upper root)
 unfolding windings

@@ -24,7 +24,7 @@ use Rattle.sampling.specs.declared.j1j2free.Folded.{Folded}
 
 -- ---- the values fit
 
-picked : (b : Bool) (l : List Float) → Fit l → Fit (cond b l [])
+pub picked : (b : Bool) (l : List Float) → Fit l → Fit (cond b l [])
 picked true l f = f
 picked false l f = tt
 
@@ -52,7 +52,7 @@ inside-fit : (lower upper angle : Float) → T (fits binary64 angle) → Fit (in
 unfolding inside
 inside-fit lower upper angle f = picked (le lower angle && le angle upper) (angle ∷ []) (f, tt)
 
-turns-fit : (lower upper angle : Float) → Fit (turns lower upper angle)
+pub turns-fit : (lower upper angle : Float) → Fit (turns lower upper angle)
 unfolding turns
 turns-fit lower upper angle =
     let at : Float → List Float = λ w. inside lower upper (angle ⊕ w ⊗ turn) in

@@ -7,6 +7,7 @@ use mathlib.Core.Bool.{Bool, true, false}
 use lib.ListN.{length, take, drop, length-append}
 use lib.Seq.{sets, take-at, drop-at}
 use lib.Dec.{eqb, ltb}
+use lib.Ieee.{Float}
 use borrow.Author.Tests.{eqb-true, eq-eqb, ne-eqb, le-leb, lt-leb, lt-ltb, le-ltb}
 use Rattle.sheet.specs.Bytes.{le, bytes, part, same-bytes}
 use Rattle.sheet.specs.Refusals.{refused, need}
@@ -14,7 +15,7 @@ use Rattle.sheet.specs.Sheet.{trailer, trailer-size, frame-size, edition
 use Rattle.sheet.specs.Request.{core-size, request-size}
 use Rattle.sheet.specs.Sampling.{sheet-size}
 use Rattle.sheet.specs.Check.{trailer-of, count-of, edition-of, request-of, items-of, formed, answer}
-use Rattle.sheet.specs.Promises.Plan.{compared, checked}
+use Rattle.sheet.specs.Promises.Plan.{work-left, work-checked, compared, checked}
 use Rattle.float.specs.Laws.Tests.{and-left, and-right}
 use Rattle.sheet.specs.Laws.Bytes.{sets-all, length-bytes, same-is}
 use Rattle.sheet.specs.Laws.Sheet.{length-trailer}
@@ -57,6 +58,20 @@ formed-by s z b n e h w l f =
     let v : ltb (count-of s) items-bound ≡ true = lt-ltb (count-of s) items-bound (omega (arith, e)) in
     rw (eq-eqb (length s) (sheet-size (count-of s)) k, v, g, length-trailer n)
     (ap (λ (m : ℕ). same-bytes (part (length s - trailer-size) trailer-size s) (trailer m)) e)
+
+-- what work holds, before it is cleared
+module _ (s : List ℕ) (w : List Float) where
+  pub left-short : length s < core-size + trailer-size → w ≡ work-checked s w
+  unfolding work-checked
+  left-short h = rw (lt-leb (core-size + trailer-size) (length s) h)
+
+  pub left-trailer : core-size + trailer-size ≤ length s → formed s ≡ false → w ≡ work-checked s w
+  unfolding work-checked
+  left-trailer h e = rw (le-leb (core-size + trailer-size) (length s) h, e)
+
+  pub left-formed : core-size + trailer-size ≤ length s → formed s ≡ true → work-left (request-of s) w ≡ work-checked s w
+  unfolding work-checked
+  left-formed h e = rw (le-leb (core-size + trailer-size) (length s) h, e)
 
 -- ---- the edition
 

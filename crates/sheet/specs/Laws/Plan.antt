@@ -26,7 +26,9 @@ use Rattle.sampling.specs.declared.stream.Cursor.{Cursor}
 use Rattle.sampling.specs.declared.stream.Step.{Step}
 use Rattle.sampling.specs.declared.stream.Step.the-variants.{Yield, Done}
 use Rattle.sampling.specs.declared.job.Kind.the-variants.{J1free, J2free, J1j2free}
+use Rattle.sampling.specs.declared.pose.Quaternion.{Quaternion}
 use Rattle.sheet.specs.declared.refusals.Refusal.{Refusal}
+use Rattle.sheet.specs.declared.validate.Tested.{Tested}
 use Rattle.sheet.specs.declared.request.Shape.{Shape}
 use Rattle.sheet.specs.declared.request.Shape.the-variants.{Bad, Right}
 use Rattle.sheet.specs.declared.request.Field.the-variants.{Sign, Reference, Offset}
@@ -39,7 +41,7 @@ use Rattle.sheet.specs.Sampling.{angles, items, cut-count, holds, by-req
 use Rattle.sheet.specs.Check.{is-accepted, meets-none}
 use Rattle.sheet.specs.Promises.Floats.{floats-bytes}
 use Rattle.sheet.specs.Promises.Tested.{tested, Passed}
-use Rattle.sheet.specs.Promises.Plan.{is-refused, is-short, PlannedFor, planned-answer}
+use Rattle.sheet.specs.Promises.Plan.{is-refused, is-short, PlannedFor, work-tested, work-left, planned-answer}
 use Rattle.sheet.specs.Laws.Bytes.{floats-words}
 use Rattle.sheet.specs.Laws.Sampling.{length-items}
 use Rattle.sheet.specs.Laws.Tested.{passed-validate, tested-refused, passed-reference, passed-offset}
@@ -168,6 +170,14 @@ module _ (p : Plan) (w : List Float) (c : Cursor) (t : Step) (g : Ready p w) (e 
 
   pub step-done : t ≡ Done → to-come p w c ≡ []
   step-done f = gives Done f
+
+-- ---- work, before it is cleared
+
+pub left-passed : (r : List ℕ) (q : Quaternion) (v w : List Float) → tested r ≡ tests.Passed q → w ≡ work-after (job-of r) v → w ≡ work-left r v
+left-passed r q v w e f = f ∙ sym (ap (λ (t : Tested). work-tested t r v) e)
+
+pub left-refused : (r : List ℕ) (k : Refusal) (w : List Float) → tested r ≡ tests.Refused k → w ≡ work-left r w
+left-refused r k w e = sym (ap (λ (t : Tested). work-tested t r w) e)
 
 -- ---- Sampling
 

@@ -1,19 +1,24 @@
 -- What inner functions of Sampling and Check promise one another of a request's plan. Definitions only; `Laws.Plan` joins them to `Sampling` and `Check`.
-use Prim.Native.Nat.{ℕ, _≤_}
+use Prim.Native.Nat.{ℕ, _+_, _≤_}
 use mathlib.Core.Path.{_≡_}
-use mathlib.Core.Bool.{Bool, true, false}
+use mathlib.Core.Bool.{Bool, true, false, cond}
 use mathlib.Core.List.{List}
 use lib.ListN.{length}
 use lib.Dec.{leb}
 use lib.Ieee.{Float}
 use Rattle.sampling.specs.Promises.Stream.{start}
-use Rattle.sampling.specs.Promises.Plan.{by-plan, plan, Ready, to-come}
+use Rattle.sampling.specs.Promises.Plan.{by-plan, plan, work-after, Ready, to-come}
 use Rattle.sampling.specs.declared.lists.Plan.{Plan}
 use Rattle.sheet.specs.Bytes.{words-bytes, same-bytes}
 use Rattle.sheet.specs.Fields.{job-of}
 use Rattle.sheet.specs.Refusals.{Answer, accepted, need}
 use Rattle.sheet.specs.Sampling.{angles, items, cut-count, holds, sheet-size}
-use Rattle.sheet.specs.Check.{clean, meets-none}
+use Rattle.sheet.specs.Request.{core-size}
+use Rattle.sheet.specs.Sheet.{trailer-size}
+use Rattle.sheet.specs.Check.{request-of, formed, clean, meets-none}
+use Rattle.sheet.specs.Promises.Tested.{tested}
+use Rattle.sheet.specs.declared.validate.Tested.{Tested}
+use Rattle.sheet.specs.declared.validate.Tested.the-variants as tests
 
 -- 9, and 10
 abbrev pub is-refused : Plan → Bool
@@ -27,6 +32,18 @@ pub record PlannedFor (r : List ℕ) (p : Plan) (w : List Float) : Type 0 where
   pub made : p ≡ plan (job-of r) (length w)
   pub ready : Ready p w
   pub yields : holds r ≡ true → cut-count r ≤ length w → to-come p w start ≡ angles r
+
+-- what work holds before it is cleared: what the plan leaves of a request that passed its tests, else what it held
+abbrev pub work-tested : Tested → List ℕ → List Float → List Float
+work-tested (tests.Passed q) r w = work-after (job-of r) w
+work-tested (tests.Refused k) r w = w
+
+abbrev pub work-left : List ℕ → List Float → List Float
+work-left r w = work-tested (tested r) r w
+
+-- the same of the request in a sheet, if that is formed
+unfoldable pub work-checked : List ℕ → List Float → List Float
+work-checked s w = cond (leb (core-size + trailer-size) (length s)) (cond (formed s) (work-left (request-of s) w) w) w
 
 -- Sampling of a request that passed its tests: 9 to 11
 unfoldable pub planned-answer : List ℕ → ℕ → ℕ → Answer

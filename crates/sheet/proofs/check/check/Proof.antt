@@ -17,7 +17,7 @@ same-length c = search needs
 returns : tie.Need-returns
 returns c =
     let r = c .before .before .before .before .before .before .inspect in
-    (r .ensures, c .before .before .clear .ensures ∙ ap zeros (r .kept .1 .0))
+    (r .ensures .0, c .before .before .clear .ensures ∙ ap zeros (r .kept .1 .0))
 
 pub check-spec : {M : Type 1} → statement M
 check-spec = tie.close (tie.spec inspect-requires clear-requires same-length returns)

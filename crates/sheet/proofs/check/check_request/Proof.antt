@@ -4,7 +4,7 @@ use native.Mathlib.Omega.{arith}
 use mathlib.Core.Path.{sym, _∙_}
 use Rattle.sheet.specs.Refusals.{need}
 use Rattle.sheet.specs.Promises.Plan.{checked}
-use Rattle.sheet.specs.Laws.Plan.{planned-for, holds-no, holds-yes, refused-meets, holds-meets}
+use Rattle.sheet.specs.Laws.Plan.{planned-for, left-passed, left-refused, holds-no, holds-yes, refused-meets, holds-meets}
 use Rattle.sheet.specs.Laws.Tested.{tested-passed, tested-unit}
 use Rattle.sheet.proofs.check.check_request.Statement.{statement}
 use Rattle.sheet.proofs.check.check_request.Tie as tie
@@ -35,7 +35,7 @@ returns c =
     let g = tested-passed _ _ e in
     let w = c .before .before .before .before .before .before .before .before .before .before .before .before .before .args .work .now in
     let f = planned-for _ g (p .result) w (p .last .0) (p .ensures .0) (p .ensures .1) (p .kept .0) in
-    rw (holds-meets _ g ∙ holds-no _ _ _ f (sym (c .before .is-refused .ensures) ∙ c .if1 .taken))
+    (rw (holds-meets _ g ∙ holds-no _ _ _ f (sym (c .before .is-refused .ensures) ∙ c .if1 .taken)), left-passed _ _ w (p .last .0) e (p .ensures .1))
 
 compare-requires : tie.Need-compare-requires
 compare-requires c =
@@ -62,14 +62,15 @@ returns-2 c =
     let g = tested-passed _ _ e in
     let w = c .before .before .before .before .before .before .before .before .before .before .before .before .before .before .before .args .work .now in
     let f = planned-for _ g (p .result) w (p .last .0) (p .ensures .0) (p .ensures .1) (p .kept .0) in
-    rw (holds-meets _ g ∙ holds-yes _ _ _ f (sym (c .before .before .before .is-refused .ensures) ∙ c .before .before .if1 .left), ← p .kept .0)
-    (c .compare .ensures)
+    let h = holds-meets _ g ∙ holds-yes _ _ _ f (sym (c .before .before .before .is-refused .ensures) ∙ c .before .before .if1 .left) in
+    (rw (h, ← p .kept .0) (c .compare .ensures), left-passed _ _ w (p .last .0) e (p .ensures .1))
 
 returns-3 : tie.Need-returns-3
 unfolding checked need
 returns-3 c =
     let a = c .before .before .before .before .before .before .args in
-    rw (refused-meets (a .request .now) _ (sym (c .before .before .validate .ensures) ∙ c .enum-told .given .1))
+    let e = sym (c .before .before .validate .ensures) ∙ c .enum-told .given .1 in
+    (rw (refused-meets (a .request .now) _ e), left-refused (a .request .now) _ (a .work .now) e)
 
 pub check-request-spec : {M : Type 1} → statement M
 check-request-spec = tie.close (tie.spec validate-requires enum-known-t plan-request-requires is-refused-requires same-length returns compare-requires

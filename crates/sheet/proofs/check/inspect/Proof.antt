@@ -9,13 +9,15 @@ use lib.Seq.{length-take-le}
 use borrow.Author.Tests.{not-true, not-false}
 use Rattle.sheet.specs.Sheet.{frame-size}
 use Rattle.sheet.specs.Check.{items-of, request-of}
-use Rattle.sheet.specs.Promises.Plan.{checked}
-use Rattle.sheet.specs.Laws.Check.{answer-short, answer-trailer, answer-formed, request-is}
+use Rattle.sheet.specs.Promises.Plan.{work-left, checked}
+use Rattle.sheet.specs.Laws.Check.{answer-short, answer-trailer, answer-formed, left-short, left-trailer, left-formed, request-is}
 use Rattle.sheet.proofs.check.inspect.Statement.{statement}
 use Rattle.sheet.proofs.check.inspect.Tie as tie
 
 returns : tie.Need-returns
-returns c = answer-short (c .before .before .before .args .sheet .now) (length (c .before .before .before .args .work .now)) (c .if1 .taken)
+returns c =
+    let a = c .before .before .before .args in
+    (answer-short (a .sheet .now) (length (a .work .now)) (c .if1 .taken), left-short (a .sheet .now) (a .work .now) (c .if1 .taken))
 
 count-of-requires : tie.Need-count-of-requires
 count-of-requires c = search needs
@@ -26,8 +28,9 @@ formed-requires c = search needs
 returns-2 : tie.Need-returns-2
 returns-2 c =
     let a = c .before .before .before .before .before .before .args in
-    answer-trailer (a .sheet .now) (length (a .work .now)) (c .before .before .before .if1 .left)
-    (sym (c .before .formed .ensures) ∙ not-true _ (c .if2 .taken))
+    let h = c .before .before .before .if1 .left in
+    let e = sym (c .before .formed .ensures) ∙ not-true _ (c .if2 .taken) in
+    (answer-trailer (a .sheet .now) (length (a .work .now)) h e, left-trailer (a .sheet .now) (a .work .now) h e)
 
 sub-at : tie.Need-sub-at
 sub-at c = search needs
@@ -57,15 +60,17 @@ same-length c = search needs
 returns-3 : tie.Need-returns-3
 returns-3 c =
     let a = c .before .before .before .before .before .before .before .before .before .before .before .before .args in
+    let s = a .sheet .now in
     let p = length (a .work .now) in
-    let n = c .before .before .before .before .before .before .before .before .count-of .ensures .0 in
-    c .before .before .check-request .ensures
-    ∙ ap (λ (q : List ℕ). checked q (items-of (a .sheet .now)) (c .before .before .before .before .before .before .before .before .count-of .result) p)
-    (request-is (a .sheet .now) _ refl)
-    ∙ ap (λ (m : ℕ). checked (request-of (a .sheet .now)) (items-of (a .sheet .now)) m p) n
-    ∙ sym (answer-formed (a .sheet .now) p (c .before .before .before .before .before .before .before .before .before .if1 .left)
-    (sym (c .before .before .before .before .before .before .before .formed .ensures) ∙ not-false _
-    (c .before .before .before .before .before .before .if2 .left)))
+    let n = c .before .before .before .before .before .before .before .before .count-of in
+    let h = c .before .before .before .before .before .before .before .before .before .if1 .left in
+    let e = sym (c .before .before .before .before .before .before .before .formed .ensures) ∙ not-false _ (c .before .before .before .before .before .before .if2 .left) in
+    let r = c .before .before .check-request .ensures in
+    let i = request-is s _ refl in (
+      r .0 ∙ ap (λ (q : List ℕ). checked q (items-of s) (n .result) p) i ∙ ap (λ (m : ℕ). checked (request-of s) (items-of s) m p) (n .ensures .0)
+          ∙ sym (answer-formed s p h e),
+      r .1 ∙ ap (λ (q : List ℕ). work-left q (a .work .now)) i ∙ left-formed s (a .work .now) h e,
+    )
 
 pub inspect-spec : {M : Type 1} → statement M
 inspect-spec = tie.close (tie.spec returns count-of-requires formed-requires returns-2 sub-at add-end slice-aggregate-check-request sub-check-request

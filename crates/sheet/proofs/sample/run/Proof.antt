@@ -3,7 +3,7 @@ use borrow.Author.Needs.{needs}
 use native.Mathlib.Omega.{arith}
 use mathlib.Core.Path.{refl, sym, _∙_}
 use lib.ListN.{length}
-use Rattle.sheet.specs.Laws.Plan.{planned-for, passed-answer, refused-answer}
+use Rattle.sheet.specs.Laws.Plan.{planned-for, left-passed, left-refused, passed-answer, refused-answer}
 use Rattle.sheet.specs.Laws.Tested.{tested-passed, tested-unit}
 use Rattle.sheet.proofs.sample.run.Statement.{statement}
 use Rattle.sheet.proofs.sample.run.Tie as tie
@@ -46,17 +46,17 @@ returns c =
     let a = c .before .before .before .before .before .before .before .before .before .before .before .before .before .before .before .before .args in
     let e = sym (c .before .before .before .before .before .before .before .before .before .before .before .before .validate .ensures)
     ∙ c .before .before .before .before .before .before .before .before .before .before .t .given .1 in
-    let k = c .before .before .before .before .before .before .before .plan-request .kept .0 in
+    let p = c .before .before .before .before .before .before .before .plan-request in
     let f = c .before .before .finish .ensures in (
-      f .0 ∙ rw k (passed-answer (a .request .now) (length (a .work .now)) (length (a .output .now)) (tested-passed _ _ e)),
-      f .1,
+      f .0 ∙ rw (p .kept .0) (passed-answer (a .request .now) (length (a .work .now)) (length (a .output .now)) (tested-passed _ _ e)),
+      (f .1, left-passed (a .request .now) _ (a .work .now) (p .last .0) e (p .ensures .1)),
     )
 
 returns-2 : tie.Need-returns-2
 returns-2 c =
     let a = c .before .before .before .before .before .before .before .args in
     let e = sym (c .before .before .before .validate .ensures) ∙ c .before .t2 .given .1 in
-    (refused-answer (a .request .now) _ (length (a .work .now)) (length (a .output .now)) e, refl)
+    (refused-answer (a .request .now) _ (length (a .work .now)) (length (a .output .now)) e, (refl, left-refused (a .request .now) _ (a .work .now) e))
 
 pub run-spec : {M : Type 1} → statement M
 run-spec = tie.close (tie.spec validate-requires enum-known-t plan-request-requires finish-requires enum-known-t-2 same-length same-length-2 returns

@@ -20,7 +20,7 @@ same-length-2 c = search needs
 returns : tie.Need-returns
 returns c =
     let r = c .before .before .before .before .before .before .before .before .run in
-    (r .ensures .0, (r .ensures .1, c .before .before .clear .ensures ∙ ap zeros (r .kept .1 .0)))
+    (r .ensures .0, (r .ensures .1 .0, c .before .before .clear .ensures ∙ ap zeros (r .kept .1 .0)))
 
 pub sample-spec : {M : Type 1} → statement M
 sample-spec = tie.close (tie.spec run-requires clear-requires same-length same-length-2 returns)
