@@ -1,7 +1,7 @@
-//! Writes the stored samples of module 4, a line each: the function's letter,
-//! its operands and every number of its answer, as 16 capital hexadecimal
-//! digits. The same lines every time:
-//! `part_samples > ../crates/sampling_vectors/stdin`.
+//! Writes the stored samples of module 4, a line each: the function's mark,
+//! 4 to 7, its operands and every number of its answer, as 16 capital
+//! hexadecimal digits. The same lines every time: the third of the four parts
+//! of crates/vectors/stdin.
 
 use lemongully_oracle::generate::Random;
 use lemongully_oracle::parts::PARTS;
@@ -14,11 +14,11 @@ const STORED: u64 = 512;
 
 fn main() -> Result<()> {
     let mut lines = BufWriter::new(std::io::stdout().lock());
-    for function in &PARTS {
+    for (function, mark) in PARTS.iter().zip('4'..='7') {
         for index in 0..STORED {
             let mut random = Random::new(SEED ^ u64::from(function.letter) << 32, index);
             let operands = (function.operands)(&mut random);
-            write!(lines, "{}", function.letter)?;
+            write!(lines, "{mark}")?;
             for operand in &operands[..function.count] {
                 write!(lines, " {operand:016X}")?;
             }

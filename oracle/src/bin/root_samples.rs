@@ -1,6 +1,6 @@
 //! Writes the stored calls of the operation Roots, a line each, as
-//! crates/polynomial_vectors/src/main.rt reads them. The same lines every time:
-//! `root_samples > ../crates/polynomial_vectors/stdin`.
+//! crates/vectors/src/main.rt reads them. The same lines every time: the second
+//! of the four parts of crates/vectors/stdin.
 
 use lemongully_oracle::float;
 use lemongully_oracle::generate::roots::{Call, call};
@@ -46,7 +46,7 @@ impl Stored {
         let answer = roots_op(&call.coefficients, call.lower, call.upper, &mut result);
         result.truncate(answer.max(0) as usize);
         Self {
-            mark: 'G',
+            mark: '3',
             call,
             answer: if answer < 0 { Err(-answer) } else { Ok(result) },
         }
@@ -70,26 +70,26 @@ impl Stored {
     }
 }
 
-/// The examples of document 01: P are those that it marks so.
+/// The examples of document 01: 1 are those that it marks P.
 fn examples() -> Vec<Stored> {
     let beyond = 4.0f64.next_up();
     let square = [-1.0, 0.0, 1.0];
     let line = [-4.0, 1.0];
     let whole = [-4.0, 4.0];
     vec![
-        Stored::example('P', &square, whole, &[-1.0, 1.0]),
-        Stored::example('P', &[0.0, 0.0, 1.0], [-1.0, 1.0], &[-0.0]),
-        Stored::example('P', &line, whole, &[4.0]),
-        Stored::example('P', &[-5.0, 1.0], whole, &[]),
-        Stored::example('P', &square, [1.0, 1.0], &[1.0]),
-        Stored::example('P', &[-1.0, 1.0, 0.0, 0.0], whole, &[1.0]),
-        Stored::example('P', &[7.0], whole, &[]),
-        Stored::example('P', &[], whole, &[]),
-        Stored::example('E', &line, [4.0, 4.0], &[4.0]),
-        Stored::example('E', &[4.0, 1.0], [-4.0, -4.0], &[-4.0]),
-        Stored::example('E', &line, [-4.0, beyond], &[4.0]).refused(22),
-        Stored::example('E', &line, [-beyond, 4.0], &[4.0]).refused(22),
-        Stored::example('E', &line, [beyond, beyond], &[4.0]).refused(22),
+        Stored::example('1', &square, whole, &[-1.0, 1.0]),
+        Stored::example('1', &[0.0, 0.0, 1.0], [-1.0, 1.0], &[-0.0]),
+        Stored::example('1', &line, whole, &[4.0]),
+        Stored::example('1', &[-5.0, 1.0], whole, &[]),
+        Stored::example('1', &square, [1.0, 1.0], &[1.0]),
+        Stored::example('1', &[-1.0, 1.0, 0.0, 0.0], whole, &[1.0]),
+        Stored::example('1', &[7.0], whole, &[]),
+        Stored::example('1', &[], whole, &[]),
+        Stored::example('2', &line, [4.0, 4.0], &[4.0]),
+        Stored::example('2', &[4.0, 1.0], [-4.0, -4.0], &[-4.0]),
+        Stored::example('2', &line, [-4.0, beyond], &[4.0]).refused(22),
+        Stored::example('2', &line, [-beyond, 4.0], &[4.0]).refused(22),
+        Stored::example('2', &line, [beyond, beyond], &[4.0]).refused(22),
     ]
 }
 

@@ -1,7 +1,7 @@
 //! Writes the stored calls of Sampling and Check, a line each: the operation's
 //! letter, what is lent and answered, and the request or the sheet, as words
-//! of 16 capital hexadecimal digits (`crates/sheet_vectors/src/main.rt`). The
-//! same lines every time: `sheet_samples > ../crates/sheet_vectors/stdin`.
+//! of 16 capital hexadecimal digits (`crates/vectors/src/main.rt`). The
+//! same lines every time: the last of the four parts of crates/vectors/stdin.
 //!
 //! Of the generated calls those are kept that are small, so many of each kind
 //! with its flags, and so many of each refusal.
@@ -99,7 +99,7 @@ fn sample(lines: &mut impl Write, kept: Option<&mut Kept>, call: &requests::Call
     }
     let lent = [call.request.len(), call.work, room].map(|length| length as u64);
     let words = [lent[0], lent[1], lent[2], answer as u64, digest(&output)];
-    line(lines, 'S', &words, &call.request)
+    line(lines, '8', &words, &call.request)
 }
 
 /// A call of Check and its answer.
@@ -112,7 +112,7 @@ fn check(lines: &mut impl Write, kept: Option<&mut Kept>, call: &sheets::Call) -
         return Ok(());
     }
     let words = [call.sheet.len() as u64, call.work as u64, answer as u64];
-    line(lines, 'C', &words, &call.sheet)
+    line(lines, '9', &words, &call.sheet)
 }
 
 /// 01's whole sheet: one work place suffices, none is 10, and its 288 bytes are needed.

@@ -4,15 +4,16 @@ use native.Mathlib.Omega.{arith}
 use mathlib.Core.Path.{_≡_, refl, sym}
 use mathlib.Core.Bool.{Bool, true, false, cond}
 use mathlib.Core.List.{List, [], _∷_, _++_}
-use lib.Dec.{ltb, lit≤}
+use lib.Dec.{leb, ltb, lit≤}
 use lib.ListN.{length, length-append}
-use borrow.Author.Tests.{ltb-false}
+use borrow.Author.Tests.{leb-true, ltb-false}
 use Rattle.text.specs.Decimal.{figures}
 use Rattle.text.specs.Laws.Stores.{length-spelled}
 use Rattle.sheet.specs.Refusals.{Answer, accepted, refused, need}
 use Rattle.sheet.specs.Check as Check
 use Rattle.sheet.specs.Laws.Demands.{checked-length}
-use Rattle.listing.specs.Listing.{places, most, too-long, item, lines, report, check-text}
+use Rattle.listing.specs.Listing.{places, most, too-long, item, lines, report, check-text, printed}
+use Rattle.listing.specs.declared.printed.Printed.the-variants.{Length, Short}
 
 -- ---- numbers
 one-more : (b : Bool) (l : List ℕ) (m : ℕ) → length l ≤ m → length (cond b [] l) + 1 ≤ suc m
@@ -59,3 +60,13 @@ room-suffices s = go (ltb most (length s)) refl
     go : (b : Bool) → b ≡ ltb most (length s) → length (cond b too-long (report (Check.answer s places) s)) ≤ 147456
     go true e = lit≤ tt
     go false e = length-report s (Check.answer s places) (ltb-false most (length s) (sym e)) refl (check-numbered s places)
+
+-- what is counted was lent
+pub printed-within : (t : List ℕ) (room n : ℕ) → Length n ≡ printed t room → n ≤ room
+printed-within t room n e = go (leb (length t) room) refl e
+  where
+    go : (b : Bool) → b ≡ leb (length t) room → Length n ≡ cond b (Length (length t)) Short → n ≤ room
+    go true f g =
+        let h : n ≡ length t = cc in
+        omega (arith, leb-true (length t) room (sym f))
+    go false f g = let z : _≡_ {A = ℕ} 0 1 = cc in omega arith

@@ -1,0 +1,2 @@
+-- What the contracts of `vectors` cite: the digest FNV-1a.
+pub mod Digest

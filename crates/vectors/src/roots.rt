@@ -1,0 +1,151 @@
+// A stored call of the operation Roots, made anew.
+ghost use Prim.Native.Nat.{_+_, _*_, _≤_, _<_};
+ghost use lib.ListN.{length};
+use float::number::bits;
+use float::number::of_bits;
+use polynomial::operation::Answer;
+use text::hex::word;
+use text::lines::held;
+
+// The number of roots in an expected answer: none where it is below 0.
+fn stored_roots(answer: u64) -> usize
+    ensures { λ r. ⌜ r ≤ 513 ⌝ }
+{
+    if 0x7fff_ffff_ffff_ffff < answer {
+        return 0;
+    }
+    held(answer, 512)
+}
+
+// The words that the line at `at` has by its counts, or 0 where these are too large.
+pub(crate) fn words(s: &[u8], at: usize) -> usize
+    requires { ⌜ at < length (now s) ⌝ }
+    ensures { λ r. ⌜ r ≤ 581 ⌝ }
+{
+    if s.len() - at < 19 {
+        return 0;
+    }
+    let n = held(word(s, at + 2), 64);
+    if 64 < n {
+        return 0;
+    }
+    if s.len() - at < 17 * n + 87 {
+        return 0;
+    }
+    let m = stored_roots(word(s, at + 17 * n + 70));
+    if 512 < m {
+        return 0;
+    }
+    n + m + 5
+}
+
+// The bits of what place i of the result slice holds beforehand, another float at each place.
+fn rubbish(i: usize) -> u64
+    requires { ⌜ i < 512 ⌝ }
+{
+    0xc3a5_5a3c_0000_0000 + i as u64
+}
+
+// Rubbish at every place.
+fn blot(result: &mut [f64])
+    requires { ⌜ length (now result) ≤ 512 ⌝ }
+{
+    let mut i = 0usize;
+    while i < result.len() {
+        result[i] = of_bits(rubbish(i));
+        i += 1;
+    }
+}
+
+// The n floats whose words stand 17 bytes apart from `at` on, in the first places of an array.
+fn floats(s: &[u8], at: usize, n: usize) -> [f64; 64]
+    requires { ⌜ (n ≤ 64) × (at + 17 * n ≤ length (now s)) ⌝ }
+{
+    let mut c = [0.0; 64];
+    let mut i = 0usize;
+    while i < n {
+        c[i] = of_bits(word(s, at + 17 * i));
+        i += 1;
+    }
+    c
+}
+
+// The count, or minus 01's number of the refusal, in two's complement.
+fn number(a: Answer) -> u64 {
+    match a {
+        Answer::Count(n) => n as u64,
+        Answer::BadLength => 0xffff_ffff_ffff_ffeb,
+        Answer::BadBounds => 0xffff_ffff_ffff_ffea,
+        Answer::BadPart => 0xffff_ffff_ffff_ffe9,
+        Answer::ShortResult => 0xffff_ffff_ffff_ffe8,
+    }
+}
+
+// The call on the first n floats of c and a slice of so many places.
+fn run(c: &[f64], n: usize, lower: u64, upper: u64, places: usize, result: &mut [f64]) -> u64
+    requires { ⌜ (n ≤ length (now c)) × (places ≤ length (now result)) ⌝ }
+{
+    let l = of_bits(lower);
+    let u = of_bits(upper);
+    number(polynomial::operation::roots(&c[..n], l, u, &mut result[..places]))
+}
+
+// The bits that place i is to hold afterwards: of m roots, whose words stand 17 bytes apart from `at`
+// on, or the rubbish.
+fn expected(s: &[u8], at: usize, m: usize, i: usize) -> u64
+    requires { ⌜ (i < 512) × (at + 17 * m ≤ length (now s)) ⌝ }
+{
+    if i < m {
+        return word(s, at + 17 * i);
+    }
+    rubbish(i)
+}
+
+// Whether every place holds what it is to hold.
+fn holds(s: &[u8], at: usize, m: usize, result: &[f64]) -> bool
+    requires { ⌜ (length (now result) ≤ 512) × (at + 17 * m ≤ length (now s)) ⌝ }
+{
+    let mut good = true;
+    let mut i = 0usize;
+    while i < result.len() {
+        good = good & (bits(result[i]) == expected(s, at, m, i));
+        i += 1;
+    }
+    good
+}
+
+// Whether the call of n floats and m roots at `at` has the expected answer, and every place of
+// the slice and behind it what it is to hold. `after` is where the bounds stand.
+fn answers(s: &[u8], at: usize, n: usize, m: usize) -> bool
+    requires { ⌜ (n ≤ 64) × (at + 17 * (n + m) + 87 ≤ length (now s)) ⌝ }
+{
+    let after = at + 17 * n + 19;
+    let places = held(word(s, after + 34), 512);
+    if 512 < places {
+        return false;
+    }
+    let c = floats(s, at + 19, n);
+    let mut result = [0.0; 512];
+    blot(&mut result);
+    let lower = word(s, after);
+    let upper = word(s, after + 17);
+    let found = run(&c, n, lower, upper, places, &mut result);
+    (found == word(s, after + 51)) & holds(s, after + 68, m, &result)
+}
+
+// The same for a call whose line has k words.
+pub(crate) fn agrees(s: &[u8], at: usize, k: usize) -> bool
+    requires { ⌜ at + 17 * k + 2 ≤ length (now s) ⌝ }
+{
+    if k < 5 {
+        return false;
+    }
+    let n = held(word(s, at + 2), 64);
+    if 64 < n {
+        return false;
+    }
+    if k < n + 5 {
+        return false;
+    }
+    answers(s, at, n, k - n - 5)
+}
