@@ -1,5 +1,5 @@
 -- The bit pattern of what `units` gives at binary64: q * 2 ^ k units, with q having all its 53 digits where k is above 0, has the pattern k * 2 ^ 52 + q, cut to an infinity's, with its sign.
--- And what `closest` gives at 2 ^ 11, as a program computes it. Assumes nothing.
+-- And what `closest` gives at 2 ^ 11, as a program computes it.
 use mathlib.Core.Path.{_≡_, refl, sym, ap, _∙_, subst}
 use mathlib.Core.Logic.{_⊎_, inl, inr}
 use mathlib.Core.Bool.{Bool, true, false, not, cond}

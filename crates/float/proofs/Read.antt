@@ -1,4 +1,4 @@
--- A finite binary64's sign, digits and place, read from its bit pattern. Assumes nothing.
+-- A finite binary64's sign, digits and place, read from its bit pattern.
 use mathlib.Core.Path.{_≡_, refl, sym, ap, _∙_, subst}
 use mathlib.Core.Bool.{Bool, true, false, cond}
 use Prim.Native.Nat.{ℕ, zero, suc, _+_, _*_, _/_, _%_, _^_, _≤_, _<_}

@@ -1,5 +1,5 @@
 -- `round` at binary64 from a number cut to 64 digits: a fraction S * 2 ^ e / 2 ^ c whose S is cut by `jam` to a w below 2 ^ 64 rounds to w's upper 53 digits, moved up where the lower 11 say so.
--- Assumes nothing.
+--
 use mathlib.Core.Path.{_≡_, sym, ap, _∙_, subst}
 use mathlib.Core.Bool.{Bool}
 use Prim.Native.Nat.{ℕ, zero, suc, _+_, _-_, _*_, _/_, _%_, _^_, _≤_, _<_, min}

@@ -1,6 +1,8 @@
--- The float floor of document 01: its modules 1 and 2. What a reader must believe are the definitions, each beside its sentence of 01:
+-- The float floor of document 01: its modules 1 and 2. What a reader must believe are the definitions beside this file, each with its sentence of 01:
 -- `Number` (magnitude to clamp, and the greatest whole number not above), `MulAdd` (fused product), `Sqrt`, `ProductError`, `Trig` (module 2).
--- `Worked` and `Constants` compute examples of them. `Laws` holds what upper crates cite. `Jam`, `Parts`, `Halves` and `Four` are what inner functions promise one another.
+-- `Promises`: what inner functions promise one another.
+-- `Examples`: computed examples.
+-- `Laws`: theorems that upper crates cite.
 pub mod Number
 pub mod MulAdd
 pub mod Sqrt

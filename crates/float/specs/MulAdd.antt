@@ -1,4 +1,4 @@
--- The fused product x * y + z, rounded once, in the style of `lib.Ieee`. Assumes nothing.
+-- The fused product x * y + z, rounded once, in the style of `lib.Ieee`.
 use Prim.Native.Nat.{_*_}
 use lib.Ieee.{Float, nan, inf, fin, Format, unlike, up, down, sum, add, mul}
 

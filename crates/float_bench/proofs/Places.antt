@@ -1,4 +1,4 @@
--- A list of which the first i elements are stepped. Assumes nothing.
+-- A list of which the first i elements are stepped.
 use Prim.Native.Nat.{ℕ, zero, suc, _+_, _<_, _≤_}
 use native.Mathlib.Numerals.{add-one}
 use native.Mathlib.Omega.{arith}

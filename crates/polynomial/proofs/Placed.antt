@@ -1,4 +1,4 @@
--- What `insert` has to show at each of its ends, on plain lists: w is the room, its first n places hold the list, and at is where v belongs. Assumes nothing.
+-- What `insert` has to show at each of its ends, on plain lists: w is the room, its first n places hold the list, and at is where v belongs.
 use mathlib.Core.Path.{_≡_, refl, sym, ap, subst, _∙_}
 use mathlib.Core.Bool.{Bool, true, false, _||_}
 use mathlib.Core.List.{List, [], _∷_, _++_}

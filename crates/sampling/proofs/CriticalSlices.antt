@@ -1,4 +1,4 @@
--- Laws of the cuts that curves give, for the loops over them: one more root, one more curve. Assumes nothing.
+-- Laws of the cuts that curves give, for the loops over them: one more root, one more curve.
 use Prim.Native.Nat.{ℕ, suc, _+_, _-_, _≤_, _<_}
 use native.Mathlib.Omega.{arith}
 use native.Mathlib.Numerals.{add-one}

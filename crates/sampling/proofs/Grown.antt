@@ -1,4 +1,4 @@
--- Laws of cuts that grow in a lent slice: nothing, one value, one list after another. Assumes nothing.
+-- Laws of cuts that grow in a lent slice: nothing, one value, one list after another.
 use mathlib.Core.Path.{_≡_, refl, sym, subst, subst₂}
 use mathlib.Core.Bool.{Bool, true, false, cond}
 use mathlib.Core.List.{List, [], _∷_, _++_, append-assoc, append-nil}

@@ -1,4 +1,4 @@
--- Lists of cuts that stand one after the other in a lent slice, and what is answered of three. Assumes nothing.
+-- Lists of cuts that stand one after the other in a lent slice, and what is answered of three.
 use mathlib.Core.Path.{_≡_, sym, ap, ap₂, _∙_}
 use mathlib.Core.Bool.{true}
 use mathlib.Core.List.{List, _++_, append-assoc}

@@ -1,4 +1,4 @@
--- Laws of lists that grow: nothing, one value, one list after another, a list that a callee puts into the rest of the slice. Assumes nothing.
+-- Laws of lists that grow: nothing, one value, one list after another, a list that a callee puts into the rest of the slice.
 use mathlib.Core.Path.{_≡_, refl, sym, ap, _∙_, subst}
 use mathlib.Core.List.{List, [], _∷_, _++_, append-assoc, append-nil}
 use Prim.Native.Nat.{ℕ, _+_, _≤_, _<_}

@@ -1,4 +1,4 @@
--- Laws of questions: nothing, one question, one list after another; the answers to all, a few at a time. Assumes nothing.
+-- Laws of questions: nothing, one question, one list after another; the answers to all, a few at a time.
 use Prim.Native.Nat.{ℕ, suc, _+_, _≤_, _<_}
 use native.Mathlib.Omega.{arith}
 use mathlib.Core.Path.{_≡_, refl, sym, ap, _∙_}

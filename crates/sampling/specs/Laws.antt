@@ -6,7 +6,7 @@
 -- `Slices` (the values at which joint 1 is tried are what the stream has; how many at most; the reference is among them),
 -- `Least`, `Heads` and `Step` (a step of the stream gives the first of what is to come), `Woven` (the cuts of values within ±64 can be streamed), `Plan` (where a job's plan is laid, the angles read off work are the job's, and depend on its front alone), `J1j2free` (the cuts of a half as those of one list),
 -- `FewCuts` (how many curves, bends and cuts of two free joints at most), `SmallCuts` (the cuts of both halves can be streamed), `Reference` (joint 1's reference as a model angle lies within P),
--- `Angles` (how many angles a job has at most; kind 3 tries the reference), `Reads` (what is not read changes no angle, no number of cuts and no refusal), `Fit` (the format holds every angle).
+-- `Angles` (how many angles a job has at most; kind 3 tries the reference), `Reads` (what is not read changes no angle, no number of cuts and no refusal), `Fit` (the format holds every angle), `Nested` (definitions of one sentence, test by test).
 pub mod Intervals
 pub mod Limits
 pub mod Pose
@@ -26,4 +26,5 @@ pub mod SmallCuts
 pub mod Reference
 pub mod Angles
 pub mod Reads
+pub mod Nested
 pub mod Fit

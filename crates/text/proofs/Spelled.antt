@@ -1,4 +1,4 @@
--- How large the number is that hexadecimal digits stand for. Assumes nothing.
+-- How large the number is that hexadecimal digits stand for.
 use Prim.Native.Nat.{ℕ, zero, suc, _+_, _*_, _-_, _^_, _≤_, _<_}
 use native.Mathlib.Nat.{pow-le-pow-right, pow-suc}
 use native.Mathlib.Omega.{arith}

@@ -1,4 +1,4 @@
--- The angle of a point that lies right or left of zero is made of an arctangent. Assumes nothing.
+-- The angle of a point that lies right or left of zero is made of an arctangent.
 use mathlib.Core.Path.{_≡_, refl, sym, ap, _∙_}
 use mathlib.Core.Bool.{Bool, true, false, _&&_, _||_, cond, false≢true}
 use lib.Ieee.{Float, nan, inf, fin, binary64, neg, eq, lt, le, ne, ofBits, isNan}

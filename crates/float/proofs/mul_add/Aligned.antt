@@ -1,5 +1,5 @@
 -- Two numbers at two places, X * 2 ^ d and Y, of which Y is cut to X's place by `jam`: for an even X, the sum and the difference of X and what is left of Y are the exact ones, cut by `jam`.
--- Assumes nothing.
+--
 use mathlib.Core.Path.{_≡_, sym, ap, _∙_, subst}
 use mathlib.Core.Logic.{_⊎_, inl, inr}
 use Prim.Native.Nat.{ℕ, zero, suc, _+_, _-_, _*_, _/_, _%_, _^_, _≤_, _<_, min}

@@ -1,5 +1,5 @@
 -- What `finish` rounds is the exact number: D is the exact S cut by `jam`, and shifting D to the left before the next cut is shifting S, if nothing was lost of S or the shift is by a word at most.
--- Assumes nothing.
+--
 use mathlib.Core.Path.{_≡_, sym, ap, _∙_, subst}
 use mathlib.Core.Logic.{_⊎_, inl, inr}
 use mathlib.Core.Bool.{Bool}

@@ -1,5 +1,5 @@
 -- The two ways of `mul_add` from the parts of three finite operands: the product p, 2 ^ 20 times that of the digits, at the place m, and the addend h, 2 ^ 73 times its digits, at the place l.
--- The one at the lower place is cut to the other's. Assumes nothing.
+-- The one at the lower place is cut to the other's.
 use mathlib.Core.Path.{_≡_, refl, sym, ap, _∙_, subst}
 use mathlib.Core.Logic.{_⊎_, inl, inr}
 use mathlib.Core.Bool.{Bool}

@@ -1,4 +1,4 @@
--- A number of two words, shifted to the left within two words, and its lower word cut off by `jam`. Assumes nothing.
+-- A number of two words, shifted to the left within two words, and its lower word cut off by `jam`.
 use mathlib.Core.Path.{_≡_, sym, ap, _∙_, subst}
 use Prim.Native.Nat.{ℕ, _+_, _-_, _*_, _/_, _%_, _^_, _≤_, _<_, min, max}
 use native.Mathlib.Nat.{le-trans, le-of-eq, lt-of-lt-of-le, lt-of-le-of-lt, lt-of-not-le, not-le-of-lt, le-add-right, mod-lt, mod-eq-of-lt, div-add-mod', add-zero, one-mul, mul-one, mul-assoc, mul-right-comm, mul-le-mul-left, mul-le-mul-right, lt-of-mul-lt-mul-right, mul-div-mul-right, le-div-iff-mul-le}

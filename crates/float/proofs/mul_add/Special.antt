@@ -1,4 +1,4 @@
--- `mul-add` at binary64 by the parts of its three operands; and where one of them is not finite or is a zero. Assumes nothing.
+-- `mul-add` at binary64 by the parts of its three operands; and where one of them is not finite or is a zero.
 use mathlib.Core.Path.{_≡_, refl, sym, ap, _∙_}
 use mathlib.Core.Logic.{_⊎_, inl, inr}
 use mathlib.Core.Bool.{Bool, true, false, not, true≢false}

@@ -1,4 +1,4 @@
--- `sum` of `lib.Ieee` of equal fractions; and what `combine` gives is it. Assumes nothing.
+-- `sum` of `lib.Ieee` of equal fractions; and what `combine` gives is it.
 use mathlib.Core.Path.{_≡_, refl, sym, ap, _∙_, subst}
 use mathlib.Core.Logic.{_⊎_, inl, inr}
 use mathlib.Core.Bool.{Bool, true, false, Bool·beq}

@@ -1,4 +1,4 @@
--- What `floor` gives: of x cut to a whole number toward zero, one less where x is below that number. Assumes nothing.
+-- What `floor` gives: of x cut to a whole number toward zero, one less where x is below that number.
 use mathlib.Core.Path.{_≡_, refl, sym, ap, subst, _∙_}
 use mathlib.Core.Bool.{Bool, true, false, true≢false, false≢true}
 use Prim.Native.Nat.{ℕ, zero, suc, _+_, _-_, _*_, _/_, _%_, _^_, _≤_, _<_, min}

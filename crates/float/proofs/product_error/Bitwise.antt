@@ -1,5 +1,5 @@
 -- For a zero or from 2 ^ -(k + 1) to 2 ^ 400 in size, and b zero or from 2 ^ -(l + 1), where k + l is at most 968, Dekker's error equals the fused product of a, b and minus their rounded product, sign of a zero included.
--- Signs: both forms are odd in a and in b (`Opp`). Zeros: neither form ever gives -0. Assumes nothing.
+-- Signs: both forms are odd in a and in b (`Opp`). Zeros: neither form ever gives -0.
 use mathlib.Core.Path.{_≡_, refl, sym, ap, ap₂, _∙_, subst}
 use Prim.Native.Nat.{ℕ, zero, suc, _+_, _-_, _*_, _^_, _≤_, _<_}
 use native.Mathlib.Nat.{le-of-eq, lt-of-lt-of-le, lt-irrefl, zero-lt-suc, mul-pos, mul-one, one-mul, zero-mul, mul-zero, mul-assoc, mul-left-comm, mul-right-comm, eq-of-mul-eq-mul-right}

@@ -1,5 +1,5 @@
 -- Dekker's product: for a = A * 2 ^ i and b = B * 2 ^ j units with A and B of 53 digits, every step of (((ah·bh − p) + ah·bl) + al·bh) + al·bl but the last is exact,
--- and the last rounds the exact error a·b − p, which the fused product of a, b and −p rounds too. Assumes nothing.
+-- and the last rounds the exact error a·b − p, which the fused product of a, b and −p rounds too.
 use mathlib.Core.Path.{_≡_, sym, ap₂, _∙_, subst}
 use Prim.Native.Nat.{ℕ, _+_, _-_, _*_, _^_, _≤_, _<_}
 use native.Mathlib.Nat.{le-trans, le-of-eq, mul-le-mul, mul-le-mul-right, mul-le-mul-left, mul-assoc, mul-right-comm, add-mul, mul-add}

@@ -1,5 +1,5 @@
 -- Dekker's error of a product and the fused product of a, b and minus the rounded product are one value, for a and b above zero in the range: `positive-equal`.
--- Assumes nothing.
+--
 use Prim.Native.Nat.{ℕ, _+_, _*_, _^_, _≤_, _<_}
 use native.Mathlib.Nat.{mul-assoc, mul-comm, mul-left-comm, mul-right-comm, add-mul, mul-pos, eq-of-mul-eq-mul-right}
 use native.Mathlib.Omega.{arith}

@@ -1,5 +1,5 @@
 -- A binary64 value from 2 ^ -(k + 1) to 2 ^ 400 is A * 2 ^ i units with 2 ^ 52 ≤ A < 2 ^ 53 and 1021 - k ≤ i ≤ 1422. So Dekker's error equals the fused one for all such a and b above zero, where the two k are small enough.
--- Assumes nothing.
+--
 use mathlib.Core.Path.{_≡_, sym, ap, _∙_, subst}
 use Prim.Native.Nat.{ℕ, zero, suc, _+_, _-_, _*_, _^_, _≤_, _<_}
 use native.Mathlib.Nat.{le-trans, le-of-eq, lt-of-lt-of-le, lt-of-le-of-lt, lt-of-not-le, lt-irrefl, not-le-of-lt, mul-one, one-mul, zero-mul, mul-assoc, mul-comm, mul-left-comm, mul-right-comm, le-of-mul-le-mul-right, mul-le-mul-right, mul-lt-mul-of-pos-right, add-zero}

@@ -1,4 +1,4 @@
--- When a sum or a product of two values of binary64 is not -0, and the sign of each operation. Assumes nothing.
+-- When a sum or a product of two values of binary64 is not -0, and the sign of each operation.
 use mathlib.Core.Path.{_≡_, refl, sym, ap, ap₂, _∙_, subst}
 use Prim.Native.Nat.{ℕ, zero, suc, _+_, _-_, _*_, _^_, _≤_, _<_}
 use native.Mathlib.Nat.{le-trans, le-of-eq, lt-of-lt-of-le, lt-irrefl, zero-lt-suc, mul-pos, one-mul, zero-mul, mul-assoc, mul-comm, mul-right-comm, add-mul, mul-sub}

@@ -1,4 +1,4 @@
--- The code's test of an operand's range, turned into what `dekker-is-fused` asks. Assumes nothing.
+-- The code's test of an operand's range, turned into what `dekker-is-fused` asks.
 use mathlib.Core.Path.{_≡_, refl, sym, ap, subst, _∙_}
 use mathlib.Core.Logic.{_⊎_, inl, inr}
 use mathlib.Core.Bool.{Bool, true, false, cond, false≢true}

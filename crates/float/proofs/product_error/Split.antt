@@ -1,5 +1,5 @@
 -- Veltkamp's split of a binary64 value by 2 ^ 27 + 1 is exact. For a = A * 2 ^ i units with 2 ^ 52 ≤ A < 2 ^ 53 the high half is h * 2 ^ 27 * 2 ^ i units with h ≤ 2 ^ 26,
--- and the low half is the rest, A - h * 2 ^ 27, of size at most 2 ^ 26. Assumes nothing.
+-- and the low half is the rest, A - h * 2 ^ 27, of size at most 2 ^ 26.
 use mathlib.Core.Path.{_≡_, refl, sym, subst}
 use Prim.Native.Nat.{ℕ, suc, _+_, _-_, _*_, _^_, _≤_, _<_}
 use native.Mathlib.Nat.{eq-or-lt-of-le, mul-assoc, le-antisymm, le-of-suc-le-suc, lt-of-not-le, lt-irrefl}

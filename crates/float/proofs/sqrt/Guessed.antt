@@ -1,4 +1,4 @@
--- Patterns and their values, for the guess of `sqrt`: which patterns may be read, and which value has given digits at a given place. Assumes nothing.
+-- Patterns and their values, for the guess of `sqrt`: which patterns may be read, and which value has given digits at a given place.
 use Prim.Native.Nat.{ℕ, _+_, _*_, _/_, _%_, _^_, _≤_, _<_, min}
 use native.Mathlib.Nat.{zero-add}
 use native.Mathlib.Omega.{arith}

@@ -1,4 +1,4 @@
--- Where m * 2 ^ 52 lies to the middles beside q, by the distance d = m * 2 ^ 52 - q * q + 3 * 2 ^ 52; and the value that the nearest whole number makes. Assumes nothing.
+-- Where m * 2 ^ 52 lies to the middles beside q, by the distance d = m * 2 ^ 52 - q * q + 3 * 2 ^ 52; and the value that the nearest whole number makes.
 use Prim.Native.Nat.{ℕ, zero, suc, _+_, _-_, _*_, _^_, _≤_, _<_}
 use native.Mathlib.Nat.{lt-of-not-le, mul-le-mul, mul-le-mul-right, mul-lt-mul-of-pos-right}
 use native.Mathlib.Numerals.{unary-clauses}

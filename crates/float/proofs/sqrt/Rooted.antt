@@ -1,5 +1,5 @@
 -- `sqrt` at binary64: the whole number nearest to the root of n, an n of 105 or 106 digits, is what `sqrt` keeps of n * 4 ^ K.
--- Assumes nothing.
+--
 use mathlib.Core.Path.{_≡_, refl, sym, ap, _∙_, subst}
 use mathlib.Core.Logic.{_⊎_, inl, inr}
 use mathlib.Core.Bool.{Bool, true, false, not, true≢false, false≢true}

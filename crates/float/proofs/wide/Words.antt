@@ -1,4 +1,4 @@
--- `jam` as a program computes it, of a number of two words: the digits that stay, with the last one set by `bitOr`. Assumes nothing.
+-- `jam` as a program computes it, of a number of two words: the digits that stay, with the last one set by `bitOr`.
 use mathlib.Core.Path.{_≡_, sym, ap, _∙_, subst}
 use Prim.Native.Nat.{ℕ, zero, suc, _+_, _-_, _*_, _/_, _%_, _^_, _≤_, _<_, suc-le-suc, min, max}
 use native.Mathlib.Nat.{le-refl, le-of-lt, lt-of-lt-of-le, mod-lt, div-add-mod', add-zero, mul-assoc, mul-div-cancel, mul-mod-left, pow-suc, pow-succ', zero-lt-suc, sub-add-cancel}

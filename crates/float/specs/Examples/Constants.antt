@@ -1,4 +1,4 @@
--- The bits of the constants that 01 gives by them. Assumes nothing.
+-- The bits of the constants that 01 gives by them.
 use mathlib.Core.Path.{_≡_, refl}
 use lib.Ieee.{binary64, toBits}
 use Rattle.float.specs.Trig.{I, H, L, P}

@@ -1,4 +1,4 @@
--- Worked examples of `mul-add` and `sqrt`, by bit pattern, each of them computed by antt. Assumes nothing.
+-- Worked examples of `mul-add` and `sqrt`, by bit pattern, each of them computed by antt.
 use mathlib.Core.Path.{_≡_, refl}
 use mathlib.Core.Bool.{true, false}
 use Prim.Native.Nat.{ℕ}

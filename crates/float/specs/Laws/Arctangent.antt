@@ -1,5 +1,5 @@
 -- Bounds on the arctangent and what is worked out with it: atan is within 3, and atan2, acos and asin within 7. Each halving divides by 2 at least, since 1 ≤ sqrt(1 + a·a).
--- Sizes alone are counted, so the bounds are wide. Assumes nothing.
+-- Sizes alone are counted, so the bounds are wide.
 use mathlib.Core.Path.{_≡_, refl, sym, subst}
 use mathlib.Core.Bool.{Bool, true, false, not, _||_, cond}
 use Prim.Native.Nat.{ℕ, _+_, _*_, _<_}

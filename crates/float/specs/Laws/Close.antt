@@ -1,6 +1,6 @@
 -- Rounding errors, in units of the format's smallest value, 2 ^ -1074. `Close x p n e`: x is finite and at most e units away from p - n.
 -- A value of up to 2 ^ 53 * h units is rounded by at most h of them: so errors through sums and differences (`close-add`, `close-sub`) are sums, and `omega` adds them up.
--- A rounded product is within h units (`mul-close`), its error within 2 * h (`error-close`); far enough from zero the sign is known (`close-positive`, `close-negative`). Assumes nothing.
+-- A rounded product is within h units (`mul-close`), its error within 2 * h (`error-close`); far enough from zero the sign is known (`close-positive`, `close-negative`).
 use Prim.Native.Nat.{ℕ, zero, suc, _+_, _-_, _*_, _/_, _^_, _≤_, _<_}
 use native.Mathlib.Nat.{le-of-eq, le-of-lt, le-of-suc-le-suc, lt-of-le-of-lt, lt-of-not-le, mul-pos, mul-one, zero-mul, zero-add, mul-assoc, mul-comm, mul-right-comm, mul-mul-mul-comm, add-mul, suc-mul, pow-suc, le-of-mul-le-mul-right, mul-le-mul-right, mul-le-mul-left, mul-lt-mul-of-pos-right, div-lt-iff-lt-mul, zero-lt-suc, lt-irrefl}
 use native.Mathlib.Omega.{arith}

@@ -1,4 +1,4 @@
--- The largest value of binary64: every value of the format is within it. Assumes nothing.
+-- The largest value of binary64: every value of the format is within it.
 use Prim.Native.Nat.{ℕ, suc, _+_, _-_, _*_, _^_, _≤_, _<_}
 use native.Mathlib.Nat.{le-trans, le-of-eq, le-of-lt, mul-one, mul-assoc, mul-le-mul, mul-le-mul-left, mul-le-mul-right, lt-of-mul-lt-mul-right, le-of-suc-le-suc}
 use native.Mathlib.Omega.{arith}

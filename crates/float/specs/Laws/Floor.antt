@@ -1,4 +1,4 @@
--- `floor` gives the greatest whole number that is not above a finite value. Assumes nothing.
+-- `floor` gives the greatest whole number that is not above a finite value.
 use mathlib.Core.Path.{_≡_, ap}
 use Prim.Native.Nat.{ℕ, zero, suc, _+_, _*_, _/_, _%_, _≤_, _<_}
 use native.Mathlib.Nat.{div-mul-le-self, lt-div-mul-add, div-add-mod', lt-irrefl, suc-mul, zero-mul}

@@ -1,5 +1,5 @@
 -- What is not negative: squares, products of such, and sums, which do not go down: a ≤ a + b for b ≥ 0, rounding included, for an a of the format.
--- So a rounded sum of squares is no less than each rounded square. Assumes nothing.
+-- So a rounded sum of squares is no less than each rounded square.
 use mathlib.Core.Path.{_≡_, refl, sym, ap, _∙_, subst}
 use mathlib.Core.Bool.{Bool, true, false, false≢true, true≢false}
 use Prim.Native.Nat.{ℕ, _*_, _<_}

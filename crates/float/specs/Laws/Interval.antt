@@ -1,5 +1,5 @@
 -- Intervals of values, signs included: `In lo hi x` says that x is finite and lo ≤ x ≤ hi. Each rule takes the ends of the operands' intervals to the ends of the result's,
--- which for numerals `tt` computes (the declaration says `unfolding add` and so on). The ends asked for may be wider than those computed. Assumes nothing.
+-- which for numerals `tt` computes (the declaration says `unfolding add` and so on). The ends asked for may be wider than those computed.
 use mathlib.Core.Path.{_≡_, ap, _∙_}
 use Prim.Native.Nat.{ℕ, _+_, _*_, _≤_, _<_}
 use native.Mathlib.Nat.{le-refl, le-of-lt, le-of-mul-le-mul-right, mul-le-mul-right, add-mul, mul-right-comm}

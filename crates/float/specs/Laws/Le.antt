@@ -1,6 +1,6 @@
 -- The order of finite values with signs, and that `add`, `sub`, `neg`, a product and a quotient by what is not negative keep it, rounding included.
 -- A finite value is (pl - mi) / den: `pl` is its size where it is not negative and 0 otherwise, `mi` the other way round. So an order of values is an
--- inequality of sums of products. `srnd` rounds such a difference; a sum is that, but for the sign of a zero. Assumes nothing.
+-- inequality of sums of products. `srnd` rounds such a difference; a sum is that, but for the sign of a zero.
 use mathlib.Core.Path.{_≡_, sym, ap, ap₂, _∙_, subst, subst⁻¹}
 use mathlib.Core.Logic.{_⊎_, inl, inr}
 use Prim.Native.Nat.{ℕ, zero, suc, _+_, _-_, _*_, _^_, _≤_, _<_}

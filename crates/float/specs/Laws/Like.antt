@@ -1,5 +1,5 @@
 -- The operations respect `Like`, so they see only the numbers and not the sign of a zero; and `Opp x x'`, x' is minus x as a number, goes through `add`, `sub`, `mul`.
--- Assumes nothing.
+--
 use mathlib.Core.Path.{_≡_, refl, sym, ap, ap₂, _∙_}
 use Prim.Native.Nat.{ℕ, zero, suc, _+_, _-_, _*_, _≤_, _<_}
 use native.Mathlib.Nat.{zero-mul, mul-zero, mul-one, one-mul, mul-pos, mul-assoc, mul-comm, mul-left-comm, zero-lt-suc}

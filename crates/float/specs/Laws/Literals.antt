@@ -1,4 +1,4 @@
--- The code's literals, by their bits, are the floats of the definitions; 0.0 / 0.0 is the NaN. Assumes nothing.
+-- The code's literals, by their bits, are the floats of the definitions; 0.0 / 0.0 is the NaN.
 use mathlib.Core.Path.{_≡_, refl}
 use lib.Ieee.{nan, binary64, div, ofBits}
 use Rattle.float.specs.Number.{one-float, two-float}

@@ -1,5 +1,5 @@
 -- The middle of an interval lies in it, and where it is neither end, each half has fewer units than the whole: what a loop that halves an interval rests on.
--- For the w units between the ends, w = 0 or 2 ^ j ≤ w ≤ 2 ^ (j + 1): so hi - lo rounds to at most 2 ^ (j + 1), its half to at most 2 ^ j, and lo with that is at most hi. Assumes nothing.
+-- For the w units between the ends, w = 0 or 2 ^ j ≤ w ≤ 2 ^ (j + 1): so hi - lo rounds to at most 2 ^ (j + 1), its half to at most 2 ^ j, and lo with that is at most hi.
 use mathlib.Core.Path.{_≡_, refl, sym, ap, _∙_, subst}
 use mathlib.Core.Bool.{true, false}
 use Prim.Native.Nat.{ℕ, zero, suc, _+_, _*_, _^_, _≤_, _<_}

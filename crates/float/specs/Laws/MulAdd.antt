@@ -1,4 +1,4 @@
--- The fused product does not see the sign of a zero (`Like`), and minus goes through it (`Opp`). Assumes nothing.
+-- The fused product does not see the sign of a zero (`Like`), and minus goes through it (`Opp`).
 -- `by-parts-srnd`: of finite values it is one rounded difference.
 -- The laws are proved of `by-parts`, another text of it, by the product and then the addend: `mul-add-is` says that the two are one.
 use Prim.Native.Nat.{ℕ, zero, suc, _+_, _*_, _<_}

@@ -1,5 +1,5 @@
 -- Rounding to nearest in whole numbers: a value of Z * 2 ^ i units, with Z from 2 ^ (prec - 1 + t) up and below 2 ^ (prec + t), rounds to q * 2 ^ t * 2 ^ i units,
--- where q = `closest Z (2 ^ t)` is within a half of Z / 2 ^ t. For products and differences: `mul-near`, `sub-near`. Assumes nothing.
+-- where q = `closest Z (2 ^ t)` is within a half of Z / 2 ^ t. For products and differences: `mul-near`, `sub-near`.
 use mathlib.Core.Path.{_≡_, sym, ap, _∙_, subst}
 use Prim.Native.Nat.{ℕ, suc, _+_, _-_, _*_, _/_, _%_, _^_, _≤_, _<_, compare, Ordering, Ordering·lt, Ordering·eq, Ordering·gt}
 use native.Mathlib.Nat.{le-trans, le-of-eq, lt-of-lt-of-le, lt-of-le-of-lt, lt-of-not-le, not-le-of-lt, mul-pos, mul-assoc, mul-comm, add-mul, lt-irrefl, le-of-mul-le-mul-right, mul-le-mul-right, mul-lt-mul-of-pos-right, mul-div-cancel, div-add-mod', mod-lt, div-lt-iff-lt-mul, zero-add}

@@ -1,4 +1,4 @@
--- An operand in its halves is still that operand. Assumes nothing.
+-- An operand in its halves is still that operand.
 use mathlib.Core.Path.{_≡_, refl, sym, ap, _∙_}
 use lib.Ieee.{Float}
 use Rattle.float.specs.Promises.Halves.{halves}

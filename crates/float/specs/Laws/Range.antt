@@ -1,4 +1,4 @@
--- What a finite value in a range is: from the code's tests to `Within`. Assumes nothing.
+-- What a finite value in a range is: from the code's tests to `Within`.
 use mathlib.Core.Path.{_≡_}
 use mathlib.Core.Bool.{Bool, true, false, not, cond, false≢true}
 use Prim.Native.Nat.{ℕ, _+_, _*_, _≤_}

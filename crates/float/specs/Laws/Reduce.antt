@@ -1,6 +1,6 @@
 -- The range reduction of `sin-cos`: for |x| ≤ 32 and k the greatest whole number not above x·I + 0.5, r = (x − k·H) − k·L has |r| ≤ 203/256 < 0.793, and |k| ≤ 20.
 -- For each k the values x that have it lie in an interval around k·H, since x·I + 0.5 grows with x; on that interval r grows with x, so its two ends bound it.
--- All 41 intervals are tested by one computation, `table`. Assumes nothing.
+-- All 41 intervals are tested by one computation, `table`.
 use mathlib.Core.Path.{_≡_, refl, sym, ap, _∙_, subst}
 use mathlib.Core.List.{List, [], _∷_}
 use Prim.Native.Nat.{ℕ, zero, suc, _+_, _-_, _*_, _^_, _≤_, _<_}

@@ -1,5 +1,5 @@
 -- Bounds through the square root: what has a square of at most v is at most the rounded root of v, and what has a square of at least v is at least that root.
--- With it the parts of a normalized quaternion are within 2. Assumes nothing.
+-- With it the parts of a normalized quaternion are within 2.
 use mathlib.Core.Path.{_≡_, refl, sym, ap, ap₂, _∙_, subst}
 use mathlib.Core.Logic.{inl, inr}
 use mathlib.Core.Bool.{Bool, true, false, not, _&&_, cond}

@@ -1,5 +1,5 @@
 -- Bounds on the polynomials of sine and cosine for |r| ≤ 1: |s| ≤ 19/16, |w| ≤ 25/16 and |w| ≥ 7/16.
--- The terms are taken by their sizes alone, so each step is a closed test, which `tt` proves. Assumes nothing.
+-- The terms are taken by their sizes alone, so each step is a closed test, which `tt` proves.
 use Prim.Native.Nat.{ℕ, _*_}
 use mathlib.Core.Bool.{Bool, true, false, _&&_}
 use lib.IntN.{pos}

@@ -1,4 +1,4 @@
--- The tests of code in the words of the definitions: the sign's bit, `<` and `==` beside the total order, `x != x`, and the parts of a true `&&`. Assumes nothing.
+-- The tests of code in the words of the definitions: the sign's bit, `<` and `==` beside the total order, `x != x`, and the parts of a true `&&`.
 use mathlib.Core.Path.{_≡_, refl, sym, ap, subst, _∙_}
 use mathlib.Core.Bool.{Bool, true, false, not, _||_, _&&_, cond, Bool·not-not, false≢true}
 use Prim.Native.Nat.{ℕ, zero, suc, _+_, _*_, _/_, _%_, _^_, _<_}

@@ -1,7 +1,7 @@
 -- The order of `total_cmp` on floats, and Rust's `==` beside it: the laws that sorting and `dedup` rest on. They hold for every value,
 -- NaN and values that no format holds included; only `total-le-antisym` asks that the values fit.
 -- Three values at a time are mapped to numbers, their places on a line, such that `total-le` is `≤` of the places and `eq` their equality after
--- the places of -0 and +0 are made one. Assumes nothing.
+-- the places of -0 and +0 are made one.
 use mathlib.Core.Path.{_≡_, refl, sym, ap, subst, _∙_}
 use mathlib.Core.Bool.{Bool, true, false, not, _&&_, _||_, Bool·beq, cond}
 use Prim.Native.Nat.{ℕ, _+_, _-_, _*_, _/_, _^_, _≤_, _<_, min}

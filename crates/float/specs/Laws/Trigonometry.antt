@@ -1,4 +1,4 @@
--- Bounds on sine, cosine and tangent: sin and cos are within 25/16 for |x| ≤ 32, and tan within 4 for |y| ≤ 101/128, where k is −1, 0 or 1. Assumes nothing.
+-- Bounds on sine, cosine and tangent: sin and cos are within 25/16 for |x| ≤ 32, and tan within 4 for |y| ≤ 101/128, where k is −1, 0 or 1.
 use Prim.Native.Nat.{ℕ, zero, suc, _≤_}
 use native.Mathlib.Nat.{lt-irrefl}
 use native.Mathlib.Omega.{arith}

@@ -1,6 +1,6 @@
 -- Exact arithmetic. `Is f x p n i`: x is finite and its value is (p - n) * 2 ^ i units of the format's smallest value, for whole numbers p and n.
 -- A sum, a difference or a product whose exact value is such a number with fewer than prec digits is that value: `Is-add`, `Is-sub`, `Is-mul`.
--- `srnd-same`: a rounded difference sees only its value. `Is-Le`, `Le-Is`: the order of such values is that of their units. Assumes nothing.
+-- `srnd-same`: a rounded difference sees only its value. `Is-Le`, `Le-Is`: the order of such values is that of their units.
 use mathlib.Core.Path.{_≡_, refl, sym, ap, ap₂, _∙_, subst}
 use Prim.Native.Nat.{ℕ, zero, suc, _+_, _-_, _*_, _^_, _≤_, _<_}
 use native.Mathlib.Nat.{le-trans, le-of-eq, le-of-lt, lt-of-lt-of-le, zero-mul, mul-one, mul-pos, mul-assoc, mul-comm, mul-left-comm, mul-right-comm, add-mul, mul-add, mul-sub, zero-lt-suc, lt-irrefl, le-of-mul-le-mul-right, mul-le-mul-right, mul-lt-mul-of-pos-right, eq-of-mul-eq-mul-right}

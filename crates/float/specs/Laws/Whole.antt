@@ -1,5 +1,5 @@
 -- The counts of units of a finite value that a format holds, as functions: it is `plus-units` of the format's smallest value, or minus `minus-units` of them.
--- So the comparisons are comparisons of whole numbers, and `width`, the units between two values, can be a loop's measure. Assumes nothing.
+-- So the comparisons are comparisons of whole numbers, and `width`, the units between two values, can be a loop's measure.
 use mathlib.Core.Path.{_≡_, refl, sym, ap, _∙_, subst}
 use mathlib.Core.Logic.{_⊎_, inl, inr, _↔_}
 use mathlib.Core.Bool.{Bool, true, false, not, _&&_}

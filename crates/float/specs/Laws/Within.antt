@@ -1,6 +1,6 @@
 -- Bounds on the size of a result. `Within B x`: x is finite and |x| ≤ |B|. `Beyond B x`: x is finite and |B| ≤ |x|. B is mostly a numeral.
 -- A rule for an operation takes bounds of the operands and any B that the format holds and that the exact bound does not pass: rounding does not cross a value of the format.
--- For numerals X, Y, B each test is closed, so `tt` proves it by computation. Assumes nothing.
+-- For numerals X, Y, B each test is closed, so `tt` proves it by computation.
 use mathlib.Core.Path.{_≡_, refl, sym, ap, ap₂, _∙_, subst}
 use Prim.Native.Nat.{ℕ, zero, suc, _+_, _-_, _*_, _%_, _^_, _≤_, _<_}
 use native.Mathlib.Nat.{le-trans, le-of-eq, lt-of-lt-of-le, lt-of-le-of-lt, zero-mul, mul-one, one-mul, mul-pos, mul-assoc, mul-comm, mul-left-comm, mul-right-comm, add-mul, mul-sub, zero-lt-suc, lt-irrefl, le-of-mul-le-mul-right, mul-le-mul-right, mul-le-mul, mul-lt-mul-of-pos-right, lt-of-mul-lt-mul-right, sub-add-cancel, add-le-add, le-of-lt, mod-lt}

@@ -1,4 +1,4 @@
--- Sums at binary64 by cases and in either order, what rounds to zero, and the code's tests `x - x == 0.0` (x is finite) and `x == 0.0`. Assumes nothing.
+-- Sums at binary64 by cases and in either order, what rounds to zero, and the code's tests `x - x == 0.0` (x is finite) and `x == 0.0`.
 use mathlib.Core.Path.{_≡_, refl, sym, ap, _∙_, subst}
 use mathlib.Core.Logic.{_⊎_, inl, inr}
 use mathlib.Core.Bool.{Bool, true, false, not, _&&_, _||_, Bool·beq, cond, true≢false, false≢true, and-true, and-false}

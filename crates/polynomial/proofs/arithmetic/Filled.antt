@@ -1,4 +1,4 @@
--- An array of nine zeros that is filled from the front. Assumes nothing.
+-- An array of nine zeros that is filled from the front.
 use Prim.Native.Nat.{ℕ, suc, _+_, _-_, _≤_, _<_}
 use native.Mathlib.Omega.{arith}
 use mathlib.Core.Path.{_≡_, sym, ap, ap₂, _∙_}

@@ -1,4 +1,4 @@
--- A product of polynomials: a coefficient with one more place, and one more coefficient. Assumes nothing.
+-- A product of polynomials: a coefficient with one more place, and one more coefficient.
 use Prim.Native.Nat.{ℕ, suc, _+_, _-_, _≤_, _<_, min}
 use native.Mathlib.Numerals.{add-one}
 use native.Mathlib.Omega.{arith}

@@ -1,4 +1,4 @@
--- A sum of polynomials: what is stored, and the sum of the coefficients from i on. Assumes nothing.
+-- A sum of polynomials: what is stored, and the sum of the coefficients from i on.
 use Prim.Native.Nat.{ℕ, _+_, _≤_, _<_}
 use native.Mathlib.Numerals.{add-one}
 use native.Mathlib.Omega.{arith}

@@ -1,4 +1,4 @@
--- The numerator of a harmonic, from what the code works out in turn. Assumes nothing.
+-- The numerator of a harmonic, from what the code works out in turn.
 use mathlib.Core.Path.{_≡_}
 use mathlib.Core.List.{[], _∷_}
 use lib.Ieee.{Float, binary64, neg, ofBits}

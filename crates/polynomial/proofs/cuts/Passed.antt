@@ -1,4 +1,4 @@
--- When a value goes past another in a list of cuts, by the code's tests. Assumes nothing.
+-- When a value goes past another in a list of cuts, by the code's tests.
 use mathlib.Core.Path.{_≡_, refl, sym, ap, subst, _∙_}
 use mathlib.Core.Bool.{Bool, true, false, not, _||_, or-false}
 use borrow.Author.Tests.{not-true, not-false}

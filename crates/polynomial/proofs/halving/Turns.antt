@@ -1,4 +1,4 @@
--- A turn of the halving, and two, leave the interval's result or a narrower interval with the same result. Assumes nothing.
+-- A turn of the halving, and two, leave the interval's result or a narrower interval with the same result.
 use native.Mathlib.Nat.{lt-trans}
 use mathlib.Core.Path.{_≡_, refl, sym, ap, _∙_, subst}
 use mathlib.Core.Bool.{Bool, true, false, not, Bool·beq, cond}

@@ -1,4 +1,4 @@
--- What `inner_roots` has to show at each of its ends: the answer by the tests. Assumes nothing.
+-- What `inner_roots` has to show at each of its ends: the answer by the tests.
 use Prim.Native.Nat.{ℕ, _≤_}
 use mathlib.Core.Path.{_≡_, refl, ap}
 use mathlib.Core.Bool.{Bool, true, false, _&&_}

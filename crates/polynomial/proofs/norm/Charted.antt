@@ -1,4 +1,4 @@
--- What the loop of `chart` keeps: the angles that are left, put into the first n places, give all of them put into what stood at the front at first; behind them stands what stood there. Assumes nothing.
+-- What the loop of `chart` keeps: the angles that are left, put into the first n places, give all of them put into what stood at the front at first; behind them stands what stood there.
 use Prim.Native.Nat.{ℕ, suc, _+_, _≤_, _<_}
 use native.Mathlib.Nat.{le-refl}
 use native.Mathlib.Numerals.{add-one}

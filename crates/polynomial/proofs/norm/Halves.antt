@@ -1,4 +1,4 @@
--- The two halves of `squared_norm_roots`: what each inner call leaves, that there is room for the angles of both, and that these, put one after the other, are the list of cuts, with what stood there behind it. Assumes nothing.
+-- The two halves of `squared_norm_roots`: what each inner call leaves, that there is room for the angles of both, and that these, put one after the other, are the list of cuts, with what stood there behind it.
 use Prim.Native.Nat.{ℕ, _+_, _≤_}
 use native.Mathlib.Nat.{le-refl, le-trans}
 use native.Mathlib.Omega.{arith}

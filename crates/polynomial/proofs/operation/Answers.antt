@@ -1,4 +1,4 @@
--- The operation's answer, by its tests. Assumes nothing.
+-- The operation's answer, by its tests.
 use Prim.Native.Nat.{ℕ, _%_, _≤_, _<_}
 use mathlib.Core.Path.{_≡_, sym}
 use mathlib.Core.Bool.{true, false}

@@ -1,4 +1,4 @@
--- Whether the parts from i on hold, by the first of them. Assumes nothing.
+-- Whether the parts from i on hold, by the first of them.
 use Prim.Native.Nat.{ℕ, suc, _+_, _≤_, _<_}
 use native.Mathlib.Numerals.{add-one}
 use mathlib.Core.Path.{_≡_, sym, ap, _∙_}

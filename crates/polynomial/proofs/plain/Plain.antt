@@ -1,6 +1,6 @@
 -- Where the plain value of a polynomial of at most nine tidy coefficients is far from zero beside the sum of magnitudes, the compensated value has its sign, and is not zero:
 -- `plain-positive`, `plain-negative`; and `near-zero` is false of it: `plain-away`. By induction on the coefficients the two values are a small part of the sum of magnitudes apart (`known`).
--- Assumes nothing.
+--
 use Prim.Native.Nat.{ℕ, suc, _+_, _-_, _*_, _/_, _^_, _≤_, _<_}
 use native.Mathlib.Nat.{le-trans, le-of-eq, add-zero, mul-comm, mul-le-mul, mul-le-mul-right, mul-le-mul-left, le-of-mul-le-mul-right, mul-div-le, lt-mul-div-succ, lt-irrefl}
 use native.Mathlib.Omega.{arith}

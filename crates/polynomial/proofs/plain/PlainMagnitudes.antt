@@ -1,4 +1,4 @@
--- The sum of both parts' magnitudes, in units: about 2 ^ 52 * h at most, with the h of `PlainStep`, so that the bound of `near-zero` is at most 2 * h + 1. Assumes nothing.
+-- The sum of both parts' magnitudes, in units: about 2 ^ 52 * h at most, with the h of `PlainStep`, so that the bound of `near-zero` is at most 2 * h + 1.
 use Prim.Native.Nat.{ℕ, _+_, _-_, _*_, _^_, _≤_}
 use native.Mathlib.Nat.{le-trans, le-of-eq, mul-le-mul-left, mul-le-mul-right}
 use native.Mathlib.Omega.{arith}

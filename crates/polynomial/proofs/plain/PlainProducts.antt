@@ -1,4 +1,4 @@
--- Products in units: how large they are, and how far apart the products of two values by one are. Assumes nothing.
+-- Products in units: how large they are, and how far apart the products of two values by one are.
 use Prim.Native.Nat.{ℕ, _+_, _-_, _*_, _^_, _≤_, _<_}
 use native.Mathlib.Nat.{le-of-lt, mul-le-mul-left, mul-le-mul-right, le-of-mul-le-mul-right}
 use native.Mathlib.Omega.{arith}

@@ -1,4 +1,4 @@
--- One step of the sum of magnitudes, in units: the rounding of the values, which `PlainStep` counts in h units, stays a small part of it. Assumes nothing.
+-- One step of the sum of magnitudes, in units: the rounding of the values, which `PlainStep` counts in h units, stays a small part of it.
 use Prim.Native.Nat.{ℕ, _+_, _-_, _*_, _/_, _^_, _≤_, _<_}
 use native.Mathlib.Nat.{le-trans, le-of-eq, le-of-lt, mul-assoc, mul-comm, mul-le-mul-left, mul-le-mul-right, le-of-mul-le-mul-right, mul-div-le, lt-mul-div-succ}
 use native.Mathlib.Omega.{arith}

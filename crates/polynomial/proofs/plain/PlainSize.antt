@@ -1,4 +1,4 @@
--- A tidy coefficient in units: its high part, and how small its residual is beside it. Assumes nothing.
+-- A tidy coefficient in units: its high part, and how small its residual is beside it.
 use Prim.Native.Nat.{ℕ, _+_, _-_, _*_, _/_, _^_, _≤_, _<_}
 use native.Mathlib.Nat.{le-trans, mul-pos, le-of-mul-le-mul-right, mul-div-le, lt-mul-div-succ}
 use native.Mathlib.Omega.{arith}

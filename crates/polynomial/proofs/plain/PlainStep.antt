@@ -1,4 +1,4 @@
--- One step of Horner arithmetic, plain and compensated: how far apart the two are after it. Assumes nothing.
+-- One step of Horner arithmetic, plain and compensated: how far apart the two are after it.
 use Prim.Native.Nat.{ℕ, _+_, _*_, _^_, _≤_}
 use native.Mathlib.Nat.{mul-le-mul-left, mul-le-mul-right}
 use native.Mathlib.Omega.{arith}

@@ -1,4 +1,4 @@
--- Compensated sums and products in units: how far each part of a result is from the exact one, where every rounding is off by at most h units. Assumes nothing.
+-- Compensated sums and products in units: how far each part of a result is from the exact one, where every rounding is off by at most h units.
 use Prim.Native.Nat.{ℕ, _+_, _*_, _^_, _≤_}
 use native.Mathlib.Omega.{arith}
 use lib.Ieee.{Float, binary64}

@@ -1,4 +1,4 @@
--- The plain value and the scale of the coefficients from i on, with one more of them; and whether they are tidy. Assumes nothing.
+-- The plain value and the scale of the coefficients from i on, with one more of them; and whether they are tidy.
 use Prim.Native.Nat.{ℕ, suc, _-_, _≤_, _<_}
 use native.Mathlib.Omega.{arith}
 use mathlib.Core.Path.{_≡_, sym, ap, ap₂, _∙_, subst}

@@ -1,4 +1,4 @@
--- Where the plain value is far enough from zero, the compensated value has its sign and is not near zero. Assumes nothing.
+-- Where the plain value is far enough from zero, the compensated value has its sign and is not near zero.
 use Prim.Native.Nat.{ℕ, _≤_}
 use native.Mathlib.Omega.{arith}
 use mathlib.Core.Path.{_≡_, refl, sym, ap, ap₂, _∙_, subst}

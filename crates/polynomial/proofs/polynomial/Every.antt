@@ -1,4 +1,4 @@
--- Whether every part of the coefficients from i on passes a test, by the parts of the first of them. Assumes nothing.
+-- Whether every part of the coefficients from i on passes a test, by the parts of the first of them.
 use Prim.Native.Nat.{ℕ, suc, _+_, _≤_, _<_}
 use native.Mathlib.Numerals.{add-one}
 use native.Mathlib.Omega.{arith}

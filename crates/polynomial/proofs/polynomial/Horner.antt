@@ -1,4 +1,4 @@
--- The value and the magnitudes of the coefficients from i on, with one more of them. Assumes nothing.
+-- The value and the magnitudes of the coefficients from i on, with one more of them.
 use Prim.Native.Nat.{ℕ, suc, _-_, _≤_, _<_}
 use native.Mathlib.Omega.{arith}
 use mathlib.Core.Path.{_≡_, sym, ap, ap₂, _∙_}

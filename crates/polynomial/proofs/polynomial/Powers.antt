@@ -1,4 +1,4 @@
--- The derivative: what is stored, and the coefficients from i on times their powers. Assumes nothing.
+-- The derivative: what is stored, and the coefficients from i on times their powers.
 use Prim.Native.Nat.{ℕ, _+_, _-_, _≤_, _<_}
 use native.Mathlib.Numerals.{add-one}
 use native.Mathlib.Omega.{arith}

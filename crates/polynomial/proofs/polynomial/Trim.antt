@@ -1,4 +1,4 @@
--- A polynomial without the zeros at its end, by its last coefficient. Assumes nothing.
+-- A polynomial without the zeros at its end, by its last coefficient.
 use Prim.Native.Nat.{ℕ, suc, _-_, _≤_, _<_}
 use native.Mathlib.Omega.{arith}
 use mathlib.Core.Path.{_≡_, refl, sym, ap, subst, _∙_}

@@ -1,4 +1,4 @@
--- What a scan of the points puts, value by value, is what the definition collects: the touches and the crossings, in another order. Assumes nothing.
+-- What a scan of the points puts, value by value, is what the definition collects: the touches and the crossings, in another order.
 use Prim.Native.Nat.{suc, _≤_}
 use native.Mathlib.Omega.{arith}
 use mathlib.Core.Path.{_≡_, refl, sym, ap, ap₂, _∙_}

@@ -1,4 +1,4 @@
--- What stands in a slice whose first places hold a list, and after one more value was put there, or was not. Assumes nothing.
+-- What stands in a slice whose first places hold a list, and after one more value was put there, or was not.
 use Prim.Native.Nat.{ℕ, _<_, _≤_}
 use native.Mathlib.Omega.{arith}
 use mathlib.Core.Path.{_≡_, sym, ap, ap₂, subst, _∙_}

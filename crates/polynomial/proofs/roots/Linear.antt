@@ -1,4 +1,4 @@
--- The root of a + b x, by the tests of the code: va and vb are the two values. Assumes nothing.
+-- The root of a + b x, by the tests of the code: va and vb are the two values.
 use Prim.Native.Nat.{_<_}
 use native.Mathlib.Nat.{lt-irrefl}
 use mathlib.Core.Path.{_≡_, refl, sym, ap, ap₂, _∙_}

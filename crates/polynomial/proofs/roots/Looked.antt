@@ -1,4 +1,4 @@
--- What a look at a point gives, by the sign that plain arithmetic tells, or by the value. Assumes nothing.
+-- What a look at a point gives, by the sign that plain arithmetic tells, or by the value.
 use Prim.Native.Nat.{ℕ, _≤_}
 use mathlib.Core.Path.{_≡_, sym, ap, subst, _∙_}
 use mathlib.Core.Bool.{false, cond}

@@ -1,4 +1,4 @@
--- What the loop of `scan` keeps, from its first point to its last: the first k places hold the cuts so far, behind them stands what stood there at the loop's start, and a run over the points to come gives the whole. Assumes nothing.
+-- What the loop of `scan` keeps, from its first point to its last: the first k places hold the cuts so far, behind them stands what stood there at the loop's start, and a run over the points to come gives the whole.
 use Prim.Native.Nat.{ℕ, suc, _+_, _≤_, _<_}
 use native.Mathlib.Nat.{le-refl}
 use native.Mathlib.Numerals.{add-one}

@@ -1,6 +1,6 @@
 -- Laws of `sort`, `dedup`, `cuts` and `put`. Those of `put` hold for every value, NaN included. Where values change places,
 -- as in `cuts-perm`, they have to fit the format, so that values which `total_cmp` does not tell apart are one.
--- A list of cuts increases strictly, and a list that does is its own list of cuts. Assumes nothing.
+-- A list of cuts increases strictly, and a list that does is its own list of cuts.
 use mathlib.Core.Path.{_≡_, refl, sym, ap, subst, _∙_}
 use mathlib.Core.Bool.{Bool, true, false, not, cond}
 use mathlib.Core.List.{List, [], _∷_, _++_, List·Permᴰ, List·Permᴰ·nil, List·Permᴰ·cons, List·Permᴰ·swap, List·Permᴰ·trans, Permᴰ·symm, Permᴰ·middle, Permᴰ·append-nil}

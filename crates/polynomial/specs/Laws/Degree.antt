@@ -1,5 +1,5 @@
 -- The degree falls: a trimmed polynomial is no longer, its derivative is one coefficient shorter. So any count as large as the number of coefficients gives the same roots,
--- and each way through `roots-at` is an equation without the count. Assumes nothing.
+-- and each way through `roots-at` is an equation without the count.
 use Prim.Native.Nat.{ℕ, zero, suc, _-_, _≤_, _<_, zero-le, suc-le-suc}
 use native.Mathlib.Nat.{le-refl, le-trans, le-of-suc-le-suc, eq-zero-or-pos, not-suc-le-zero}
 use native.Mathlib.Omega.{arith}

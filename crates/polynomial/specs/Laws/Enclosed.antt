@@ -1,5 +1,5 @@
 -- For bounds that can be halved, `Span 2 lower upper`: every root and every partition point is a finite float of the format between the bounds, so none is a NaN. Points and roots increase strictly,
--- so that two neighbouring points are an interval that can be halved. A polynomial of trimmed degree d ≥ 1 has at most 2 ^ (d + 1) - 3 roots. Assumes nothing.
+-- so that two neighbouring points are an interval that can be halved. A polynomial of trimmed degree d ≥ 1 has at most 2 ^ (d + 1) - 3 roots.
 use Prim.Native.Nat.{ℕ, zero, suc, _+_, _-_, _*_, _^_, _≤_, _<_, zero-le, suc-le-suc}
 use native.Mathlib.Nat.{le-refl, le-of-lt, le-trans, le-suc, le-of-suc-le-suc, pow-suc}
 use native.Mathlib.Omega.{arith}

@@ -1,5 +1,5 @@
 -- The halving of an interval is its loop: more turns than there are units between the ends change nothing (`enough`), so a turn gives what its half gives, with no count of turns (`step`).
--- Each way through a turn has its law, whose premises are the code's tests. The result lies between the ends (`bisected-in`). Assumes nothing.
+-- Each way through a turn has its law, whose premises are the code's tests. The result lies between the ends (`bisected-in`).
 use Prim.Native.Nat.{ℕ, zero, suc, _-_, _^_, _≤_, _<_}
 use native.Mathlib.Nat.{le-trans}
 use native.Mathlib.Omega.{arith}

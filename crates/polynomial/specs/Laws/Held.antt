@@ -1,4 +1,4 @@
--- A list of cuts that grows in a lent slice: what a loop around `insert` keeps, and what it has to show at its ends. Assumes nothing.
+-- A list of cuts that grows in a lent slice: what a loop around `insert` keeps, and what it has to show at its ends.
 use mathlib.Core.Path.{_≡_, refl, sym, ap, subst, _∙_}
 use mathlib.Core.Bool.{Bool, true, false, cond}
 use mathlib.Core.List.{List, [], _∷_, _++_}

@@ -1,4 +1,4 @@
--- What an inner call of the root finder says, by its answer: whether the list and the bounds hold, and where the roots stand. Assumes nothing.
+-- What an inner call of the root finder says, by its answer: whether the list and the bounds hold, and where the roots stand.
 use mathlib.Core.Path.{_≡_, sym, ap, _∙_, refl}
 use mathlib.Core.Bool.{true, false, Bool, cond}
 use mathlib.Core.List.{List, _++_}

@@ -1,4 +1,4 @@
--- Laws of lists, beside those of `lib.Seq`: what holds of every element, and what the loops ask for. Assumes nothing.
+-- Laws of lists, beside those of `lib.Seq`: what holds of every element, and what the loops ask for.
 use mathlib.Core.Path.{_≡_, refl, sym, ap, _∙_}
 use mathlib.Core.List.{List, [], _∷_, _++_, append-nil}
 use Prim.Native.Nat.{ℕ, zero, suc, _+_, _-_, _<_}

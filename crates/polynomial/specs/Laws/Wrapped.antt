@@ -1,4 +1,4 @@
--- An angle wrapped to one turn fits binary64; of a finite angle it lies within P. Assumes nothing.
+-- An angle wrapped to one turn fits binary64; of a finite angle it lies within P.
 use native.Mathlib.Nat.{zero-lt-suc}
 use mathlib.Core.Bool.{Bool, true, false, not, cond}
 use lib.Dec.{T}

@@ -1,4 +1,4 @@
--- The roots of a squared norm, put by `squared_norm_roots` behind the first n numbers of a slice w, by what that says of its answer. Assumes nothing.
+-- The roots of a squared norm, put by `squared_norm_roots` behind the first n numbers of a slice w, by what that says of its answer.
 use Prim.Native.Nat.{ℕ, _+_, _-_, _≤_}
 use native.Mathlib.Omega.{arith}
 use mathlib.Core.Path.{_≡_, sym, ap, _∙_}

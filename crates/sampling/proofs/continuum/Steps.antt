@@ -1,4 +1,4 @@
--- `crossings` in steps: the tests, then the angles around the phase. Assumes nothing.
+-- `crossings` in steps: the tests, then the angles around the phase.
 use mathlib.Core.Path.{_≡_, refl, sym, ap, _∙_}
 use mathlib.Core.Bool.{Bool, true, false, not, _&&_, _||_, cond}
 use mathlib.Core.List.{[]}

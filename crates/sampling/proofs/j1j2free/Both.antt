@@ -1,4 +1,4 @@
--- Both halves' lists, one after the other in the front of a slice, by what `half_cuts` says of each. Assumes nothing.
+-- Both halves' lists, one after the other in the front of a slice, by what `half_cuts` says of each.
 use Prim.Native.Nat.{ℕ, _+_, _-_, _≤_, _<_}
 use native.Mathlib.Omega.{arith}
 use mathlib.Core.Path.{_≡_, refl, sym, ap, subst, _∙_}

@@ -1,4 +1,4 @@
--- A job's plan and cuts are those of its kind; what holds where the plan is laid holds with whatever stands for the other case. Assumes nothing.
+-- A job's plan and cuts are those of its kind; what holds where the plan is laid holds with whatever stands for the other case.
 use mathlib.Core.Path.{_≡_, refl, sym, ap₂, subst, _∙_}
 use mathlib.Core.List.{List, [], _++_}
 use Prim.Native.Nat.{ℕ}

@@ -1,4 +1,4 @@
--- What the proofs of the stream share: a step over the three heads, test by test; a turn of the loop that drops what equals the last value. Assumes nothing.
+-- What the proofs of the stream share: a step over the three heads, test by test; a turn of the loop that drops what equals the last value.
 use Prim.Native.Nat.{ℕ, suc, _+_, _<_}
 use native.Mathlib.Omega.{arith}
 use mathlib.Core.Path.{_≡_, sym, _∙_}

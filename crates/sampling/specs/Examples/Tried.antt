@@ -1,4 +1,4 @@
--- The cases that 01 marks P, about the definitions of modules 3 and 4, each of them computed by antt. Assumes nothing.
+-- The cases that 01 marks P, about the definitions of modules 3 and 4, each of them computed by antt.
 use Prim.Native.Nat.{ℕ}
 use mathlib.Core.Path.{_≡_, refl}
 use mathlib.Core.List.{List, [], _∷_}

@@ -1,4 +1,4 @@
--- Two theorems about a job's angles: how many there are at most, and that kind 3 tries the reference. Assumes nothing.
+-- Two theorems about a job's angles: how many there are at most, and that kind 3 tries the reference.
 use mathlib.Core.Path.{_≡_, refl, sym, subst}
 use mathlib.Core.Bool.{true, not}
 use mathlib.Core.List.{List, []}

@@ -1,4 +1,4 @@
--- How many boundary angles of one free joint there are at most, how many cuts, and how many angles. Assumes nothing.
+-- How many boundary angles of one free joint there are at most, how many cuts, and how many angles.
 use mathlib.Core.Path.{_≡_}
 use mathlib.Core.Bool.{Bool, true, false, _&&_, cond}
 use mathlib.Core.List.{List, [], _∷_, _++_}

@@ -1,4 +1,4 @@
--- How many boundary curves, slices of narrow bends and cuts there are at most where joints 1 and 2 are free. Assumes nothing.
+-- How many boundary curves, slices of narrow bends and cuts there are at most where joints 1 and 2 are free.
 use Prim.Native.Nat.{ℕ, zero, suc, _+_, _*_, _≤_, zero-le}
 use native.Mathlib.Nat.{not-suc-le-zero, le-of-suc-le-suc}
 use native.Mathlib.Omega.{arith}

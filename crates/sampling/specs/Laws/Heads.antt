@@ -1,4 +1,4 @@
--- What a step has to show at each of its ends: x, y and z are the heads of the two lists and of the reference, a NaN where there is none. Assumes nothing.
+-- What a step has to show at each of its ends: x, y and z are the heads of the two lists and of the reference, a NaN where there is none.
 use Prim.Native.Nat.{ℕ, _+_, _<_}
 use native.Mathlib.Decide.{decLt}
 use native.Mathlib.Omega.{arith}

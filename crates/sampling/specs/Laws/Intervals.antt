@@ -1,4 +1,4 @@
--- A limit interval is in order and lies within P, whatever it was cut from. Assumes nothing.
+-- A limit interval is in order and lies within P, whatever it was cut from.
 use mathlib.Core.Path.{_≡_}
 use mathlib.Core.Bool.{Bool, true, false, not, _&&_, cond}
 use Prim.Native.Nat.{ℕ}

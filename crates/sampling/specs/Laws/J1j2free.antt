@@ -1,4 +1,4 @@
--- The cuts of a half as those of one list of values, which all fit. Assumes nothing.
+-- The cuts of a half as those of one list of values, which all fit.
 use mathlib.Core.Path.{_≡_}
 use mathlib.Core.Bool.{Bool, true, false, _&&_, cond}
 use mathlib.Core.List.{List, [], _∷_, _++_, flatMap}

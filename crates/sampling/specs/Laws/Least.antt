@@ -1,4 +1,4 @@
--- The least head of three lists in order is the first of all their values in order. A list's head is a NaN where it is empty, and a NaN comes last. Assumes nothing.
+-- The least head of three lists in order is the first of all their values in order. A list's head is a NaN where it is empty, and a NaN comes last.
 use Prim.Native.Nat.{ℕ, zero, suc}
 use native.Mathlib.Nat.{add-zero}
 use mathlib.Core.Path.{_≡_, refl, _∙_}

@@ -1,4 +1,4 @@
--- The interval of a joint's model angle: its centre lies within P and its half width between 0 and P, so its ends are in order and lie within a turn. Assumes nothing.
+-- The interval of a joint's model angle: its centre lies within P and its half width between 0 and P, so its ends are in order and lie within a turn.
 use mathlib.Core.Path.{_≡_}
 use mathlib.Core.Logic.{_⊎_, inl, inr}
 use mathlib.Core.Bool.{Bool, true, false, not, _||_, cond}

@@ -1,4 +1,4 @@
--- Laws of a job's plan, for upper crates: where it is laid, the angles that are read off work are the job's, and they depend on its front alone; how many samples three lists give; a step is the next of them. Assumes nothing.
+-- Laws of a job's plan, for upper crates: where it is laid, the angles that are read off work are the job's, and they depend on its front alone; how many samples three lists give; a step is the next of them.
 use mathlib.Core.Path.{_≡_, refl, sym, ap, ap₂, subst, _∙_}
 use mathlib.Core.Bool.{Bool, true, false, not, cond, false≢true}
 use mathlib.Core.List.{List, [], _∷_, _++_, append-assoc}

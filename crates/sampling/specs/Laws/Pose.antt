@@ -1,4 +1,4 @@
--- The parts of a normalized quaternion lie within 2, and the entries of its rotation matrix within 17. Assumes nothing.
+-- The parts of a normalized quaternion lie within 2, and the entries of its rotation matrix within 17.
 use mathlib.Core.Path.{_≡_}
 use mathlib.Core.Bool.{Bool, true, false, not, _&&_, _||_, cond}
 use Prim.Native.Nat.{ℕ, zero, suc, _*_, _<_}

@@ -1,4 +1,4 @@
--- Two jobs that have all that is read in common have the same angles, the same number of cuts, and the same refusals of inner calls, whatever the unread fields hold. Assumes nothing.
+-- Two jobs that have all that is read in common have the same angles, the same number of cuts, and the same refusals of inner calls, whatever the unread fields hold.
 use Prim.Native.Nat.{ℕ}
 use mathlib.Core.Path.{_≡_, refl, sym, ap, subst, _∙_}
 use mathlib.Core.Bool.{Bool, true, false, not, _&&_}

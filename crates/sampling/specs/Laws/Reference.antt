@@ -1,4 +1,4 @@
--- Joint 1's reference as a model angle lies within P, so it is a number. Assumes nothing.
+-- Joint 1's reference as a model angle lies within P, so it is a number.
 use mathlib.Core.Bool.{not}
 use lib.Dec.{T}
 use lib.Ieee.{Float, binary64, neg, sub, le, fits, isNan}

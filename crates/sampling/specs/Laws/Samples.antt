@@ -1,4 +1,4 @@
--- Laws of a free joint's samples: angles and roots one by one, and which sample stands at which position. Assumes nothing.
+-- Laws of a free joint's samples: angles and roots one by one, and which sample stands at which position.
 use Prim.Native.Nat.{ℕ, zero, suc, _+_, _-_, _*_, _<_, _≤_}
 use native.Mathlib.Numerals.{add-one}
 use native.Mathlib.Omega.{arith}

@@ -1,5 +1,5 @@
 -- Laws of the values at which joint 1 is tried: the stream from its start is their list, as the limits are among the cuts of the halves already; how many there are at most; the reference is among them.
--- Assumes nothing.
+--
 use Prim.Native.Nat.{_+_, _*_, _≤_}
 use native.Mathlib.Omega.{arith}
 use mathlib.Core.Path.{_≡_, refl, sym, ap, subst, _∙_}

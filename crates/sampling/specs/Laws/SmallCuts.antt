@@ -1,4 +1,4 @@
--- Where the ends of a half are in order and lie within ±8, as those of a joint's interval do, all its values lie within ±64, so that its cuts can be streamed. Assumes nothing.
+-- Where the ends of a half are in order and lie within ±8, as those of a joint's interval do, all its values lie within ±64, so that its cuts can be streamed.
 use mathlib.Core.Path.{_≡_, refl}
 use mathlib.Core.Bool.{Bool, true, false, _&&_, cond}
 use mathlib.Core.List.{List, [], _∷_, _++_, flatMap}

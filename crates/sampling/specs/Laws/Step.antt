@@ -1,4 +1,4 @@
--- A step of the stream: it gives the first of what is to come, and one value fewer is left behind it. Assumes nothing.
+-- A step of the stream: it gives the first of what is to come, and one value fewer is left behind it.
 use Prim.Native.Nat.{ℕ, zero, suc, _+_, _-_, _≤_, _<_}
 use native.Mathlib.Nat.{le-of-suc-le-suc, not-suc-le-zero}
 use native.Mathlib.Omega.{arith}

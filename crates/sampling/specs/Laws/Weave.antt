@@ -1,4 +1,4 @@
--- Laws of a list woven with the middles of its neighbours: it has the same values as the list and its middles, its length, and what stands at each place. Assumes nothing.
+-- Laws of a list woven with the middles of its neighbours: it has the same values as the list and its middles, its length, and what stands at each place.
 use Prim.Native.Nat.{ℕ, zero, suc, _+_, _≤_, _<_}
 use native.Mathlib.Nat.{le-of-suc-le-suc, not-suc-le-zero}
 use native.Mathlib.Numerals.{add-one}

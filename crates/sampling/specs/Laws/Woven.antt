@@ -1,4 +1,4 @@
--- What the stream asks of a list holds of the cuts of values within ±64: each middle stands between its neighbours, and all are numbers. Assumes nothing.
+-- What the stream asks of a list holds of the cuts of values within ±64: each middle stands between its neighbours, and all are numbers.
 use native.Mathlib.Omega.{arith}
 use mathlib.Core.Path.{_≡_}
 use mathlib.Core.Bool.{false, not}

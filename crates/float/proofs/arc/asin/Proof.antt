@@ -1,4 +1,4 @@
--- `float::arc::asin` meets its contract. Assumes nothing.
+-- `float::arc::asin` meets its contract.
 use mathlib.Core.Path.{ap, _∙_}
 use lib.Ieee.{Float}
 use borrow.Author.Needs.{needs}

@@ -1,4 +1,4 @@
--- `float::arc::atan` meets its contract: at each return, what the calls and the tests on the way to it say. Assumes nothing.
+-- `float::arc::atan` meets its contract: at each return, what the calls and the tests on the way to it say.
 use mathlib.Core.Path.{ap, _∙_}
 use borrow.Author.Needs.{needs}
 use Rattle.float.specs.Trig.{atan-value, halved}

@@ -1,4 +1,4 @@
--- `float::arc::atan2` meets its contract. Assumes nothing.
+-- `float::arc::atan2` meets its contract.
 use mathlib.Core.Path.{sym, _∙_}
 use mathlib.Core.Bool.{true, false}
 use borrow.Author.Needs.{needs}

@@ -1,4 +1,4 @@
--- `float::arc::atan2_four` meets its contract: at each return, what the calls and the tests on the way to it say. Assumes nothing.
+-- `float::arc::atan2_four` meets its contract: at each return, what the calls and the tests on the way to it say.
 use mathlib.Core.Path.{sym, _∙_}
 use mathlib.Core.Bool.{_&&_}
 use borrow.Author.Needs.{needs}

@@ -1,4 +1,4 @@
--- `float::arc::atan_four` meets its contract: at each return, what the calls and the tests on the way to it say. Assumes nothing.
+-- `float::arc::atan_four` meets its contract: at each return, what the calls and the tests on the way to it say.
 use mathlib.Core.Path.{_≡_, ap, _∙_}
 use borrow.Author.Needs.{needs}
 use Rattle.float.specs.Promises.Four.{each}

@@ -1,4 +1,4 @@
--- `float::arc::atan_value` meets its contract: each constant of the code is the rounded quotient that the definition names. Assumes nothing.
+-- `float::arc::atan_value` meets its contract: each constant of the code is the rounded quotient that the definition names.
 use mathlib.Core.Path.{refl}
 use lib.Ieee.{neg, sub, round, ofBits}
 use Rattle.float.specs.Trig.{atan-value, atan-series}

@@ -1,4 +1,4 @@
--- `float::arc::copysign` meets its contract. Assumes nothing.
+-- `float::arc::copysign` meets its contract.
 use mathlib.Core.Path.{sym, ap, _∙_}
 use mathlib.Core.Bool.{Bool, cond}
 use lib.Ieee.{neg}

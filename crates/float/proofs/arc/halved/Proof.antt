@@ -1,4 +1,4 @@
--- `float::arc::halved` meets its contract. Assumes nothing.
+-- `float::arc::halved` meets its contract.
 use mathlib.Core.Path.{ap}
 use lib.Ieee.{Float, ofBits}
 use borrow.Author.Needs.{needs}

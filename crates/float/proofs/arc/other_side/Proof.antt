@@ -1,4 +1,4 @@
--- `float::arc::other_side` meets its contract. Assumes nothing.
+-- `float::arc::other_side` meets its contract.
 use lib.Ieee.{ofBits}
 use borrow.Author.Needs.{needs}
 use Rattle.float.proofs.arc.other_side.Statement.{statement}

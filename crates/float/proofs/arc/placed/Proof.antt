@@ -1,4 +1,4 @@
--- `float::arc::placed` meets its contract. Assumes nothing.
+-- `float::arc::placed` meets its contract.
 use mathlib.Core.Path.{_∙_}
 use mathlib.Core.Bool.{true, false}
 use Rattle.float.specs.Number.{_⊕_, _⊖_}

@@ -1,4 +1,4 @@
--- `float::arc::placed_four` meets its contract: at each return, what the calls and the tests on the way to it say. Assumes nothing.
+-- `float::arc::placed_four` meets its contract: at each return, what the calls and the tests on the way to it say.
 use mathlib.Core.Path.{_≡_, ap}
 use mathlib.Core.Bool.{true}
 use borrow.Author.Needs.{needs}

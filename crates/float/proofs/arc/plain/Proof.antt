@@ -1,4 +1,4 @@
--- `float::arc::plain` meets its contract: at each return, what the calls and the tests on the way to it say. Assumes nothing.
+-- `float::arc::plain` meets its contract: at each return, what the calls and the tests on the way to it say.
 use mathlib.Core.Path.{refl}
 use lib.Ieee.{ofBits}
 use Rattle.float.specs.Promises.Four.{plain}

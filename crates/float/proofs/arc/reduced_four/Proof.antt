@@ -1,4 +1,4 @@
--- `float::arc::reduced_four` meets its contract: at each return, what the calls and the tests on the way to it say. Assumes nothing.
+-- `float::arc::reduced_four` meets its contract: at each return, what the calls and the tests on the way to it say.
 use borrow.Author.Needs.{needs}
 use Rattle.float.specs.Promises.Four.{each}
 use Rattle.float.proofs.arc.reduced_four.Statement.{statement}

@@ -1,4 +1,4 @@
--- `float::arc::restored` meets its contract. Assumes nothing.
+-- `float::arc::restored` meets its contract.
 use mathlib.Core.Path.{_≡_, sym, ap, _∙_}
 use mathlib.Core.Bool.{true, false}
 use lib.Ieee.{Float, binary64, div, lt, ofBits}

@@ -1,4 +1,4 @@
--- `float::mul_add::combine` meets its contract: what it hands `finish` is the sum or the difference of the two numbers. Assumes nothing.
+-- `float::mul_add::combine` meets its contract: what it hands `finish` is the sum or the difference of the two numbers.
 use mathlib.Core.Path.{_≡_, sym, _∙_, subst}
 use mathlib.Core.Bool.{true≢false}
 use Prim.Native.Nat.{ℕ, _+_, _-_, _*_, _^_, _≤_, _<_}

@@ -1,4 +1,4 @@
--- `float::mul_add::finish` meets its contract: either way the word that is packed is the shifted number, cut by `jam` (`Left`). Assumes nothing.
+-- `float::mul_add::finish` meets its contract: either way the word that is packed is the shifted number, cut by `jam` (`Left`).
 use mathlib.Core.Path.{_≡_, sym, ap, _∙_, subst}
 use Prim.Native.Nat.{ℕ, _+_, _-_, _*_, _/_, _%_, _^_, _≤_, _<_}
 use native.Mathlib.Omega.{arith}

@@ -1,4 +1,4 @@
--- `float::mul_add::mul_add` meets its contract: each operand that is not finite, or is a zero factor, by `Fused`, and the two ways of the rest by `Fuse`. Assumes nothing.
+-- `float::mul_add::mul_add` meets its contract: each operand that is not finite, or is a zero factor, by `Fused`, and the two ways of the rest by `Fuse`.
 use mathlib.Core.Path.{_≡_, refl, sym, ap, _∙_, subst}
 use Prim.Native.Nat.{ℕ, _+_, _-_, _*_, _%_, _^_, _<_}
 use native.Mathlib.Nat.{lt-of-le-of-lt, add-zero}

@@ -1,4 +1,4 @@
--- `float::mul_add::pack` meets its contract. Of what `units` gives `Pattern` has the pattern, and of what `closest` gives, the sum that the program computes. Assumes nothing.
+-- `float::mul_add::pack` meets its contract. Of what `units` gives `Pattern` has the pattern, and of what `closest` gives, the sum that the program computes.
 use mathlib.Core.Path.{_≡_, sym, ap, _∙_, subst}
 use mathlib.Core.Logic.{⊎-elim}
 use mathlib.Core.Bool.{Bool, true, false, not}

@@ -1,4 +1,4 @@
--- `float::mul_add::shift` meets its contract. A count of leading zeros makes the word's width with the place of the highest digit (`leading-top`). Assumes nothing.
+-- `float::mul_add::shift` meets its contract. A count of leading zeros makes the word's width with the place of the highest digit (`leading-top`).
 use mathlib.Core.Path.{_≡_, sym, ap, _∙_, subst}
 use mathlib.Core.Logic.{⊎-elim}
 use Prim.Native.Nat.{ℕ, suc, _+_, _*_, _^_, _≤_, _<_}

@@ -1,4 +1,4 @@
--- `float::mul_add::split` meets its contract: the masks take the fields of the pattern, and `Read` has what the fields say. Assumes nothing.
+-- `float::mul_add::split` meets its contract: the masks take the fields of the pattern, and `Read` has what the fields say.
 use mathlib.Core.Path.{_≡_, refl, sym, _∙_, subst}
 use Prim.Native.Nat.{ℕ, suc, _+_, _-_, _/_, _%_, _^_}
 use native.Mathlib.Omega.{arith}

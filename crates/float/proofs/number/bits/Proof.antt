@@ -1,4 +1,4 @@
--- `float::number::bits` meets its contract: only the NaN differs from itself. Assumes nothing.
+-- `float::number::bits` meets its contract: only the NaN differs from itself.
 use Prim.Native.Nat.{ℕ}
 use mathlib.Core.Path.{_≡_, refl, sym, ap, _∙_}
 use lib.Ieee.{nan, binary64, toBits}

@@ -1,4 +1,4 @@
--- `float::number::clamp` meets its contract. Assumes nothing.
+-- `float::number::clamp` meets its contract.
 use mathlib.Core.Path.{sym}
 use Rattle.float.specs.Number.{clamp}
 use Rattle.float.specs.Laws.Literals.{one-bits}

@@ -1,4 +1,4 @@
--- `float::number::floor` meets its contract, by `WholePart`. Assumes nothing.
+-- `float::number::floor` meets its contract, by `WholePart`.
 use mathlib.Core.Path.{_≡_, refl, sym, ap, subst, _∙_}
 use mathlib.Core.Bool.{Bool, true, false}
 use lib.Dec.{T}

@@ -1,4 +1,4 @@
--- `float::number::is_finite` meets its contract: x - x is zero of a finite x, and a NaN of any other. Assumes nothing.
+-- `float::number::is_finite` meets its contract: x - x is zero of a finite x, and a NaN of any other.
 use Rattle.float.specs.Laws.Zero.{minus-itself}
 use Rattle.float.proofs.number.is_finite.Statement.{statement}
 use Rattle.float.proofs.number.is_finite.Tie as tie

@@ -1,4 +1,4 @@
--- `float::number::is_sign_positive` meets its contract: the sign is the highest bit. Assumes nothing.
+-- `float::number::is_sign_positive` meets its contract: the sign is the highest bit.
 use mathlib.Core.Path.{_≡_, sym, ap, subst, _∙_}
 use mathlib.Core.Bool.{not}
 use Prim.Native.Nat.{ℕ, _^_}

@@ -1,4 +1,4 @@
--- `float::number::maximum` meets its contract. Assumes nothing.
+-- `float::number::maximum` meets its contract.
 use mathlib.Core.Path.{sym, _∙_}
 use Rattle.float.specs.Number.{maximum}
 use Rattle.float.specs.Laws.Tests.{ne-self}

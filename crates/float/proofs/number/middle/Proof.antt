@@ -1,4 +1,4 @@
--- `float::number::middle` meets its contract. Assumes nothing.
+-- `float::number::middle` meets its contract.
 use mathlib.Core.Path.{refl}
 use lib.Ieee.{ofBits}
 use Rattle.float.specs.Number.{middle}

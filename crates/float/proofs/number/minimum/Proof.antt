@@ -1,4 +1,4 @@
--- `float::number::minimum` meets its contract. Assumes nothing.
+-- `float::number::minimum` meets its contract.
 use mathlib.Core.Path.{sym, _∙_}
 use Rattle.float.specs.Number.{minimum}
 use Rattle.float.specs.Laws.Tests.{ne-self}

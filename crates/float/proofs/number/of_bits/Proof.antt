@@ -1,4 +1,4 @@
--- `float::number::of_bits` meets its contract: the patterns above that of infinity, without the sign, are those of NaNs, and 0 / 0 is the NaN. Assumes nothing.
+-- `float::number::of_bits` meets its contract: the patterns above that of infinity, without the sign, are those of NaNs, and 0 / 0 is the NaN.
 use mathlib.Core.Path.{_≡_, sym, subst⁻¹, _∙_}
 use mathlib.Core.Bool.{Bool, not, true}
 use lib.Dec.{T}

@@ -1,4 +1,4 @@
--- `float::number::total_le` meets its contract. Assumes nothing.
+-- `float::number::total_le` meets its contract.
 use mathlib.Core.Path.{sym, _∙_}
 use borrow.Author.Needs.{needs}
 use borrow.Author.Tests.{not-true, not-false}

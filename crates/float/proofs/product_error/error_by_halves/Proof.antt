@@ -1,4 +1,4 @@
--- `float::product_error::error_by_halves` meets its contract, by `dekker-is-fused`. Assumes nothing.
+-- `float::product_error::error_by_halves` meets its contract, by `dekker-is-fused`.
 use mathlib.Core.Path.{_≡_, sym, ap, _∙_}
 use mathlib.Core.Bool.{true}
 use lib.Dec.{T, lit≤}

@@ -1,4 +1,4 @@
--- `float::product_error::halved_operand` meets its contract: the code's constants are 2 ^ 27 + 1 and 2 ^ -768. Assumes nothing.
+-- `float::product_error::halved_operand` meets its contract: the code's constants are 2 ^ 27 + 1 and 2 ^ -768.
 use mathlib.Core.Path.{ap}
 use mathlib.Core.Bool.{Bool}
 use lib.Ieee.{ofBits}

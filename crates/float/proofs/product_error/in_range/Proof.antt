@@ -1,4 +1,4 @@
--- `float::product_error::in_range` meets its contract: the code's constant is 2 ^ -200. Assumes nothing.
+-- `float::product_error::in_range` meets its contract: the code's constant is 2 ^ -200.
 use mathlib.Core.Path.{_≡_, refl, ap, _∙_}
 use lib.Ieee.{Float, binary64, ofBits}
 use borrow.Author.Needs.{needs}

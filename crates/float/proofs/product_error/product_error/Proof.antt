@@ -1,4 +1,4 @@
--- `float::product_error::product_error` meets its contract. Assumes nothing.
+-- `float::product_error::product_error` meets its contract.
 use mathlib.Core.Path.{ap, _∙_}
 use borrow.Author.Needs.{needs}
 use Rattle.float.specs.ProductError.{product-error}

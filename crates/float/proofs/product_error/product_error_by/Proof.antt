@@ -1,4 +1,4 @@
--- `float::product_error::product_error_by` meets its contract. Assumes nothing.
+-- `float::product_error::product_error_by` meets its contract.
 use mathlib.Core.Path.{sym, _∙_}
 use borrow.Author.Needs.{needs}
 use Rattle.float.proofs.product_error.product_error_by.Statement.{statement}

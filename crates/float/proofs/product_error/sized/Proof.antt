@@ -1,4 +1,4 @@
--- `float::product_error::sized` meets its contract: the code's constants are 2 ^ 400 and 0. Assumes nothing.
+-- `float::product_error::sized` meets its contract: the code's constants are 2 ^ 400 and 0.
 use mathlib.Core.Path.{_≡_, refl, sym}
 use lib.Ieee.{binary64, ofBits}
 use Rattle.float.specs.Promises.Halves.{most, sized}

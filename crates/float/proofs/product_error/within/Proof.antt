@@ -1,4 +1,4 @@
--- `float::product_error::within` meets its contract. Assumes nothing.
+-- `float::product_error::within` meets its contract.
 use mathlib.Core.Path.{sym, _∙_}
 use borrow.Author.Needs.{needs}
 use Rattle.float.specs.Promises.Halves.{in-range}

@@ -1,4 +1,4 @@
--- `float::sqrt::below` meets its contract: m >> 12 and m << 52 are the words of m * 2 ^ 52. Assumes nothing.
+-- `float::sqrt::below` meets its contract: m >> 12 and m << 52 are the words of m * 2 ^ 52.
 use mathlib.Core.Path.{_≡_, ap, _∙_}
 use Prim.Native.Nat.{ℕ, _+_, _*_, _/_, _%_, _^_}
 use native.Mathlib.Omega.{arith}

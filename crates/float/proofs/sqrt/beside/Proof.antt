@@ -1,4 +1,4 @@
--- `float::sqrt::beside` meets its contract, by `Middles`. Assumes nothing.
+-- `float::sqrt::beside` meets its contract, by `Middles`.
 use Prim.Native.Nat.{_≤_}
 use native.Mathlib.Omega.{arith}
 use mathlib.Core.Logic.{inl, inr, ⊎-elim}

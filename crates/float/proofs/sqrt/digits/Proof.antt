@@ -1,4 +1,4 @@
--- `float::sqrt::digits` meets its contract: 52 digits, and the leading one. Assumes nothing.
+-- `float::sqrt::digits` meets its contract: 52 digits, and the leading one.
 use Prim.Native.Nat.{ℕ, _+_, _^_}
 use native.Mathlib.Omega.{arith}
 use mathlib.Core.Path.{ap}

@@ -1,4 +1,4 @@
--- `float::sqrt::distance` meets its contract: where the parts of q * q are near m, nothing is lost. Assumes nothing.
+-- `float::sqrt::distance` meets its contract: where the parts of q * q are near m, nothing is lost.
 use Prim.Native.Nat.{ℕ, _+_, _-_, _*_, _%_, _^_, _≤_, _<_}
 use native.Mathlib.Omega.{arith}
 use mathlib.Core.Path.{_≡_, sym, ap, _∙_}

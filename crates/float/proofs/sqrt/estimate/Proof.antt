@@ -1,4 +1,4 @@
--- `float::sqrt::estimate` meets its contract: the pattern that it makes is no NaN's. Assumes nothing.
+-- `float::sqrt::estimate` meets its contract: the pattern that it makes is no NaN's.
 use native.Mathlib.Omega.{arith}
 use borrow.Author.Needs.{needs}
 use Rattle.float.proofs.sqrt.Guessed.{plain}

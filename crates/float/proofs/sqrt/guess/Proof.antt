@@ -1,4 +1,4 @@
--- `float::sqrt::guess` meets its contract: the pattern that it makes is no NaN's, and of the result only the range is said. Assumes nothing.
+-- `float::sqrt::guess` meets its contract: the pattern that it makes is no NaN's, and of the result only the range is said.
 use Prim.Native.Nat.{_≤_}
 use native.Mathlib.Omega.{arith}
 use mathlib.Core.Logic.{⊎-elim}

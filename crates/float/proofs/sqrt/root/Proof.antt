@@ -1,4 +1,4 @@
--- `float::sqrt::root` meets its contract: by the guess's distance where it is near, and by `seek` elsewhere. Assumes nothing.
+-- `float::sqrt::root` meets its contract: by the guess's distance where it is near, and by `seek` elsewhere.
 use Prim.Native.Nat.{ℕ, _<_}
 use native.Mathlib.Omega.{arith}
 use mathlib.Core.Path.{_≡_}

@@ -1,5 +1,5 @@
 -- `float::sqrt::seek` meets its contract. The first loop ends with q * (q - 1) below n, which m * 2 ^ 52 is, and the second keeps that and ends with n at most q * (q + 1), whatever the first guess was:
--- the guess decides only how many turns they take. Assumes nothing.
+-- the guess decides only how many turns they take.
 use Prim.Native.Nat.{ℕ, zero, suc, _+_, _-_, _*_, _^_, _≤_, _<_}
 use native.Mathlib.Nat.{le-trans, lt-of-le-of-lt, lt-of-not-le, not-le-of-lt, mul-le-mul}
 use native.Mathlib.Omega.{arith}

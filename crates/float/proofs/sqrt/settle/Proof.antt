@@ -1,4 +1,4 @@
--- `float::sqrt::settle` meets its contract: the guess is its own digits at its place, and is returned where these are the nearest whole number. Assumes nothing.
+-- `float::sqrt::settle` meets its contract: the guess is its own digits at its place, and is returned where these are the nearest whole number.
 use Prim.Native.Nat.{ℕ, _+_, _%_, _^_, _≤_}
 use native.Mathlib.Omega.{arith}
 use mathlib.Core.Path.{_≡_, sym, ap, _∙_}

@@ -1,4 +1,4 @@
--- `float::sqrt::sqrt` meets its contract: a NaN, a zero, what is below zero and an infinity by `Rooted`, and of the rest the root of the digits at an even place. Assumes nothing.
+-- `float::sqrt::sqrt` meets its contract: a NaN, a zero, what is below zero and an infinity by `Rooted`, and of the rest the root of the digits at an even place.
 use Prim.Native.Nat.{ℕ, _+_, _-_, _*_, _/_, _%_, _^_, _≤_, _<_}
 use native.Mathlib.Omega.{arith}
 use mathlib.Core.Path.{_≡_, sym, ap, _∙_, subst}

@@ -1,4 +1,4 @@
--- `float::sqrt::write` meets its contract, by the pattern that `Pattern` has of `units`. Assumes nothing.
+-- `float::sqrt::write` meets its contract, by the pattern that `Pattern` has of `units`.
 use mathlib.Core.Path.{_≡_, sym, ap, _∙_, subst}
 use mathlib.Core.Bool.{false, not}
 use Prim.Native.Nat.{ℕ, _+_, _*_, _^_, _≤_, min}

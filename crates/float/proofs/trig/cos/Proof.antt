@@ -1,4 +1,4 @@
--- `float::trig::cos` meets its contract. Assumes nothing.
+-- `float::trig::cos` meets its contract.
 use mathlib.Core.Path.{ap}
 use borrow.Author.Needs.{needs}
 use Rattle.float.specs.declared.trig.SinCos.{SinCos}

@@ -1,4 +1,4 @@
--- `float::trig::cosine` meets its contract: each constant of the code is the rounded quotient that the definition names. Assumes nothing.
+-- `float::trig::cosine` meets its contract: each constant of the code is the rounded quotient that the definition names.
 use mathlib.Core.Path.{refl}
 use lib.Ieee.{neg, sub, round, ofBits}
 use Rattle.float.specs.Trig.{cosine, cosine-series}

@@ -1,4 +1,4 @@
--- `float::trig::hypot` meets its contract. Assumes nothing.
+-- `float::trig::hypot` meets its contract.
 use borrow.Author.Needs.{needs}
 use Rattle.float.specs.Trig.{hypot}
 use Rattle.float.proofs.trig.hypot.Statement.{statement}

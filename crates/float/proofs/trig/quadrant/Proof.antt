@@ -1,4 +1,4 @@
--- `float::trig::quadrant` meets its contract. Assumes nothing.
+-- `float::trig::quadrant` meets its contract.
 use mathlib.Core.Path.{_≡_, refl, sym, ap, subst, _∙_}
 use mathlib.Core.Bool.{Bool, true, false, cond, true≢false, false≢true}
 use Prim.Native.Nat.{ℕ, suc, _-_, _%_, _^_, _<_, zero-le}

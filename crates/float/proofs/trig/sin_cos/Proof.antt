@@ -1,4 +1,4 @@
--- `float::trig::sin_cos` meets its contract: for |x| ≤ 32 the whole number of quarter turns fits 64 bits (`turns-held`). Assumes nothing.
+-- `float::trig::sin_cos` meets its contract: for |x| ≤ 32 the whole number of quarter turns fits 64 bits (`turns-held`).
 use mathlib.Core.Path.{_≡_, refl, sym, ap, _∙_}
 use mathlib.Core.Bool.{Bool, true, false, cond}
 use Prim.Native.Nat.{ℕ}

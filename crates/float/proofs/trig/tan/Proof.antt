@@ -1,4 +1,4 @@
--- `float::trig::tan` meets its contract. Assumes nothing.
+-- `float::trig::tan` meets its contract.
 use mathlib.Core.Path.{ap}
 use borrow.Author.Needs.{needs}
 use Rattle.float.specs.Number.{_⊘_}

@@ -1,4 +1,4 @@
--- `float::trig::turned` meets its contract. Assumes nothing.
+-- `float::trig::turned` meets its contract.
 use mathlib.Core.Path.{_≡_, refl, sym, ap}
 use Prim.Native.Nat.{ℕ, zero, suc}
 use lib.Ieee.{Float}

@@ -1,4 +1,4 @@
--- `float::wide::jam` meets its contract: each way is a law of `Words`. Assumes nothing.
+-- `float::wide::jam` meets its contract: each way is a law of `Words`.
 use mathlib.Core.Path.{_≡_, ap, _∙_}
 use mathlib.Core.Logic.{⊎-elim}
 use Prim.Native.Nat.{ℕ, _+_, _-_, _*_, _/_, _^_, _≤_, _<_}

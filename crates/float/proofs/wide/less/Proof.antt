@@ -1,4 +1,4 @@
--- `float::wide::less` meets its contract: the order of two numbers of two words is the upper words', and the lower words' where those are equal. Assumes nothing.
+-- `float::wide::less` meets its contract: the order of two numbers of two words is the upper words', and the lower words' where those are equal.
 use Prim.Native.Nat.{_^_}
 use Rattle.float.proofs.wide.TwoWords.{level, apart}
 use Rattle.float.proofs.wide.less.Statement.{statement}

@@ -1,5 +1,5 @@
 -- `float::wide::product` meets its contract. Of the halves' products, each is at most (2 ^ 32 - 1) ^ 2, so that every column's sum fits, and the columns' sums are the product, by `omega`.
--- Assumes nothing.
+--
 use mathlib.Core.Path.{_≡_, ap, _∙_}
 use Prim.Native.Nat.{ℕ, _+_, _*_, _/_, _%_, _^_, _≤_, _<_}
 use native.Mathlib.Nat.{mul-le-mul}

@@ -1,4 +1,4 @@
--- `float::wide::sub` meets its contract: the lower words' difference wraps where it borrows from the upper ones. Assumes nothing.
+-- `float::wide::sub` meets its contract: the lower words' difference wraps where it borrows from the upper ones.
 use Prim.Native.Nat.{_^_, _≤_, _<_}
 use native.Mathlib.Omega.{arith}
 use borrow.Author.Needs.{needs}

@@ -1,4 +1,4 @@
--- `float_bench::chain::bench_sqrt` meets its contract: h is i steps from the start. Assumes nothing.
+-- `float_bench::chain::bench_sqrt` meets its contract: h is i steps from the start.
 use Prim.Native.Nat.{_≤_, _-_}
 use native.Mathlib.Numerals.{add-one}
 use native.Mathlib.Omega.{arith}

@@ -1,4 +1,4 @@
--- `float_bench::each::bench_each_plain` meets its contract: the first i places are stepped. Assumes nothing.
+-- `float_bench::each::bench_each_plain` meets its contract: the first i places are stepped.
 use Prim.Native.Nat.{_≤_, _-_}
 use native.Mathlib.Omega.{arith}
 use mathlib.Core.Path.{_≡_, refl, _∙_}

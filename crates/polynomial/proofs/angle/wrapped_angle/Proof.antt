@@ -1,4 +1,4 @@
--- `polynomial::angle::wrapped_angle` meets its contract. Assumes nothing.
+-- `polynomial::angle::wrapped_angle` meets its contract.
 use mathlib.Core.Path.{_≡_, refl, ap₂, _∙_}
 use lib.Ieee.{Float, binary64, ofBits, sub}
 use borrow.Author.Needs.{needs}

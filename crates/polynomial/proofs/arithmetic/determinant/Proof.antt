@@ -1,4 +1,4 @@
--- `polynomial::arithmetic::determinant` meets its contract. Assumes nothing.
+-- `polynomial::arithmetic::determinant` meets its contract.
 use native.Mathlib.Omega.{arith}
 use borrow.Author.Needs.{needs}
 use Rattle.polynomial.specs.Polynomial.{determinant}

@@ -1,4 +1,4 @@
--- `polynomial::curve::numerator` meets its contract. Assumes nothing.
+-- `polynomial::curve::numerator` meets its contract.
 use native.Mathlib.Omega.{arith}
 use mathlib.Core.Path.{refl}
 use borrow.Author.Needs.{needs}

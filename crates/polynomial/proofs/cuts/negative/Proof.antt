@@ -1,4 +1,4 @@
--- `polynomial::cuts::negative` meets its contract. Assumes nothing.
+-- `polynomial::cuts::negative` meets its contract.
 use mathlib.Core.Path.{ap, _∙_}
 use mathlib.Core.Bool.{not, Bool·not-not}
 use borrow.Author.Needs.{needs}

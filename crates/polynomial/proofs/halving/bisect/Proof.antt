@@ -1,4 +1,4 @@
--- `polynomial::halving::bisect` meets its contract. Assumes nothing.
+-- `polynomial::halving::bisect` meets its contract.
 use mathlib.Core.Path.{_∙_, subst}
 use borrow.Author.Needs.{needs}
 use Rattle.polynomial.specs.Promises.Inside.{Rest}

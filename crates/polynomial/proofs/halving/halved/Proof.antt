@@ -1,4 +1,4 @@
--- `polynomial::halving::halved` meets its contract: at each return, what the calls and the tests on the way to it say. Assumes nothing.
+-- `polynomial::halving::halved` meets its contract: at each return, what the calls and the tests on the way to it say.
 use borrow.Author.Needs.{needs}
 use Rattle.polynomial.specs.Promises.Inside.{halved}
 use Rattle.polynomial.proofs.halving.halved.Statement.{statement}

@@ -1,4 +1,4 @@
--- `polynomial::halving::narrowed` meets its contract. Assumes nothing.
+-- `polynomial::halving::narrowed` meets its contract.
 use mathlib.Core.Path.{subst}
 use borrow.Author.Needs.{needs}
 use Rattle.polynomial.specs.Promises.Inside.{Known}

@@ -1,4 +1,4 @@
--- `polynomial::halving::turned` meets its contract: at each return, what the calls and the tests on the way to it say. Assumes nothing.
+-- `polynomial::halving::turned` meets its contract: at each return, what the calls and the tests on the way to it say.
 use lib.Ieee.{ofBits}
 use borrow.Author.Needs.{needs}
 use Rattle.polynomial.specs.Promises.Inside.{turned}

@@ -1,4 +1,4 @@
--- `polynomial::operation::bounds_hold` meets its contract. Assumes nothing.
+-- `polynomial::operation::bounds_hold` meets its contract.
 use mathlib.Core.Path.{_≡_, refl, sym}
 use lib.Ieee.{binary64, ofBits}
 use borrow.Author.Needs.{needs}

@@ -1,4 +1,4 @@
--- `polynomial::operation::part_holds` meets its contract. Assumes nothing.
+-- `polynomial::operation::part_holds` meets its contract.
 use mathlib.Core.Path.{_≡_, refl, ap₂}
 use lib.Ieee.{binary64, ofBits, le}
 use borrow.Author.Needs.{needs}

@@ -1,4 +1,4 @@
--- `polynomial::plain::is_tidy` meets its contract. Assumes nothing.
+-- `polynomial::plain::is_tidy` meets its contract.
 use mathlib.Core.Path.{sym, ap, ap₂, _∙_, subst}
 use mathlib.Core.Bool.{false≢true}
 use lib.Dec.{T}

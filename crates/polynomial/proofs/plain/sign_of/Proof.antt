@@ -1,4 +1,4 @@
--- `polynomial::plain::sign_of` meets its contract: at each return, what the tests on the way to it say. Assumes nothing.
+-- `polynomial::plain::sign_of` meets its contract: at each return, what the tests on the way to it say.
 use lib.Ieee.{ofBits}
 use Rattle.polynomial.specs.Promises.Plain.{told}
 use Rattle.polynomial.proofs.plain.sign_of.Statement.{statement}

@@ -1,4 +1,4 @@
--- `polynomial::polynomial::value_near` meets its contract. Assumes nothing.
+-- `polynomial::polynomial::value_near` meets its contract.
 use mathlib.Core.Path.{_≡_, refl, ap₂}
 use lib.Ieee.{binary64, ofBits, mul, round, le}
 use borrow.Author.Needs.{needs}

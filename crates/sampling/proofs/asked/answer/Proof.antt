@@ -1,4 +1,4 @@
--- `sampling::asked::answer` meets its contract. The loop's invariant: the questions before i are answered. Assumes nothing.
+-- `sampling::asked::answer` meets its contract. The loop's invariant: the questions before i are answered.
 use Prim.Native.Nat.{_+_, _-_, _≤_}
 use native.Mathlib.Omega.{arith}
 use mathlib.Core.Path.{_≡_}

@@ -1,4 +1,4 @@
--- `sampling::asked::answer_one` meets its contract: at each return, what the calls and the tests on the way to it say. Assumes nothing.
+-- `sampling::asked::answer_one` meets its contract: at each return, what the calls and the tests on the way to it say.
 use borrow.Author.Needs.{needs}
 use Rattle.sampling.specs.Promises.Asked.{answer}
 use Rattle.sampling.proofs.Pushed.{then}

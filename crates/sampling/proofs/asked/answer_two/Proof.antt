@@ -1,4 +1,4 @@
--- `sampling::asked::answer_two` meets its contract: at each return, what the calls and the tests on the way to it say. Assumes nothing.
+-- `sampling::asked::answer_two` meets its contract: at each return, what the calls and the tests on the way to it say.
 use borrow.Author.Needs.{needs}
 use Rattle.sampling.proofs.Pushed.{same, then}
 use Rattle.sampling.proofs.asked.answer_two.Statement.{statement}

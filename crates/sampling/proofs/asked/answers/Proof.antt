@@ -1,4 +1,4 @@
--- `sampling::asked::answers` meets its contract: at each return, what the calls and the tests on the way to it say. Assumes nothing.
+-- `sampling::asked::answers` meets its contract: at each return, what the calls and the tests on the way to it say.
 use mathlib.Core.Path.{_≡_, ap, _∙_}
 use mathlib.Core.List.{List, [], _∷_, _++_}
 use lib.Ieee.{Float}

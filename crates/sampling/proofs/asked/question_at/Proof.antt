@@ -1,4 +1,4 @@
--- `sampling::asked::question_at` meets its contract: at each return, what the calls and the tests on the way to it say. Assumes nothing.
+-- `sampling::asked::question_at` meets its contract: at each return, what the calls and the tests on the way to it say.
 use borrow.Author.Needs.{needs}
 use Rattle.sampling.proofs.Questions.{three}
 use Rattle.sampling.proofs.asked.question_at.Statement.{statement}

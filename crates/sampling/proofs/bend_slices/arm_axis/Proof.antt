@@ -1,4 +1,4 @@
--- `sampling::bend_slices::arm_axis` meets its contract: at each return, what the calls and the tests on the way to it say. Assumes nothing.
+-- `sampling::bend_slices::arm_axis` meets its contract: at each return, what the calls and the tests on the way to it say.
 use borrow.Author.Needs.{needs}
 use Rattle.sampling.specs.BendSlices.{arm-axis}
 use Rattle.sampling.proofs.bend_slices.arm_axis.Statement.{statement}

@@ -1,4 +1,4 @@
--- `sampling::bend_slices::axes_range` meets its contract: at each return, what the calls and the tests on the way to it say. Assumes nothing.
+-- `sampling::bend_slices::axes_range` meets its contract: at each return, what the calls and the tests on the way to it say.
 use borrow.Author.Needs.{needs}
 use Rattle.sampling.specs.BendSlices.{axes-range}
 use Rattle.sampling.proofs.Pushed.{none, then}

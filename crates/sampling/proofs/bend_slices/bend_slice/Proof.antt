@@ -1,4 +1,4 @@
--- `sampling::bend_slices::bend_slice` meets its contract: at each return, what the calls and the tests on the way to it say. Assumes nothing.
+-- `sampling::bend_slices::bend_slice` meets its contract: at each return, what the calls and the tests on the way to it say.
 use borrow.Author.Needs.{needs}
 use Rattle.sampling.specs.BendSlices.{bend-slice, bend-slice-holds}
 use Rattle.sampling.proofs.Pushed.{then}

@@ -1,4 +1,4 @@
--- `sampling::bends::all_roots` meets its contract: at each return, what the calls and the tests on the way to it say. Assumes nothing.
+-- `sampling::bends::all_roots` meets its contract: at each return, what the calls and the tests on the way to it say.
 use borrow.Author.Needs.{needs}
 use Rattle.sampling.specs.Bends.{all-roots, all-roots-hold}
 use Rattle.sampling.proofs.Pushed.{then}

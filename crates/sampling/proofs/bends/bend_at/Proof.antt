@@ -1,4 +1,4 @@
--- `sampling::bends::bend_at` meets its contract: at each return, what the calls and the tests on the way to it say. Assumes nothing.
+-- `sampling::bends::bend_at` meets its contract: at each return, what the calls and the tests on the way to it say.
 use borrow.Author.Needs.{needs}
 use Rattle.sampling.specs.Bends.{bend-at, bend-at-holds}
 use Rattle.sampling.proofs.Pushed.{none}

@@ -1,4 +1,4 @@
--- `sampling::bends::bend_marks` meets its contract: at each return, what the calls and the tests on the way to it say. Assumes nothing.
+-- `sampling::bends::bend_marks` meets its contract: at each return, what the calls and the tests on the way to it say.
 use mathlib.Core.Path.{sym, _∙_}
 use mathlib.Core.Bool.{and-true}
 use borrow.Author.Needs.{needs}

@@ -1,4 +1,4 @@
--- `sampling::bends::harmonic` meets its contract: at each return, what the calls and the tests on the way to it say. Assumes nothing.
+-- `sampling::bends::harmonic` meets its contract: at each return, what the calls and the tests on the way to it say.
 use mathlib.Core.Path.{refl}
 use Rattle.sampling.specs.Bends.{harmonic}
 use Rattle.sampling.proofs.bends.harmonic.Statement.{statement}

@@ -1,4 +1,4 @@
--- `sampling::bends::norm_roots` meets its contract: by what `squared_norm_roots` says of its answer. Assumes nothing.
+-- `sampling::bends::norm_roots` meets its contract: by what `squared_norm_roots` says of its answer.
 use borrow.Author.Needs.{needs}
 use Rattle.sampling.proofs.bends.Norm.{refused, few, counted}
 use Rattle.sampling.proofs.bends.norm_roots.Statement.{statement}

@@ -1,4 +1,4 @@
--- `sampling::boundaries::add` meets its contract: at each return, what the calls and the tests on the way to it say. Assumes nothing.
+-- `sampling::boundaries::add` meets its contract: at each return, what the calls and the tests on the way to it say.
 use borrow.Author.Needs.{needs}
 use Rattle.sampling.proofs.boundaries.add.Statement.{statement}
 use Rattle.sampling.proofs.boundaries.add.Tie as tie

@@ -1,4 +1,4 @@
--- `sampling::boundaries::along` meets its contract: at each return, what the calls and the tests on the way to it say. Assumes nothing.
+-- `sampling::boundaries::along` meets its contract: at each return, what the calls and the tests on the way to it say.
 use mathlib.Core.Path.{refl}
 use lib.Ieee.{ofBits}
 use Rattle.sampling.specs.Boundaries.{along}

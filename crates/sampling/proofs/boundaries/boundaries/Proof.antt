@@ -1,4 +1,4 @@
--- `sampling::boundaries::boundaries` meets its contract: at each return, what the calls and the tests on the way to it say. Assumes nothing.
+-- `sampling::boundaries::boundaries` meets its contract: at each return, what the calls and the tests on the way to it say.
 use native.Mathlib.Omega.{arith}
 use mathlib.Core.Path.{_∙_}
 use borrow.Author.Needs.{needs}

@@ -1,4 +1,4 @@
--- `sampling::boundaries::curve_of` meets its contract: at each return, what the calls and the tests on the way to it say. Assumes nothing.
+-- `sampling::boundaries::curve_of` meets its contract: at each return, what the calls and the tests on the way to it say.
 use mathlib.Core.Path.{refl}
 use Rattle.sampling.specs.Boundaries.{curve}
 use Rattle.sampling.proofs.boundaries.curve_of.Statement.{statement}

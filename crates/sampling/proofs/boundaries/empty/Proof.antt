@@ -1,4 +1,4 @@
--- `sampling::boundaries::empty` meets its contract: at each return, what the calls and the tests on the way to it say. Assumes nothing.
+-- `sampling::boundaries::empty` meets its contract: at each return, what the calls and the tests on the way to it say.
 use mathlib.Core.Path.{refl}
 use Rattle.sampling.proofs.boundaries.empty.Statement.{statement}
 use Rattle.sampling.proofs.boundaries.empty.Tie as tie

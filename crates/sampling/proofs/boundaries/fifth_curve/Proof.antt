@@ -1,4 +1,4 @@
--- `sampling::boundaries::fifth_curve` meets its contract: at each return, what the calls and the tests on the way to it say. Assumes nothing.
+-- `sampling::boundaries::fifth_curve` meets its contract: at each return, what the calls and the tests on the way to it say.
 use borrow.Author.Needs.{needs}
 use Rattle.sampling.specs.Boundaries.{fifth-curve}
 use Rattle.sampling.proofs.boundaries.fifth_curve.Statement.{statement}

@@ -1,4 +1,4 @@
--- `sampling::boundaries::fourth_curve` meets its contract: at each return, what the calls and the tests on the way to it say. Assumes nothing.
+-- `sampling::boundaries::fourth_curve` meets its contract: at each return, what the calls and the tests on the way to it say.
 use borrow.Author.Needs.{needs}
 use Rattle.sampling.specs.Boundaries.{fourth-curve}
 use Rattle.sampling.proofs.boundaries.fourth_curve.Statement.{statement}

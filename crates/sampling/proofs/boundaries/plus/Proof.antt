@@ -1,4 +1,4 @@
--- `sampling::boundaries::plus` meets its contract: at each return, what the calls and the tests on the way to it say. Assumes nothing.
+-- `sampling::boundaries::plus` meets its contract: at each return, what the calls and the tests on the way to it say.
 use mathlib.Core.Path.{refl}
 use Rattle.sampling.specs.Boundaries.{plus}
 use Rattle.sampling.proofs.boundaries.plus.Statement.{statement}

@@ -1,4 +1,4 @@
--- `sampling::boundaries::signed_corners` meets its contract: at each return, what the calls and the tests on the way to it say. Assumes nothing.
+-- `sampling::boundaries::signed_corners` meets its contract: at each return, what the calls and the tests on the way to it say.
 use borrow.Author.Needs.{needs}
 use Rattle.sampling.specs.Boundaries.{signed-corners}
 use Rattle.sampling.proofs.Pushed.{then}

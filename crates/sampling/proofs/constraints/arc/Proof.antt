@@ -1,4 +1,4 @@
--- `sampling::constraints::arc` meets its contract: at each return, what the calls and the tests on the way to it say. Assumes nothing.
+-- `sampling::constraints::arc` meets its contract: at each return, what the calls and the tests on the way to it say.
 use lib.Ieee.{ofBits}
 use borrow.Author.Needs.{needs}
 use Rattle.sampling.specs.Constraints.{arc}

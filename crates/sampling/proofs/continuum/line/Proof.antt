@@ -1,4 +1,4 @@
--- `sampling::continuum::line` meets its contract: at each return, what the calls and the tests on the way to it say. Assumes nothing.
+-- `sampling::continuum::line` meets its contract: at each return, what the calls and the tests on the way to it say.
 use borrow.Author.Needs.{needs}
 use Rattle.sampling.specs.Continuum.{line}
 use Rattle.sampling.proofs.continuum.line.Statement.{statement}

@@ -1,4 +1,4 @@
--- `sampling::critical_slices::angles` meets its contract. The loop's invariant: where the angles of the roots that are left come to a slice, all come to it. Assumes nothing.
+-- `sampling::critical_slices::angles` meets its contract. The loop's invariant: where the angles of the roots that are left come to a slice, all come to it.
 use borrow.Author.Needs.{needs}
 use mathlib.Core.Path.{_≡_, refl, _∙_}
 use Prim.Native.Nat.{_-_, _≤_}

@@ -1,4 +1,4 @@
--- `sampling::critical_slices::chart_of` meets its contract: at each return, what the calls and the tests on the way to it say. Assumes nothing.
+-- `sampling::critical_slices::chart_of` meets its contract: at each return, what the calls and the tests on the way to it say.
 use borrow.Author.Needs.{needs}
 use lib.Ieee.{ofBits}
 use Rattle.sampling.specs.CriticalSlices.{chart}

@@ -1,4 +1,4 @@
--- `sampling::critical_slices::chart_roots` meets its contract: by what the root finder says of its answer. Assumes nothing.
+-- `sampling::critical_slices::chart_roots` meets its contract: by what the root finder says of its answer.
 use Prim.Native.Nat.{ℕ, _^_, _≤_}
 use lib.Pow.{pow-mono}
 use borrow.Author.Needs.{needs}

@@ -1,4 +1,4 @@
--- `sampling::critical_slices::critical` meets its contract. The loop's invariant: where the cuts that are left come to a slice, all come to it. Assumes nothing.
+-- `sampling::critical_slices::critical` meets its contract. The loop's invariant: where the cuts that are left come to a slice, all come to it.
 use borrow.Author.Needs.{needs}
 use mathlib.Core.Path.{_≡_, refl, _∙_}
 use mathlib.Core.Bool.{_&&_}

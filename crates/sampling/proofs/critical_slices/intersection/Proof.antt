@@ -1,4 +1,4 @@
--- `sampling::critical_slices::intersection` meets its contract: at each return, what the calls and the tests on the way to it say. Assumes nothing.
+-- `sampling::critical_slices::intersection` meets its contract: at each return, what the calls and the tests on the way to it say.
 use Prim.Native.Nat.{_≤_}
 use lib.ListN.{length}
 use borrow.Author.Needs.{needs}

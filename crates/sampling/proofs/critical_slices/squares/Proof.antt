@@ -1,4 +1,4 @@
--- `sampling::critical_slices::squares` meets its contract: at each return, what the calls and the tests on the way to it say. Assumes nothing.
+-- `sampling::critical_slices::squares` meets its contract: at each return, what the calls and the tests on the way to it say.
 use Prim.Native.Nat.{_+_, _-_}
 use native.Mathlib.Omega.{arith}
 use lib.Ieee.{ofBits}

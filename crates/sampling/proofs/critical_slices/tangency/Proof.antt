@@ -1,4 +1,4 @@
--- `sampling::critical_slices::tangency` meets its contract: at each return, what the calls and the tests on the way to it say. Assumes nothing.
+-- `sampling::critical_slices::tangency` meets its contract: at each return, what the calls and the tests on the way to it say.
 use borrow.Author.Needs.{needs}
 use Rattle.sampling.specs.CriticalSlices.{tangency}
 use Rattle.sampling.proofs.critical_slices.tangency.Statement.{statement}

@@ -1,4 +1,4 @@
--- `sampling::j1j2free::cut` meets its contract: at each return, what the calls and the tests on the way to it say. Assumes nothing.
+-- `sampling::j1j2free::cut` meets its contract: at each return, what the calls and the tests on the way to it say.
 use mathlib.Core.Path.{refl}
 use mathlib.Core.List.{[]}
 use native.Mathlib.Omega.{arith}

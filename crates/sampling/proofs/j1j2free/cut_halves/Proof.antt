@@ -1,4 +1,4 @@
--- `sampling::j1j2free::cut_halves` meets its contract: the two lists, by what `half_cuts` says of each. Assumes nothing.
+-- `sampling::j1j2free::cut_halves` meets its contract: the two lists, by what `half_cuts` says of each.
 use mathlib.Core.Path.{refl, sym, subst}
 use lib.Dec.{T}
 use borrow.Author.Needs.{needs}

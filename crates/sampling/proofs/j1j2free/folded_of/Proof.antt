@@ -1,4 +1,4 @@
--- `sampling::j1j2free::folded_of` meets its contract: at each return, what the calls and the tests on the way to it say. Assumes nothing.
+-- `sampling::j1j2free::folded_of` meets its contract: at each return, what the calls and the tests on the way to it say.
 use borrow.Author.Needs.{needs}
 use Rattle.sampling.specs.J1j2free.{folded}
 use Rattle.sampling.proofs.j1j2free.folded_of.Statement.{statement}

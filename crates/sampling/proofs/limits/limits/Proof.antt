@@ -1,4 +1,4 @@
--- `sampling::limits::limits` meets its contract: at each return, what the calls and the tests on the way to it say. Assumes nothing.
+-- `sampling::limits::limits` meets its contract: at each return, what the calls and the tests on the way to it say.
 use borrow.Author.Needs.{needs}
 use Rattle.sampling.specs.Limits.{limits}
 use Rattle.sampling.proofs.limits.limits.Statement.{statement}

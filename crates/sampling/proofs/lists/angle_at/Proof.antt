@@ -1,4 +1,4 @@
--- `sampling::lists::angle_at` meets its contract: what `part_at` says of the list in which the sample lies. Assumes nothing.
+-- `sampling::lists::angle_at` meets its contract: what `part_at` says of the list in which the sample lies.
 use Prim.Native.Nat.{ℕ, _+_, _-_, _<_, _≤_}
 use native.Mathlib.Omega.{arith}
 use mathlib.Core.Path.{_≡_, sym, _∙_}

@@ -1,4 +1,4 @@
--- `sampling::lists::angle_count` meets its contract: at each return, what the calls and the tests on the way to it say. Assumes nothing.
+-- `sampling::lists::angle_count` meets its contract: at each return, what the calls and the tests on the way to it say.
 use native.Mathlib.Omega.{arith}
 use borrow.Author.Needs.{needs}
 use Rattle.sampling.specs.Laws.Samples.{sample-count-most}

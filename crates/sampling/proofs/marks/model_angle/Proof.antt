@@ -1,4 +1,4 @@
--- `sampling::marks::model_angle` meets its contract: at each return, what the calls and the tests on the way to it say. Assumes nothing.
+-- `sampling::marks::model_angle` meets its contract: at each return, what the calls and the tests on the way to it say.
 use borrow.Author.Needs.{needs}
 use Rattle.sampling.specs.Marks.{model-angle}
 use Rattle.sampling.proofs.marks.model_angle.Statement.{statement}

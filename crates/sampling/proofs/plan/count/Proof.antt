@@ -1,4 +1,4 @@
--- `sampling::plan::count` meets its contract: by what came of the cuts. Assumes nothing.
+-- `sampling::plan::count` meets its contract: by what came of the cuts.
 use borrow.Author.Needs.{needs}
 use mathlib.Core.Path.{sym, ap, subst, _∙_}
 use native.Mathlib.Omega.{arith}

@@ -1,4 +1,4 @@
--- `sampling::plan::count_slices` meets its contract: what `count` says of the two parts. Assumes nothing.
+-- `sampling::plan::count_slices` meets its contract: what `count` says of the two parts.
 use borrow.Author.Needs.{needs}
 use mathlib.Core.Path.{sym, ap, subst, _∙_}
 use Prim.Native.Nat.{ℕ}

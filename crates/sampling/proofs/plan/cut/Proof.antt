@@ -1,4 +1,4 @@
--- `sampling::plan::cut` meets its contract: by the job's kind. Assumes nothing.
+-- `sampling::plan::cut` meets its contract: by the job's kind.
 use borrow.Author.Needs.{needs}
 use Rattle.sampling.proofs.plan.ByKind.{by-cut}
 use Rattle.sampling.proofs.plan.cut.Statement.{statement}

@@ -1,4 +1,4 @@
--- `sampling::plan::next` meets its contract: by what came of the cuts. Assumes nothing.
+-- `sampling::plan::next` meets its contract: by what came of the cuts.
 use borrow.Author.Needs.{needs}
 use mathlib.Core.Path.{sym, ap, subst, _∙_}
 use Rattle.sampling.specs.Promises.Plan.{Ready, step}

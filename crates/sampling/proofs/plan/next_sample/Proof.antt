@@ -1,4 +1,4 @@
--- `sampling::plan::next_sample` meets its contract. Assumes nothing.
+-- `sampling::plan::next_sample` meets its contract.
 use borrow.Author.Needs.{needs}
 use borrow.Author.Tests.{lt-ltb, le-ltb}
 use Prim.Native.Nat.{_<_}

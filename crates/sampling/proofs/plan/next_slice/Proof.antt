@@ -1,4 +1,4 @@
--- `sampling::plan::next_slice` meets its contract: what `next` says of the two parts. Assumes nothing.
+-- `sampling::plan::next_slice` meets its contract: what `next` says of the two parts.
 use borrow.Author.Needs.{needs}
 use mathlib.Core.Path.{sym, ap, _∙_}
 use Prim.Native.Nat.{ℕ}

@@ -1,4 +1,4 @@
--- `sampling::plan::plan_of` meets its contract: what `cut` leaves where the plan is laid, and `settle` elsewhere. Assumes nothing.
+-- `sampling::plan::plan_of` meets its contract: what `cut` leaves where the plan is laid, and `settle` elsewhere.
 use borrow.Author.Needs.{needs}
 use Rattle.sampling.proofs.plan.ByKind.{settled}
 use Rattle.sampling.proofs.plan.plan_of.Statement.{statement}

@@ -1,4 +1,4 @@
--- `sampling::plan::second_free` meets its contract: at each return, what the calls and the tests on the way to it say. Assumes nothing.
+-- `sampling::plan::second_free` meets its contract: at each return, what the calls and the tests on the way to it say.
 use borrow.Author.Needs.{needs}
 use Rattle.sampling.specs.Angles.{second-free}
 use Rattle.sampling.proofs.plan.second_free.Statement.{statement}

@@ -1,4 +1,4 @@
--- `sampling::plan::settle` meets its contract: by what came of the cuts. Assumes nothing.
+-- `sampling::plan::settle` meets its contract: by what came of the cuts.
 use borrow.Author.Needs.{needs}
 use Rattle.sampling.proofs.plan.settle.Statement.{statement}
 use Rattle.sampling.proofs.plan.settle.Tie as tie

@@ -1,4 +1,4 @@
--- `sampling::pose::dot` meets its contract: at each return, what the calls and the tests on the way to it say. Assumes nothing.
+-- `sampling::pose::dot` meets its contract: at each return, what the calls and the tests on the way to it say.
 use mathlib.Core.Path.{refl}
 use Rattle.sampling.specs.Pose.{dot}
 use Rattle.sampling.proofs.pose.dot.Statement.{statement}

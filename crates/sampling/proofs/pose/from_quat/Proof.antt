@@ -1,4 +1,4 @@
--- `sampling::pose::from_quat` meets its contract: at each return, what the calls and the tests on the way to it say. Assumes nothing.
+-- `sampling::pose::from_quat` meets its contract: at each return, what the calls and the tests on the way to it say.
 use mathlib.Core.Path.{refl}
 use lib.Ieee.{ofBits}
 use Rattle.sampling.specs.Pose.{from-quat}

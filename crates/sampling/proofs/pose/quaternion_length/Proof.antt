@@ -1,4 +1,4 @@
--- `sampling::pose::quaternion_length` meets its contract: at each return, what the calls and the tests on the way to it say. Assumes nothing.
+-- `sampling::pose::quaternion_length` meets its contract: at each return, what the calls and the tests on the way to it say.
 use borrow.Author.Needs.{needs}
 use Rattle.sampling.specs.Pose.{quaternion-length}
 use Rattle.sampling.proofs.pose.quaternion_length.Statement.{statement}

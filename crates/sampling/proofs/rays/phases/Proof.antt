@@ -1,4 +1,4 @@
--- `sampling::rays::phases` meets its contract: at each return, what the calls and the tests on the way to it say. Assumes nothing.
+-- `sampling::rays::phases` meets its contract: at each return, what the calls and the tests on the way to it say.
 use lib.Ieee.{ofBits}
 use borrow.Author.Needs.{needs}
 use Rattle.sampling.proofs.Questions.{then}

@@ -1,4 +1,4 @@
--- `sampling::rays::ray_angles` meets its contract: at each return, what the calls and the tests on the way to it say. Assumes nothing.
+-- `sampling::rays::ray_angles` meets its contract: at each return, what the calls and the tests on the way to it say.
 use native.Mathlib.Omega.{arith}
 use borrow.Author.Needs.{needs}
 use Rattle.sampling.proofs.Questions.{worked, asked-count, asked-length}

@@ -1,4 +1,4 @@
--- `sampling::rays::ray_marks` meets its contract: at each return, what the calls and the tests on the way to it say. Assumes nothing.
+-- `sampling::rays::ray_marks` meets its contract: at each return, what the calls and the tests on the way to it say.
 use borrow.Author.Needs.{needs}
 use Rattle.sampling.proofs.Questions.{none, then}
 use Rattle.sampling.specs.Rays.{ray-marks}

@@ -1,4 +1,4 @@
--- `sampling::rays::roots_by` meets its contract: at each return, what the calls and the tests on the way to it say. Assumes nothing.
+-- `sampling::rays::roots_by` meets its contract: at each return, what the calls and the tests on the way to it say.
 use borrow.Author.Needs.{needs}
 use Rattle.sampling.specs.Continuum.{roots}
 use Rattle.sampling.proofs.rays.roots_by.Statement.{statement}

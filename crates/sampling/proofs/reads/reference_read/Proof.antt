@@ -1,4 +1,4 @@
--- `sampling::reads::reference_read` meets its contract: at each return, what the calls and the tests on the way to it say. Assumes nothing.
+-- `sampling::reads::reference_read` meets its contract: at each return, what the calls and the tests on the way to it say.
 use borrow.Author.Needs.{needs}
 use Rattle.sampling.specs.Reads.{reference-read}
 use Rattle.sampling.proofs.reads.reference_read.Statement.{statement}

@@ -1,4 +1,4 @@
--- `sampling::sample_angles::cut_intervals` meets its contract: one list after the other, by `Laid`. Assumes nothing.
+-- `sampling::sample_angles::cut_intervals` meets its contract: one list after the other, by `Laid`.
 use Prim.Native.Nat.{ℕ, _+_}
 use mathlib.Core.Path.{refl}
 use mathlib.Core.List.{List, _++_}

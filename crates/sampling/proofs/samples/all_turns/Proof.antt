@@ -1,4 +1,4 @@
--- `sampling::samples::all_turns` meets its contract. The loop's invariant: where those of the angles that are left come to a slice, all come to it. Assumes nothing.
+-- `sampling::samples::all_turns` meets its contract. The loop's invariant: where those of the angles that are left come to a slice, all come to it.
 use Prim.Native.Nat.{ℕ, _-_, _≤_}
 use native.Mathlib.Omega.{arith}
 use mathlib.Core.Path.{_≡_, refl, sym, subst₂, _∙_}

@@ -1,4 +1,4 @@
--- `sampling::samples::all_windings` meets its contract. The loop's invariant: the cuts grew by those of the roots before i. Assumes nothing.
+-- `sampling::samples::all_windings` meets its contract. The loop's invariant: the cuts grew by those of the roots before i.
 use Prim.Native.Nat.{ℕ, _-_, _≤_}
 use native.Mathlib.Omega.{arith}
 use mathlib.Core.Path.{_≡_, subst}

@@ -1,4 +1,4 @@
--- `sampling::samples::between` meets its contract: what the calls on the way say. Assumes nothing.
+-- `sampling::samples::between` meets its contract: what the calls on the way say.
 use borrow.Author.Needs.{needs}
 use Rattle.sampling.specs.Samples.{between}
 use Rattle.sampling.proofs.samples.between.Statement.{statement}

@@ -1,4 +1,4 @@
--- `sampling::samples::inset` meets its contract: at each return, what the calls and the tests on the way to it say. Assumes nothing.
+-- `sampling::samples::inset` meets its contract: at each return, what the calls and the tests on the way to it say.
 use lib.Ieee.{ofBits}
 use borrow.Author.Needs.{needs}
 use Rattle.sampling.specs.Samples.{inset}

@@ -1,4 +1,4 @@
--- `sampling::samples::interval_cuts` meets its contract: at each return, what the calls and the tests on the way to it say. Assumes nothing.
+-- `sampling::samples::interval_cuts` meets its contract: at each return, what the calls and the tests on the way to it say.
 use borrow.Author.Needs.{needs}
 use Rattle.polynomial.specs.Laws.Held.{kept-none}
 use Rattle.sampling.proofs.Grown.{then, whole-counted}

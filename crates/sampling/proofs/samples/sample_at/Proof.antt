@@ -1,4 +1,4 @@
--- `sampling::samples::sample_at` meets its contract: at each return, what the calls and the tests on the way to it say. Assumes nothing.
+-- `sampling::samples::sample_at` meets its contract: at each return, what the calls and the tests on the way to it say.
 use Prim.Native.Nat.{_-_, _/_, _%_}
 use native.Mathlib.Omega.{arith}
 use mathlib.Core.Path.{sym, _∙_}

@@ -1,4 +1,4 @@
--- `sampling::samples::windings` meets its contract: at each return, what the calls and the tests on the way to it say. Assumes nothing.
+-- `sampling::samples::windings` meets its contract: at each return, what the calls and the tests on the way to it say.
 use borrow.Author.Needs.{needs}
 use Rattle.sampling.proofs.Grown.{none}
 use Rattle.sampling.specs.Samples.{windings}

@@ -1,4 +1,4 @@
--- `sampling::stream::advance` meets its contract: test by test. Assumes nothing.
+-- `sampling::stream::advance` meets its contract: test by test.
 use Prim.Native.Nat.{ℕ, _<_}
 use native.Mathlib.Omega.{arith}
 use mathlib.Core.Path.{_≡_, refl, sym, ap, subst, _∙_}

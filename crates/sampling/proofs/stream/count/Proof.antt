@@ -1,4 +1,4 @@
--- `sampling::stream::count` meets its contract. The loop's invariant: the values counted and those still to come are all. The measure is what is still to come. Assumes nothing.
+-- `sampling::stream::count` meets its contract. The loop's invariant: the values counted and those still to come are all. The measure is what is still to come.
 use Prim.Native.Nat.{_+_}
 use native.Mathlib.Nat.{zero-add}
 use native.Mathlib.Omega.{arith}

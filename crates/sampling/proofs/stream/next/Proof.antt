@@ -1,4 +1,4 @@
--- `sampling::stream::next` meets its contract. The loop's invariant: from here on the definition gives what it gives at the start. The measure is how many values are left. Assumes nothing.
+-- `sampling::stream::next` meets its contract. The loop's invariant: from here on the definition gives what it gives at the start. The measure is how many values are left.
 use Prim.Native.Nat.{ℕ, suc}
 use native.Mathlib.Omega.{arith}
 use mathlib.Core.Path.{_≡_, refl, sym, ap, subst, _∙_}

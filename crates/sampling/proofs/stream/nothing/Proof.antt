@@ -1,4 +1,4 @@
--- `sampling::stream::nothing` meets its contract. Assumes nothing.
+-- `sampling::stream::nothing` meets its contract.
 use mathlib.Core.Path.{refl}
 use lib.Ieee.{div, ofBits}
 use Rattle.sampling.proofs.stream.nothing.Statement.{statement}

@@ -1,4 +1,4 @@
--- `sampling::stream::start` meets its contract: at each return, what the calls and the tests on the way to it say. Assumes nothing.
+-- `sampling::stream::start` meets its contract: at each return, what the calls and the tests on the way to it say.
 use mathlib.Core.Path.{ap}
 use mathlib.Core.Bool.{false}
 use lib.Ieee.{Float}

@@ -1,4 +1,4 @@
--- `sampling::stream::woven` meets its contract: the values at even places are the cuts, those at odd places the middles. Assumes nothing.
+-- `sampling::stream::woven` meets its contract: the values at even places are the cuts, those at odd places the middles.
 use Prim.Native.Nat.{_/_}
 use native.Mathlib.Omega.{arith}
 use mathlib.Core.Path.{sym, _∙_}

@@ -1,4 +1,4 @@
--- `sampling::work::number_of` meets its contract: at each return, what the tests on the way to it say. Assumes nothing.
+-- `sampling::work::number_of` meets its contract: at each return, what the tests on the way to it say.
 use borrow.Author.Needs.{needs}
 use Rattle.sampling.proofs.work.number_of.Statement.{statement}
 use Rattle.sampling.proofs.work.number_of.Tie as tie

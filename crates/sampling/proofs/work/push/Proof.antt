@@ -1,4 +1,4 @@
--- `sampling::work::push` meets its contract: at each return, what the calls and the tests on the way to it say. Assumes nothing.
+-- `sampling::work::push` meets its contract: at each return, what the calls and the tests on the way to it say.
 use mathlib.Core.Path.{refl, sym, subst}
 use lib.Dec.{T}
 use borrow.Author.Needs.{needs}

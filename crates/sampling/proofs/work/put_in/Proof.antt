@@ -1,4 +1,4 @@
--- `sampling::work::put_in` meets its contract: at each return, what the calls and the tests on the way to it say. Assumes nothing.
+-- `sampling::work::put_in` meets its contract: at each return, what the calls and the tests on the way to it say.
 use mathlib.Core.Path.{refl, sym, subst, _∙_}
 use lib.Dec.{T}
 use borrow.Author.Needs.{needs}

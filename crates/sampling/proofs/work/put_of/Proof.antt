@@ -1,4 +1,4 @@
--- `sampling::work::put_of` meets its contract: at each return, what the test on the way to it says. Assumes nothing.
+-- `sampling::work::put_of` meets its contract: at each return, what the test on the way to it says.
 use borrow.Author.Tests.{le-leb, lt-leb}
 use native.Mathlib.Omega.{arith}
 use Rattle.sampling.proofs.work.put_of.Statement.{statement}

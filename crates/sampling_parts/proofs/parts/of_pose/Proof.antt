@@ -1,4 +1,4 @@
--- `sampling_parts::parts::of_pose` meets its contract: at each return, what the calls and the tests on the way to it say. Assumes nothing.
+-- `sampling_parts::parts::of_pose` meets its contract: at each return, what the calls and the tests on the way to it say.
 use borrow.Author.Needs.{needs}
 use Rattle.sampling_parts.specs.Parts.{of-pose}
 use Rattle.sampling_parts.proofs.parts.of_pose.Statement.{statement}

@@ -1,4 +1,4 @@
--- `sampling_parts::parts::yes` meets its contract: at each return, what the calls and the tests on the way to it say. Assumes nothing.
+-- `sampling_parts::parts::yes` meets its contract: at each return, what the calls and the tests on the way to it say.
 use borrow.Author.Tests.{eq-eqb, ne-eqb}
 use Rattle.sampling_parts.specs.Parts.{yes}
 use Rattle.sampling_parts.proofs.parts.yes.Statement.{statement}

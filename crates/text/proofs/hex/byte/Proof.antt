@@ -1,4 +1,4 @@
--- `text::hex::byte` meets its contract: a digit is below 16, so that two make a byte. Assumes nothing.
+-- `text::hex::byte` meets its contract: a digit is below 16, so that two make a byte.
 use Prim.Native.Nat.{_<_}
 use native.Mathlib.Nat.{add-zero, zero-add}
 use native.Mathlib.Omega.{arith}

@@ -1,4 +1,4 @@
--- `text::hex::digit` meets its contract: the tests are the definition's. Assumes nothing.
+-- `text::hex::digit` meets its contract: the tests are the definition's.
 use borrow.Author.Needs.{needs}
 use borrow.Author.Tests.{lt-ltb, le-ltb, le-leb, lt-leb}
 use Rattle.text.specs.Hex.{digit}

@@ -1,4 +1,4 @@
--- `text::hex::is_word` meets its contract: `good` says whether the bytes passed are digits. Assumes nothing.
+-- `text::hex::is_word` meets its contract: `good` says whether the bytes passed are digits.
 use Prim.Native.Nat.{_≤_, _-_}
 use native.Mathlib.Numerals.{add-one}
 use native.Mathlib.Omega.{arith}

@@ -1,4 +1,4 @@
--- `text::hex::letter` meets its contract: the test is the definition's. Assumes nothing.
+-- `text::hex::letter` meets its contract: the test is the definition's.
 use borrow.Author.Tests.{lt-ltb, le-ltb}
 use borrow.Author.Needs.{needs}
 use Rattle.text.proofs.hex.letter.Statement.{statement}

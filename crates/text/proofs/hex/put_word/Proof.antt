@@ -1,4 +1,4 @@
--- `text::hex::put_word` meets its contract. The invariant: the digits that are left, before what is stored, are what is asked. Assumes nothing.
+-- `text::hex::put_word` meets its contract. The invariant: the digits that are left, before what is stored, are what is asked.
 use Prim.Native.Nat.{ℕ, suc, _≤_, _<_, _-_, _/_, _%_}
 use native.Mathlib.Omega.{arith}
 use mathlib.Core.Path.{_≡_, refl, sym, _∙_}

@@ -1,4 +1,4 @@
--- `text::hex::word` meets its contract: w is the value of the digits passed, which fits by `Spelled`. Assumes nothing.
+-- `text::hex::word` meets its contract: w is the value of the digits passed, which fits by `Spelled`.
 use Prim.Native.Nat.{_≤_, _-_, _+_}
 use native.Mathlib.Numerals.{add-one}
 use native.Mathlib.Omega.{arith}

@@ -1,4 +1,4 @@
--- `text::lines::are_words` meets its contract: `good` says whether the words passed are words. Assumes nothing.
+-- `text::lines::are_words` meets its contract: `good` says whether the words passed are words.
 use Prim.Native.Nat.{suc, _≤_, _+_, _-_}
 use native.Mathlib.Omega.{arith}
 use mathlib.Core.Path.{_≡_, refl}

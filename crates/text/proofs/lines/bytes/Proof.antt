@@ -1,4 +1,4 @@
--- `text::lines::bytes` meets its contract. The invariant: what is still to be stored, stored now, gives what is asked. Assumes nothing.
+-- `text::lines::bytes` meets its contract. The invariant: what is still to be stored, stored now, gives what is asked.
 use Prim.Native.Nat.{ℕ, suc, _≤_, _<_, _+_, _*_, _-_, _/_, _%_}
 use native.Mathlib.Nat.{sub-zero}
 use native.Mathlib.Omega.{arith}

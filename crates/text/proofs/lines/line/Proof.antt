@@ -1,4 +1,4 @@
--- `text::lines::line` meets its contract: the tests are the definition's. Assumes nothing.
+-- `text::lines::line` meets its contract: the tests are the definition's.
 use Prim.Native.Nat.{_≤_, _<_, _+_, _*_}
 use native.Mathlib.Omega.{arith}
 use mathlib.Core.Path.{sym}

@@ -1,4 +1,4 @@
--- `text::lines::room` meets its contract. Assumes nothing.
+-- `text::lines::room` meets its contract.
 use mathlib.Core.Path.{refl}
 use Rattle.text.proofs.lines.room.Statement.{statement}
 use Rattle.text.proofs.lines.room.Tie as tie

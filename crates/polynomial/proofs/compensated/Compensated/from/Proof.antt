@@ -1,4 +1,4 @@
--- `Compensated::from` meets its contract. Assumes nothing.
+-- `Compensated::from` meets its contract.
 use mathlib.Core.Path.{refl}
 use lib.Ieee.{ofBits}
 use Rattle.polynomial.proofs.compensated.Compensated.from.Statement.{statement}

@@ -1,4 +1,4 @@
--- `Compensated::is_zero` meets its contract. Assumes nothing.
+-- `Compensated::is_zero` meets its contract.
 use mathlib.Core.Path.{sym}
 use Rattle.float.specs.Laws.Zero.{zero-bits}
 use Rattle.polynomial.proofs.compensated.Compensated.is_zero.Statement.{statement}

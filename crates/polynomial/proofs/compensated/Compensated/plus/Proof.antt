@@ -1,4 +1,4 @@
--- `Compensated::plus` meets its contract. Assumes nothing.
+-- `Compensated::plus` meets its contract.
 use mathlib.Core.Path.{refl}
 use Rattle.polynomial.specs.Compensated.{plus}
 use Rattle.polynomial.proofs.compensated.Compensated.plus.Statement.{statement}

@@ -1,4 +1,4 @@
--- `Compensated::times` meets its contract. Assumes nothing.
+-- `Compensated::times` meets its contract.
 use mathlib.Core.Path.{ap}
 use lib.Ieee.{Float}
 use borrow.Author.Needs.{needs}

@@ -1,4 +1,4 @@
--- `Compensated::times_by` meets its contract. Assumes nothing.
+-- `Compensated::times_by` meets its contract.
 use mathlib.Core.Path.{sym, ap, _∙_}
 use borrow.Author.Needs.{needs}
 use Rattle.polynomial.specs.Compensated.{times}

@@ -1,4 +1,4 @@
--- `Compensated::times_by_halves` meets its contract. Assumes nothing.
+-- `Compensated::times_by_halves` meets its contract.
 use mathlib.Core.Path.{ap₂}
 use lib.Ieee.{Float}
 use borrow.Author.Needs.{needs}

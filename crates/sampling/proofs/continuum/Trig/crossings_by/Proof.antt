@@ -1,4 +1,4 @@
--- `sampling::continuum::Trig::crossings_by` meets its contract: by its steps, the tests and the angles around the phase. Assumes nothing.
+-- `sampling::continuum::Trig::crossings_by` meets its contract: by its steps, the tests and the angles around the phase.
 use mathlib.Core.Path.{_∙_}
 use borrow.Author.Needs.{needs}
 use Rattle.sampling.proofs.continuum.Steps.{met, missed}

@@ -1,4 +1,4 @@
--- `sampling::continuum::Trig::meets` meets its contract: at each return, what the calls and the tests on the way to it say. Assumes nothing.
+-- `sampling::continuum::Trig::meets` meets its contract: at each return, what the calls and the tests on the way to it say.
 use mathlib.Core.Bool.{not, _&&_}
 use lib.Ieee.{eq, lt, ofBits}
 use borrow.Author.Needs.{needs}

@@ -1,4 +1,4 @@
--- `sampling::continuum::Trig::plus` meets its contract: at each return, what the calls and the tests on the way to it say. Assumes nothing.
+-- `sampling::continuum::Trig::plus` meets its contract: at each return, what the calls and the tests on the way to it say.
 use mathlib.Core.Path.{refl}
 use Rattle.sampling.specs.Continuum.{plus}
 use Rattle.sampling.proofs.continuum.Trig.plus.Statement.{statement}

@@ -1,4 +1,4 @@
--- `sampling::continuum::Trig::polar` meets its contract: at each return, what the calls and the tests on the way to it say. Assumes nothing.
+-- `sampling::continuum::Trig::polar` meets its contract: at each return, what the calls and the tests on the way to it say.
 use borrow.Author.Needs.{needs}
 use Rattle.sampling.specs.Promises.Polar.{polar}
 use Rattle.sampling.proofs.continuum.Trig.polar.Statement.{statement}

@@ -1,4 +1,4 @@
--- `sampling::continuum::Trig::scaled` meets its contract: at each return, what the calls and the tests on the way to it say. Assumes nothing.
+-- `sampling::continuum::Trig::scaled` meets its contract: at each return, what the calls and the tests on the way to it say.
 use mathlib.Core.Path.{refl}
 use Rattle.sampling.specs.Continuum.{scaled}
 use Rattle.sampling.proofs.continuum.Trig.scaled.Statement.{statement}

@@ -1,4 +1,4 @@
--- `sampling::pose::Vector::new` meets its contract: at each return, what the calls and the tests on the way to it say. Assumes nothing.
+-- `sampling::pose::Vector::new` meets its contract: at each return, what the calls and the tests on the way to it say.
 use mathlib.Core.Path.{refl}
 use Rattle.sampling.specs.Pose.{vector}
 use Rattle.sampling.proofs.pose.Vector.new.Statement.{statement}
