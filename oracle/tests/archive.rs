@@ -1,6 +1,8 @@
 //! The archive that a supplier links asks for nothing but `memcpy` and `memset`.
 //! Runs with the feature `linked`, after `rt staticlib lemongully`.
 
+#![cfg(feature = "linked")]
+
 use std::collections::BTreeSet;
 use std::path::Path;
 use std::process::Command;
@@ -9,7 +11,11 @@ use std::process::Command;
 fn the_archive_asks_for_memcpy_and_memset_alone() {
     let archive = Path::new(env!("CARGO_MANIFEST_DIR")).join("../target/staticlib/liblemongully.a");
     assert!(archive.exists(), "run `rt staticlib lemongully` first");
-    let output = Command::new("nm").arg("-u").arg(&archive).output().expect("nm runs");
+    let output = Command::new("nm")
+        .arg("-u")
+        .arg(&archive)
+        .output()
+        .expect("nm runs");
     let names: BTreeSet<_> = String::from_utf8_lossy(&output.stdout)
         .lines()
         .filter_map(|line| line.trim().strip_prefix("U ").map(str::to_string))

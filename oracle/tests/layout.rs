@@ -34,7 +34,11 @@ fn definitions() -> Vec<PathBuf> {
         };
         for file in specs {
             let path = file.expect("a file").path();
-            let name = path.file_stem().expect("a name").to_string_lossy().into_owned();
+            let name = path
+                .file_stem()
+                .expect("a name")
+                .to_string_lossy()
+                .into_owned();
             let folder = name == "Lib" || BESIDE.contains(&name.as_str());
             if path.extension().is_some_and(|e| e == "antt") && !folder {
                 found.push(path);
@@ -48,13 +52,19 @@ fn definitions() -> Vec<PathBuf> {
 /// Whether a line imports from a folder that is not to be believed.
 fn leaves(line: &str) -> bool {
     line.trim_start().starts_with("use ")
-        && BESIDE.iter().any(|folder| line.contains(&format!("specs.{folder}.")))
+        && BESIDE
+            .iter()
+            .any(|folder| line.contains(&format!("specs.{folder}.")))
 }
 
 #[test]
 fn definitions_import_definitions_alone() {
     let files = definitions();
-    assert!(files.len() > 30, "only {} files of definitions", files.len());
+    assert!(
+        files.len() > 30,
+        "only {} files of definitions",
+        files.len()
+    );
     let mut wrong = Vec::new();
     for file in &files {
         for line in text(file).lines().filter(|line| leaves(line)) {
@@ -67,7 +77,9 @@ fn definitions_import_definitions_alone() {
 #[test]
 fn an_import_from_a_law_is_seen() {
     assert!(leaves("use Rattle.float.specs.Laws.Within.{Within}"));
-    assert!(leaves("use Rattle.sampling.specs.Promises.Plan as Plan"));
+    assert!(leaves(
+        "use Rattle.sampling.specs.Promises.Plan as Plan"
+    ));
     assert!(!leaves("use Rattle.float.specs.Number.{abs}"));
 }
 
@@ -86,10 +98,14 @@ fn imported(line: &str) -> Option<(String, String)> {
 /// The imports that the contract of a public function names.
 fn named(name: &str, file: &str, function: &str) -> Vec<(String, String)> {
     let text = text(&root().join(format!("crates/{name}/src/{file}.rt")));
-    let at = text.find(&format!("pub fn {function}(")).expect("the operation");
+    let at = text
+        .find(&format!("pub fn {function}("))
+        .expect("the operation");
     let end = text[at..].find("\n{").expect("its body") + at;
     let contract = &text[at..end];
-    let ghosts = text.lines().filter_map(|line| line.strip_prefix("ghost use "));
+    let ghosts = text
+        .lines()
+        .filter_map(|line| line.strip_prefix("ghost use "));
     let cited = |line: &&str| match line.split_once(" as ") {
         Some((_, short)) => contract.contains(&format!("{}.", short.trim_end_matches(';'))),
         None => line
@@ -102,7 +118,10 @@ fn named(name: &str, file: &str, function: &str) -> Vec<(String, String)> {
 
 /// The files that the operations' contracts reach, with their lines, by crate.
 fn reached() -> BTreeMap<String, BTreeMap<String, usize>> {
-    let mut waiting: Vec<_> = OPERATIONS.iter().flat_map(|&(c, f, o)| named(c, f, o)).collect();
+    let mut waiting: Vec<_> = OPERATIONS
+        .iter()
+        .flat_map(|&(c, f, o)| named(c, f, o))
+        .collect();
     let mut seen = BTreeSet::new();
     let mut found: BTreeMap<String, BTreeMap<String, usize>> = BTreeMap::new();
     while let Some((name, file)) = waiting.pop() {
@@ -110,8 +129,15 @@ fn reached() -> BTreeMap<String, BTreeMap<String, usize>> {
             continue;
         }
         let text = text(&root().join(format!("crates/{name}/specs/{file}.antt")));
-        waiting.extend(text.lines().filter(|line| line.starts_with("use ")).filter_map(imported));
-        found.entry(name).or_default().insert(file, text.lines().count());
+        waiting.extend(
+            text.lines()
+                .filter(|line| line.starts_with("use "))
+                .filter_map(imported),
+        );
+        found
+            .entry(name)
+            .or_default()
+            .insert(file, text.lines().count());
     }
     found
 }
@@ -123,7 +149,11 @@ fn rows() -> Vec<String> {
         .map(|(name, files)| {
             let lines: usize = files.values().sum();
             let names: Vec<_> = files.keys().map(|file| format!("`{file}`")).collect();
-            format!("| `{name}` | {} | {lines} | {} |", files.len(), names.join(", "))
+            format!(
+                "| `{name}` | {} | {lines} | {} |",
+                files.len(),
+                names.join(", ")
+            )
         })
         .collect()
 }
@@ -133,6 +163,14 @@ fn trust_lists_what_the_contracts_reach() {
     let rows = rows();
     assert!(rows.len() == 4, "{} crates", rows.len());
     let trust = text(&root().join("docs/TRUST.md"));
-    let missing: Vec<_> = rows.iter().filter(|row| !trust.contains(row.as_str())).cloned().collect();
-    assert!(missing.is_empty(), "docs/TRUST.md should say\n{}", missing.join("\n"));
+    let missing: Vec<_> = rows
+        .iter()
+        .filter(|row| !trust.contains(row.as_str()))
+        .cloned()
+        .collect();
+    assert!(
+        missing.is_empty(),
+        "docs/TRUST.md should say\n{}",
+        missing.join("\n")
+    );
 }
