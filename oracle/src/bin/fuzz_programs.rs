@@ -1,10 +1,9 @@
 //! Hostile standard input for the two programs, after `rt check make_sheet
 //! check_sheet`: `fuzz_programs COUNT [SEED] [--valgrind]`. What a program
-//! writes must be what the oracle says, and its exit status 0. Programs are
-//! started by the script `run`; with `--valgrind` they are linked anew with the
-//! system's C library (the toolchain's loader has no symbols, which memcheck
-//! wants) and run under memcheck. Prints the answers by number; at the first
-//! fault, the input in hexadecimal, with exit status 1.
+//! writes must be what the oracle says, and its exit status 0. With
+//! `--valgrind` programs are linked anew by the system's compiler and run under
+//! memcheck. Prints the answers by number; at the first fault, the input in
+//! hexadecimal, with exit status 1.
 
 use lemongully_oracle::corpus::hex;
 use lemongully_oracle::generate::{Random, hostile};
@@ -68,6 +67,9 @@ fn drawn(seed: u64, index: u64) -> Run {
 
 /// What the oracle says that a program writes.
 fn expected(run: &Run) -> Written {
+    if run.feed == Feed::Closed {
+        return (Vec::new(), b"not read\n".to_vec());
+    }
     if run.name == "make_sheet" {
         let (sheet, refusal) = maker_output(&run.input);
         return (sheet, refusal.into_bytes());
@@ -80,7 +82,9 @@ fn answer((output, error): &Written) -> String {
     let text = if error.is_empty() { output } else { error };
     let line = text.split(|&byte| byte == b'\n').next().unwrap_or_default();
     match std::str::from_utf8(line) {
-        Ok(line) if line.starts_with("refused") || line == "too long" => line.to_string(),
+        Ok(line) if line.starts_with("refused") || line == "too long" || line == "not read" => {
+            line.to_string()
+        }
         _ => "accepted".to_string(),
     }
 }
@@ -124,10 +128,10 @@ fn start(words: &[PathBuf], run: &Run) -> Result<(ExitStatus, Written)> {
     Ok((output.status, (output.stdout, output.stderr)))
 }
 
-/// The words that start a program: by `run`, or from a folder under memcheck.
+/// The words that start a program: by itself, or from a folder under memcheck.
 fn words(root: &Path, memcheck: Option<&Path>, name: &str) -> Vec<PathBuf> {
     match memcheck {
-        None => vec![root.join("run"), name.into()],
+        None => vec![root.join("target/bin").join(name)],
         Some(folder) => {
             let options = ["valgrind", "-q", "--error-exitcode=99"];
             let options = options.iter().map(PathBuf::from);
@@ -145,7 +149,7 @@ fn link(root: &Path) -> Outcome<PathBuf> {
         let program = folder.join(name);
         let status = Command::new("cc")
             .arg(object)
-            .args(["-lm", "-o"])
+            .arg("-o")
             .arg(program)
             .status()?;
         if !status.success() {
