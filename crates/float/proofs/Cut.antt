@@ -1,4 +1,5 @@
--- A fraction rounded to the nearest multiple of a unit: what is below the fourth part of the unit counts only by whether it is zero, so that the fraction may be cut there by `jam`.
+-- A fraction rounded to the nearest multiple of a unit: what is below the fourth part of the unit
+-- counts only by whether it is zero, so that the fraction may be cut there by `jam`.
 --
 use mathlib.Core.Path.{_≡_, sym, ap, _∙_}
 use Prim.Native.Nat.{ℕ, suc, _+_, _*_, _/_, _%_, _^_, _≤_, _<_, min, compare, Ordering, Ordering·lt, Ordering·eq, Ordering·gt}

@@ -1,10 +1,12 @@
--- The bit pattern of what `units` gives at binary64: q * 2 ^ k units, with q having all its 53 digits where k is above 0, has the pattern k * 2 ^ 52 + q, cut to an infinity's, with its sign.
+-- The bit pattern of what `units` gives at binary64: q * 2 ^ k units, with q having all its 53 digits where
+-- k is above 0, has the pattern k * 2 ^ 52 + q, cut to an infinity's, with its sign.
 -- And what `closest` gives at 2 ^ 11, as a program computes it.
 use mathlib.Core.Path.{_≡_, refl, sym, ap, _∙_, subst}
 use mathlib.Core.Logic.{_⊎_, inl, inr}
 use mathlib.Core.Bool.{Bool, true, false, not, cond}
 use Prim.Native.Nat.{ℕ, suc, _+_, _-_, _*_, _/_, _%_, _^_, _≤_, _<_, min, compare, Ordering, Ordering·lt, Ordering·eq, Ordering·gt}
-use native.Mathlib.Nat.{le-trans, le-of-eq, le-refl, lt-of-lt-of-le, lt-of-le-of-lt, lt-of-not-le, not-le-of-lt, le-of-suc-le-suc, eq-or-lt-of-le, zero-lt-suc, mul-assoc, mul-le-mul-left, mul-le-mul-right, mul-lt-mul-of-pos-right, mul-div-cancel, le-of-mul-le-mul-right, pow-succ'}
+use native.Mathlib.Nat.{le-trans, le-of-eq, le-refl, lt-of-lt-of-le, lt-of-le-of-lt, lt-of-not-le, not-le-of-lt, le-of-suc-le-suc, eq-or-lt-of-le}
+use native.Mathlib.Nat.{zero-lt-suc, mul-assoc, mul-le-mul-left, mul-le-mul-right, mul-lt-mul-of-pos-right, mul-div-cancel, le-of-mul-le-mul-right, pow-succ'}
 use native.Mathlib.Omega.{arith}
 use lib.Dec.{T, ltb, ltb→lt, nltb→le, lit<}
 use lib.Pow.{pow-pos, pow-add, pow-mono, pow-lt}
@@ -33,7 +35,8 @@ pattern-of (fin t m e) s n h =
 digits-of : (q k n : ℕ) → n ≡ q * 2 ^ k → q < 2 ^ 53 → (0 < k → 2 ^ 52 ≤ q) → (size n - 53) * 2 ^ 52 + n / 2 ^ (size n - 53) ≡ k * 2 ^ 52 + q
 digits-of q k n e a b =
     ap (λ (x : ℕ). x * 2 ^ 52 + n / 2 ^ x)
-    (size-is 52 n k (lt-of-le-of-lt (le-of-eq e) (mul-lt-mul-of-pos-right a (pow-pos k))) (λ (h : 0 < k). le-trans (mul-le-mul-right (2 ^ k) (b h)) (le-of-eq (sym e))))
+    (size-is 52 n k (lt-of-le-of-lt (le-of-eq e) (mul-lt-mul-of-pos-right a (pow-pos k)))
+    (λ (h : 0 < k). le-trans (mul-le-mul-right (2 ^ k) (b h)) (le-of-eq (sym e))))
     ∙ ap (λ (x : ℕ). k * 2 ^ 52 + x) (ap (λ (x : ℕ). x / 2 ^ k) e ∙ mul-div-cancel q (pow-pos k))
 
 -- 2 ^ 53 at k is 2 ^ 52 at k + 1
@@ -52,7 +55,8 @@ digits-up-to q k a b = elim (eq-or-lt-of-le a) [
 -- ---- below an infinity, and from there on: 2 ^ (1074 + 1024) units
 below : (q k : ℕ) → (0 < k → 2 ^ 52 ≤ q) → q * 2 ^ k < 2 ^ 2098 → k ≤ 2045
 below q k b h = le-of-suc-le-suc (lt-of-not-le (λ (g : 2046 ≤ k).
-    not-le-of-lt h (le-trans (le-of-eq (pow-add 2 52 2046)) (le-trans (mul-le-mul-left (2 ^ 52) (pow-mono g)) (mul-le-mul-right (2 ^ k) (b (lt-of-lt-of-le (lit< tt) g)))))))
+    not-le-of-lt h (le-trans (le-of-eq (pow-add 2 52 2046)) (le-trans (mul-le-mul-left (2 ^ 52) (pow-mono g))
+    (mul-le-mul-right (2 ^ k) (b (lt-of-lt-of-le (lit< tt) g)))))))
 
 from-there : (q k : ℕ) → q ≤ 2 ^ 53 → (0 < k → 2 ^ 52 ≤ q) → 2 ^ 2098 ≤ q * 2 ^ k → 2047 * 2 ^ 52 ≤ k * 2 ^ 52 + q
 from-there q k a b h = go (eq-or-lt-of-le least)
@@ -80,7 +84,8 @@ units-fits s q k a = go (ltb (q * 2 ^ k) (2 ^ 2098)) (ltb→lt (q * 2 ^ k) (2 ^ 
     go true h = odd-fits binary64 54 s q k (lt-of-le-of-lt a (lit< tt)) a (h tt)
     go false h = inf-fits binary64 s
 
-units-pattern : (s : Bool) (q k : ℕ) → q ≤ 2 ^ 53 → (0 < k → 2 ^ 52 ≤ q) → toBits binary64 (units binary64 s q k) ≡ sign s + min (k * 2 ^ 52 + q) (2047 * 2 ^ 52)
+units-pattern : (s : Bool) (q k : ℕ) → q ≤ 2 ^ 53 → (0 < k → 2 ^ 52 ≤ q)
+    → toBits binary64 (units binary64 s q k) ≡ sign s + min (k * 2 ^ 52 + q) (2047 * 2 ^ 52)
 unfolding units
 units-pattern s q k a b = go (ltb (q * 2 ^ k) (2 ^ 2098)) (ltb→lt (q * 2 ^ k) (2 ^ 2098)) (nltb→le (q * 2 ^ k) (2 ^ 2098))
   where

@@ -40,7 +40,8 @@ read-low s (suc y) t x e z U = absurd (no y z)
     no : (y : ℕ) → suc y ≡ 0 → ⊥
     no y z = omega arith
 
-read-high : (s : Bool) (y t : ℕ) (x : Float) → ofFields binary64 s y t ≡ x → T (finite x) → y < 2 ^ 11 → (j : ℕ) → y ≡ suc j → t < 2 ^ 52 → Splits x s (t + 2 ^ 52) j
+read-high : (s : Bool) (y t : ℕ) (x : Float) → ofFields binary64 s y t ≡ x → T (finite x) → y < 2 ^ 11 → (j : ℕ) → y ≡ suc j → t < 2 ^ 52
+    → Splits x s (t + 2 ^ 52) j
 unfolding ofFields
 read-high s zero t x e fine Y j z U = absurd (no j z)
   where
@@ -54,11 +55,13 @@ read-high s (suc y) t x e fine Y j z U = go (eqb (suc y) 2047) refl e (λ (h : s
     few : y < 2047 → (suc y ≡ 2047 → ⊥) → y ≡ j → j ≤ 2045
     few a b e = omega arith
 
-    go : (b : Bool) → eqb (suc y) 2047 ≡ b → cond b (cond (eqb t 0) (inf s) nan) (odd 53 s (2 ^ 52 + t) y 1074) ≡ x → (suc y ≡ 2047 → T b) → Splits x s (t + 2 ^ 52) j
+    go : (b : Bool) → eqb (suc y) 2047 ≡ b → cond b (cond (eqb t 0) (inf s) nan) (odd 53 s (2 ^ 52 + t) y 1074) ≡ x → (suc y ≡ 2047 → T b)
+        → Splits x s (t + 2 ^ 52) j
     go true p e h = absurd (no-infinity s t (subst (λ (v : Float). T (finite v)) (sym e) fine))
     go false p e h = record {
       value = subst (λ (k : ℕ). HasValue x s ((t + 2 ^ 52) * 2 ^ k) (2 ^ 1074)) (same z)
-          (subst (λ (q : ℕ). HasValue x s (q * 2 ^ y) (2 ^ 1074)) (add-comm (2 ^ 52) t) (subst (λ (v : Float). HasValue v s ((2 ^ 52 + t) * 2 ^ y) (2 ^ 1074)) e (odd-sign 53 s (2 ^ 52 + t) y 1074)));
+          (subst (λ (q : ℕ). HasValue x s (q * 2 ^ y) (2 ^ 1074)) (add-comm (2 ^ 52) t)
+          (subst (λ (v : Float). HasValue v s ((2 ^ 52 + t) * 2 ^ y) (2 ^ 1074)) e (odd-sign 53 s (2 ^ 52 + t) y 1074)));
       short = omega arith;
       place = few (omega arith) h (same z);
       full = λ _. le-add-left (2 ^ 52) t;

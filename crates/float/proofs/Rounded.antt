@@ -1,9 +1,11 @@
--- `round` at binary64 from a number cut to 64 digits: a fraction S * 2 ^ e / 2 ^ c whose S is cut by `jam` to a w below 2 ^ 64 rounds to w's upper 53 digits, moved up where the lower 11 say so.
+-- `round` at binary64 from a number cut to 64 digits: a fraction S * 2 ^ e / 2 ^ c whose S is cut by `jam` to
+-- a w below 2 ^ 64 rounds to w's upper 53 digits, moved up where the lower 11 say so.
 --
 use mathlib.Core.Path.{_≡_, sym, ap, _∙_, subst}
 use mathlib.Core.Bool.{Bool}
 use Prim.Native.Nat.{ℕ, zero, suc, _+_, _-_, _*_, _/_, _%_, _^_, _≤_, _<_, min}
-use native.Mathlib.Nat.{le-trans, le-of-eq, lt-of-lt-of-le, mod-lt, div-add-mod', mul-le-mul-right, mul-lt-mul-of-pos-right, mul-pos, mul-assoc, mul-comm, mul-left-comm, zero-lt-suc, div-lt-iff-lt-mul, le-div-iff-mul-le}
+use native.Mathlib.Nat.{le-trans, le-of-eq, lt-of-lt-of-le, mod-lt, div-add-mod', mul-le-mul-right, mul-lt-mul-of-pos-right}
+use native.Mathlib.Nat.{mul-pos, mul-assoc, mul-comm, mul-left-comm, zero-lt-suc, div-lt-iff-lt-mul, le-div-iff-mul-le}
 use native.Mathlib.Omega.{arith}
 use lib.Pow.{pow-pos, pow-add}
 use lib.Ieee.{binary64, size, units, round}
@@ -19,7 +21,8 @@ use Rattle.float.proofs.Cut.{closest-jam}
 
 -- n has k digits more than p, or no more than p where k is 0
 pub size-is : (p n k : ℕ) → n < 2 ^ suc p * 2 ^ k → (0 < k → 2 ^ p * 2 ^ k ≤ n) → size n - suc p ≡ k
-size-is p n k a b = go k (size-le n (suc p + k) (lt-of-lt-of-le a (le-of-eq (sym (pow-add 2 (suc p) k))))) (λ (h : 0 < k). size-gt n (p + k) (le-trans (le-of-eq (pow-add 2 p k)) (b h)))
+size-is p n k a b = go k (size-le n (suc p + k) (lt-of-lt-of-le a (le-of-eq (sym (pow-add 2 (suc p) k)))))
+    (λ (h : 0 < k). size-gt n (p + k) (le-trans (le-of-eq (pow-add 2 p k)) (b h)))
   where
     go : (k : ℕ) → size n ≤ suc p + k → (0 < k → p + k < size n) → size n - suc p ≡ k
     go zero x y = omega arith
@@ -28,11 +31,11 @@ size-is p n k a b = go k (size-le n (suc p + k) (lt-of-lt-of-le a (le-of-eq (sym
 drop-is : (p n den k : ℕ) → 0 < den → n < 2 ^ suc p * (den * 2 ^ k) → (0 < k → 2 ^ p * (den * 2 ^ k) ≤ n) → drop (suc p) n den ≡ k
 drop-is p n den k D a b =
     size-is p (n / den) k
-    (div-lt-iff-lt-mul D .1 (lt-of-lt-of-le a (le-of-eq (turn (2 ^ suc p)))))
-    (λ (h : 0 < k). le-div-iff-mul-le D .1 (le-trans (le-of-eq (sym (turn (2 ^ p)))) (b h)))
+    (div-lt-iff-lt-mul D .1 (lt-of-lt-of-le a (le-of-eq (rearranged (2 ^ suc p)))))
+    (λ (h : 0 < k). le-div-iff-mul-le D .1 (le-trans (le-of-eq (sym (rearranged (2 ^ p)))) (b h)))
   where
-    turn : (x : ℕ) → x * (den * 2 ^ k) ≡ x * 2 ^ k * den
-    turn x = simp (mul-assoc, mul-comm, mul-left-comm)
+    rearranged : (x : ℕ) → x * (den * 2 ^ k) ≡ x * 2 ^ k * den
+    rearranged x = simp (mul-assoc, mul-comm, mul-left-comm)
 
 -- `round` at a k that is known to be the number of digits dropped
 round-at : (s : Bool) (num den k : ℕ) → 0 < den → num * 2 ^ 1074 < 2 ^ 53 * (den * 2 ^ k) → (0 < k → 2 ^ 52 * (den * 2 ^ k) ≤ num * 2 ^ 1074)
@@ -70,20 +73,21 @@ module _ (n d g u w : ℕ) (U : u ≡ g * (2 ^ suc d * 2 ^ 10)) (G : 0 < g) (W :
   scaled-upper : w < 2 ^ 64 → n * g < 2 ^ 53 * u
   scaled-upper h =
       lt-of-lt-of-le (mul-lt-mul-of-pos-right (upper h) G)
-      (le-of-eq (ap (λ (x : ℕ). x * g) (mul-comm (2 ^ 63) b) ∙ turn ∙ ap (λ (x : ℕ). 2 ^ 53 * x) (sym U)))
+      (le-of-eq (ap (λ (x : ℕ). x * g) (mul-comm (2 ^ 63) b) ∙ rearranged ∙ ap (λ (x : ℕ). 2 ^ 53 * x) (sym U)))
     where
-      turn : b * 2 ^ 63 * g ≡ 2 ^ 53 * (g * (b * 2 ^ 10))
-      turn = omega arith
+      rearranged : b * 2 ^ 63 * g ≡ 2 ^ 53 * (g * (b * 2 ^ 10))
+      rearranged = omega arith
 
   scaled-lower : 2 ^ 63 ≤ w → 2 ^ 52 * u ≤ n * g
-  scaled-lower h = le-trans (le-of-eq (ap (λ (x : ℕ). 2 ^ 52 * x) U ∙ turn)) (mul-le-mul-right g (lower h))
+  scaled-lower h = le-trans (le-of-eq (ap (λ (x : ℕ). 2 ^ 52 * x) U ∙ rearranged)) (mul-le-mul-right g (lower h))
     where
-      turn : 2 ^ 52 * (g * (b * 2 ^ 10)) ≡ 2 ^ 62 * b * g
-      turn = omega arith
+      rearranged : 2 ^ 52 * (g * (b * 2 ^ 10)) ≡ 2 ^ 62 * b * g
+      rearranged = omega arith
 
   scaled-closest : closest (n * g) u ≡ closest w (2 ^ 11)
   scaled-closest =
-      closest-same (n * g) u n (b * 2 ^ 10) (subst (λ (x : ℕ). 0 < x) (sym U) (mul-pos G (mul-pos (pow-pos (suc d)) (pow-pos 10)))) (mul-pos (pow-pos (suc d)) (pow-pos 10))
+      closest-same (n * g) u n (b * 2 ^ 10) (subst (λ (x : ℕ). 0 < x) (sym U) (mul-pos G (mul-pos (pow-pos (suc d)) (pow-pos 10))))
+      (mul-pos (pow-pos (suc d)) (pow-pos 10))
       (mul-assoc n g (b * 2 ^ 10) ∙ ap (λ (x : ℕ). n * x) (sym U))
       ∙ closest-jam n d (2 ^ 9) (pow-pos 9)
       ∙ ap (λ (x : ℕ). closest x (2 ^ 11)) (sym W)

@@ -1,4 +1,5 @@
--- The float floor (01, module 1) up to the fused product and the square root, which stand in `MulAdd` and `Sqrt`. Definitions only, over `lib.Ieee` at binary64.
+-- The float floor (01, module 1) up to the fused product and the square root, which stand in
+-- `MulAdd` and `Sqrt`. Definitions only, over `lib.Ieee` at binary64.
 use mathlib.Core.Bool.{Bool, true, false, not, _||_, cond}
 use Prim.Native.Nat.{ℕ, _*_, _/_, _%_, _-_, _^_}
 use lib.IntN.{ℤ, pos, negsuc, negℤ}

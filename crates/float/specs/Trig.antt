@@ -31,8 +31,8 @@ abbrev pub widest : Float
 widest = fin false 1 (pos 5)
 
 -- k is the greatest whole number not above x·I + 0.5
-abbrev pub turns : Float → ℤ
-turns x = floor (x ⊗ I ⊕ half)
+abbrev pub quarters : Float → ℤ
+quarters x = floor (x ⊗ I ⊕ half)
 
 -- r = (x − k·H) − k·L
 abbrev pub reduced : ℤ → Float → Float
@@ -58,13 +58,15 @@ series z p (c ∷ cs) = series z (p ⊗ z ⊕ c) cs
 unfoldable pub sine-series : Float → Float
 sine-series z =
     series z (over (factorial 17))
-    (minus-over (factorial 15) ∷ over (factorial 13) ∷ minus-over (factorial 11) ∷ over (factorial 9) ∷ minus-over (factorial 7) ∷ over (factorial 5) ∷ minus-over (factorial 3) ∷ [])
+    (minus-over (factorial 15) ∷ over (factorial 13) ∷ minus-over (factorial 11) ∷ over (factorial 9) ∷ minus-over (factorial 7) ∷ over
+    (factorial 5) ∷ minus-over (factorial 3) ∷ [])
 
 -- start u at 1/16!, then −1/14!, alternating to −1/2!
 unfoldable pub cosine-series : Float → Float
 cosine-series z =
     series z (over (factorial 16))
-    (minus-over (factorial 14) ∷ over (factorial 12) ∷ minus-over (factorial 10) ∷ over (factorial 8) ∷ minus-over (factorial 6) ∷ over (factorial 4) ∷ minus-over (factorial 2) ∷ [])
+    (minus-over (factorial 14) ∷ over (factorial 12) ∷ minus-over (factorial 10) ∷ over (factorial 8) ∷ minus-over (factorial 6) ∷ over
+    (factorial 4) ∷ minus-over (factorial 2) ∷ [])
 
 -- z = r·r; s = r + (r·z)·p
 unfoldable pub sine : Float → Float
@@ -80,18 +82,18 @@ quadrant (pos n) = n % 4
 quadrant (negsuc n) = 3 - n % 4
 
 -- by k modulo 4, sine and cosine are (s, w), (w, −s), (−s, −w), (−w, s)
-abbrev pub turned : ℕ → Float → Float → SinCos
-turned zero s w = record { sine = s; cosine = w }
-turned (suc zero) s w = record { sine = w; cosine = neg s }
-turned (suc (suc zero)) s w = record { sine = neg s; cosine = neg w }
-turned (suc (suc (suc n))) s w = record { sine = neg w; cosine = s }
+abbrev pub by-quadrant : ℕ → Float → Float → SinCos
+by-quadrant zero s w = record { sine = s; cosine = w }
+by-quadrant (suc zero) s w = record { sine = w; cosine = neg s }
+by-quadrant (suc (suc zero)) s w = record { sine = neg s; cosine = neg w }
+by-quadrant (suc (suc (suc n))) s w = record { sine = neg w; cosine = s }
 
 -- sin_cos(x), |x| ≤ 32; other x give NaN twice
 unfoldable pub sin-cos : Float → SinCos
 sin-cos x =
-    let k = turns x in
+    let k = quarters x in
     let r = reduced k x in
-    cond (le (abs x) widest) (turned (quadrant k) (sine r) (cosine r)) (record { sine = nan; cosine = nan })
+    cond (le (abs x) widest) (by-quadrant (quadrant k) (sine r) (cosine r)) (record { sine = nan; cosine = nan })
 
 -- sin and cos alone are its two parts
 abbrev pub sin : Float → Float
@@ -112,8 +114,8 @@ abbrev pub atan-start : Float → Float
 atan-start x = cond (lt one-float (abs x)) (one-float ⊘ abs x) (abs x)
 
 -- twice, a becomes a/(1 + sqrt(1 + a·a))
-unfoldable pub halved : Float → Float
-halved a = a ⊘ (one-float ⊕ sqrt binary64 (one-float ⊕ a ⊗ a))
+unfoldable pub half-angle : Float → Float
+half-angle a = a ⊘ (one-float ⊕ sqrt binary64 (one-float ⊕ a ⊗ a))
 
 -- p from −1/23, then 1/21, alternating to −1/3
 unfoldable pub atan-series : Float → Float
@@ -132,7 +134,7 @@ copysign v x = cond (negative x) (neg (abs v)) (abs v)
 -- v, or P/2 − v if |x| > 1
 unfoldable pub atan : Float → Float
 atan x =
-    let v = atan-value (halved (halved (atan-start x))) in
+    let v = atan-value (half-angle (half-angle (atan-start x))) in
     copysign (cond (lt one-float (abs x)) (P ⊘ two-float ⊖ v) v) x
 
 -- atan2(y, x): NaN if either is; x > 0, atan(y/x); x < 0, that plus P if y ≥ 0, else minus P; x = 0, P/2, −P/2 or +0.0 as y is above, below or equal to 0

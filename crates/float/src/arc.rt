@@ -10,8 +10,8 @@ use crate::sqrt::sqrt;
 use crate::trig::P;
 
 // a / (1 + sqrt(1 + a * a)): the tangent of half the angle.
-fn halved(a: f64) -> f64
-    ensures { λ r. ⌜ r ≡ Trig.halved a ⌝ }
+fn half_angle(a: f64) -> f64
+    ensures { λ r. ⌜ r ≡ Trig.half-angle a ⌝ }
 {
     a / (1.0 + sqrt(1.0 + a * a))
 }
@@ -57,7 +57,7 @@ fn reduced(x: f64) -> f64
 
 // The arctangent of x from that of the reduced x.
 fn restored(x: f64, v: f64) -> f64
-    requires { ⌜ v ≡ Trig.atan-value (Trig.halved (Trig.halved (Trig.atan-start x))) ⌝ }
+    requires { ⌜ v ≡ Trig.atan-value (Trig.half-angle (Trig.half-angle (Trig.atan-start x))) ⌝ }
     ensures { λ r. ⌜ r ≡ Trig.atan x ⌝ }
 {
     if abs(x) > 1.0 {
@@ -69,7 +69,7 @@ fn restored(x: f64, v: f64) -> f64
 pub fn atan(x: f64) -> f64
     ensures { λ r. ⌜ r ≡ Trig.atan x ⌝ }
 {
-    restored(x, atan_value(halved(halved(reduced(x)))))
+    restored(x, atan_value(half_angle(half_angle(reduced(x)))))
 }
 
 // The angle of the point (x, y).
@@ -128,14 +128,14 @@ pub struct Four {
     pub d: f64,
 }
 
-fn halved_four(p: Four) -> Four
-    ensures { λ r. ⌜ r ≡ Of.each Trig.halved p ⌝ }
+fn half_angle_four(p: Four) -> Four
+    ensures { λ r. ⌜ r ≡ Of.each Trig.half-angle p ⌝ }
 {
     Four {
-        a: halved(p.a),
-        b: halved(p.b),
-        c: halved(p.c),
-        d: halved(p.d),
+        a: half_angle(p.a),
+        b: half_angle(p.b),
+        c: half_angle(p.c),
+        d: half_angle(p.d),
     }
 }
 
@@ -153,7 +153,7 @@ fn reduced_four(x: Four) -> Four
 fn atan_four(x: Four) -> Four
     ensures { λ r. ⌜ r ≡ Of.each Trig.atan x ⌝ }
 {
-    let h = halved_four(halved_four(reduced_four(x)));
+    let h = half_angle_four(half_angle_four(reduced_four(x)));
     Four {
         a: restored(x.a, atan_value(h.a)),
         b: restored(x.b, atan_value(h.b)),

@@ -159,7 +159,7 @@ fn write(q: u64, k: u64) -> f64
 
 // The root of m * 2^52 * 4^k, rounded. Mostly it is the guess g, which is returned as soon as it is
 // there, while the tests that it is right are still under way.
-fn settle(g: f64, m: u64, k: u64) -> f64
+fn nearest_root(g: f64, m: u64, k: u64) -> f64
     requires { ⌜ (2 ^ 52 ≤ m) × (m < 2 ^ 54) × (k ≤ 2045) ⌝ }
     ensures { λ r. ⌜ r ≡ Sqrt.rootOf binary64 (m * 2 ^ 52 * 2 ^ k * 2 ^ k) ⌝ }
 {
@@ -203,5 +203,5 @@ pub fn sqrt(x: f64) -> f64
     let m = p.q << i;
     let t = p.k + 52 - i;
     let n = if t % 2 == 0 { m } else { m * 2 };
-    settle(estimate(x), n, t / 2 + 485)
+    nearest_root(estimate(x), n, t / 2 + 485)
 }

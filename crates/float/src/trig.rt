@@ -62,8 +62,8 @@ fn quadrant(k: i64) -> u64
 }
 
 // Sine and cosine from those of the reduced argument, by the quadrant.
-fn turned(q: u64, s: f64, w: f64) -> SinCos
-    ensures { λ r. ⌜ r ≡ Trig.turned q s w ⌝ }
+fn by_quadrant(q: u64, s: f64, w: f64) -> SinCos
+    ensures { λ r. ⌜ r ≡ Trig.by-quadrant q s w ⌝ }
 {
     match q {
         0 => SinCos { sine: s, cosine: w },
@@ -90,7 +90,7 @@ pub fn sin_cos(x: f64) -> SinCos
         let k = floor(x * I + 0.5);
         let f = std::num::nearest_i64_to_f64(k);
         let r = (x - f * H) - f * L;
-        return turned(quadrant(k), sine(r), cosine(r));
+        return by_quadrant(quadrant(k), sine(r), cosine(r));
     }
     SinCos {
         sine: 0.0 / 0.0,

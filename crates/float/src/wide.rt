@@ -10,7 +10,7 @@ pub struct Wide {
     pub lo: u64,
 }
 
-// u * v. Each number is cut into halves of 32 bits, and the four products of two halves are added
+// u * v. Each number is cut into parts of 32 bits, and the four products of two parts are added
 // column by column.
 pub fn product(u: u64, v: u64) -> Wide
     ensures { λ r. ⌜ r .hi * 2 ^ 64 + r .lo ≡ u * v ⌝ }

@@ -21,9 +21,9 @@ module _ {A : Type 0} (f : A → A) where
   one-more zero (x ∷ l) d h = refl
   one-more (suc i) (x ∷ l) d h = let k : i < length l = omega arith in ap (λ (m : List A). f x ∷ m) (one-more i l d k)
 
-  -- a turn of a loop that steps one element
-  pub turn : (i : ℕ) (l hs : List A) (v d : A) → hs ≡ stepped i l → v ≡ f (getD hs i d) → i < length l → set hs i v ≡ stepped (i + 1) l
-  turn i l hs v d e w h = rw (w, e, next i l d, add-one) (one-more i l d h)
+  -- a step of a loop that steps one element
+  pub one-step : (i : ℕ) (l hs : List A) (v d : A) → hs ≡ stepped i l → v ≡ f (getD hs i d) → i < length l → set hs i v ≡ stepped (i + 1) l
+  one-step i l hs v d e w h = rw (w, e, next i l d, add-one) (one-more i l d h)
 
   pub all : (i : ℕ) (l : List A) → length l ≤ i → stepped i l ≡ map f l
   all zero [] h = refl

@@ -1,1 +1,1 @@
-mod Few
+mod Largest

@@ -35,11 +35,11 @@ line-stores out at k w h e =
     rw p (joined v (10 ∷ []) out at (at + 16) (rw z))
 
 -- ---- lines
--- a turn stores the first line of those that are left
-pub lines-turn : (out s : List ℕ) (at i n w : ℕ) → i < n → w ≡ item s i
+-- a step stores the first line of those that are left
+pub lines-step : (out s : List ℕ) (at i n w : ℕ) → i < n → w ≡ item s i
     → sets (sets out (at + 17 * i) (line w)) (at + 17 * (i + 1)) (lines s (i + 1) (n - (i + 1))) ≡ sets out (at + 17 * i) (lines s i (n - i))
 unfolding lines
-lines-turn out s at i n w h e =
+lines-step out s at i n w h e =
     let f : n - i ≡ suc (n - (i + 1)) = omega arith in
     let g : i + 1 ≡ suc i = omega arith in
     let p : at + 17 * (i + 1) ≡ at + 17 * i + length (line (item s i)) = rw (length-line (item s i)) (omega arith) in

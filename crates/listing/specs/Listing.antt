@@ -6,7 +6,7 @@ use lib.Dec.{leb, ltb}
 use lib.ListN.{length, drop}
 use Rattle.text.specs.Hex.{spelled}
 use Rattle.text.specs.Decimal.{numbered}
-use Rattle.sheet.specs.Bytes.{le, part}
+use Rattle.sheet.specs.Bytes.{little-endian, part}
 use Rattle.sheet.specs.Refusals.{Answer, accepted, refused}
 use Rattle.sheet.specs.Sampling.{sheet}
 use Rattle.sheet.specs.Sampling as Sampling
@@ -42,7 +42,7 @@ count (refused k) = 0
 
 -- item i of a sheet: the number whose eight bytes stand at 8i
 abbrev pub item : List ℕ → ℕ → ℕ
-item s i = le (part (8 * i) 8 s)
+item s i = little-endian (part (8 * i) 8 s)
 
 -- lines of n items from item i on: 16 capital hexadecimal digits, the bits from the highest down
 unfoldable pub lines : List ℕ → ℕ → ℕ → List ℕ

@@ -78,7 +78,8 @@ module _ (w : List Float) (n : ℕ) (v : Float) (at : ℕ) (le : n ≤ length w)
   split : grown w n v ≡ take at w ++ put v (drop at (take n w))
   split =
       let l = len in
-      put-past v at (take n w) (omega (arith, f .within)) (λ k h. let h′ : k < n = omega (arith, f .within) in ap (passed v) (getD-take n w k nan h′) ∙ f .before k h)
+      put-past v at (take n w) (omega (arith, f .within)) (λ k h. let h′ : k < n = omega (arith, f .within) in
+      ap (passed v) (getD-take n w k nan h′) ∙ f .before k h)
       ∙ ap (λ (r : List Float). r ++ put v (drop at (take n w))) (take-take at n w (f .within))
 
   next : at < n → drop at (take n w) ≡ y ∷ drop (suc at) (take n w)
@@ -100,7 +101,8 @@ module _ (w : List Float) (n : ℕ) (v : Float) (at : ℕ) (le : n ≤ length w)
   kept h e t =
       let l = len in
       let G : grown w n v ≡ take n w =
-      split ∙ ap (λ (r : List Float). take at w ++ put v r) (next h) ∙ ap (λ (r : List Float). take at w ++ r) (put-keep v y (drop (suc at) (take n w)) e t ∙ sym (next h))
+      split ∙ ap (λ (r : List Float). take at w ++ put v r) (next h)
+      ∙ ap (λ (r : List Float). take at w ++ r) (put-keep v y (drop (suc at) (take n w)) e t ∙ sym (next h))
       ∙ ap (λ (r : List Float). r ++ drop at (take n w)) (sym (take-take at n w (f .within)))
       ∙ take-append-drop at (take n w) in
       let r = fits w n v (take n w) n G l le in

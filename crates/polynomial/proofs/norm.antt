@@ -1,2 +1,2 @@
 mod Charted
-mod Halves
+mod Sides

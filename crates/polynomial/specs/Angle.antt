@@ -6,9 +6,9 @@ use Rattle.float.specs.Number.{_⊕_, _⊖_, rem-euclid}
 use Rattle.float.specs.Trig.{P}
 
 -- 2P
-abbrev pub turn : Float
-turn = fin false 884279719003555 (negsuc 46)
+abbrev pub two-pi : Float
+two-pi = fin false 884279719003555 (negsuc 46)
 
 -- (angle + P).rem_euclid(2P) - P
 unfoldable pub wrapped-angle : Float → Float
-wrapped-angle angle = rem-euclid (angle ⊕ P) turn ⊖ P
+wrapped-angle angle = rem-euclid (angle ⊕ P) two-pi ⊖ P

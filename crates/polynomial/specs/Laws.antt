@@ -1,18 +1,22 @@
 -- Laws of the root finder's definitions, for upper crates to cite.
--- Lists: `Cuts` (insertion is adding one more element; the order of arrival does not matter), `Placed` and `Held` (such lists in lent slices), `Lists` (what holds of every element; loops that fill and move).
--- Roots: `Halving` (a bisection ends inside its interval; more turns change nothing), `Degree` (any count as large as the number of coefficients gives the same roots),
--- `Enclosed` (roots and partition points lie between the bounds and increase strictly; how many there are), `Bounds` (bounds that hold can be halved).
+-- Lists: `Cuts` (insertion is adding one more element; the order of arrival does not matter), `Placed` and `Held`
+-- (such lists in lent slices), `Lists` (what holds of every element; loops that fill and move).
+-- Roots: `Bisection` (a bisection ends inside its interval; more steps change nothing), `Degree`
+-- (any count as large as the number of coefficients gives the same roots),
+-- `Enclosed` (roots and partition points lie between the bounds and increase strictly; how many there are), `Bounds` (bounds that hold can be bisected).
 -- The operation: `Operation` (an inner call holds where Roots answers a count; what the list is like; what numbers answers have).
 -- Angles: `Wrapped` (a wrapped angle lies within P).
--- Signs: `Plain` (a plain value that is far from zero has the sign of the compensated one, which is not near zero), from `PlainSteps` (sums and the parts of a result), `PlainProducts`,
--- `PlainStep` (one step of Horner arithmetic), `PlainSize` (a coefficient in units), `PlainScale` (the sum of magnitudes), `PlainMagnitudes` (the sum with the residuals, and the bound of `near-zero`).
+-- Signs: `Plain` (a plain value that is far from zero has the sign of the compensated one, which is not
+-- near zero), from `PlainSteps` (sums and the parts of a result), `PlainProducts`,
+-- `PlainStep` (one step of Horner arithmetic), `PlainSize` (a coefficient in units), `PlainScale` (the sum of
+-- magnitudes), `PlainMagnitudes` (the sum with the residuals, and the bound of `near-zero`).
 -- Arrays: `Nine` (a polynomial in nine places: its coefficients read back).
 -- Curves: `Inner` (what an inner call of the root finder says, by its answer), `Norm` (how many roots a squared norm has).
 pub mod Cuts
 pub mod Held
 pub mod Lists
 pub mod Nine
-pub mod Halving
+pub mod Bisection
 pub mod Degree
 pub mod Enclosed
 pub mod Wrapped

@@ -1,5 +1,7 @@
--- Polynomials and the root finder: document 01's module 3. What a reader must believe are the definitions beside this file, each with its sentence of 01 or its function of the Rust:
--- `Compensated`, `Cuts` (sorted lists without duplicates), `Polynomial` (sums, products, evaluation), `Roots` (the root finder), `Operation` (Roots with its refusals), `Angle`, `Curve`.
+-- Polynomials and the root finder: document 01's module 3. What a reader must believe are the
+-- definitions beside this file, each with its sentence of 01 or its function of the Rust:
+-- `Compensated`, `Cuts` (sorted lists without duplicates), `Polynomial` (sums, products, evaluation),
+-- `Roots` (the root finder), `Operation` (Roots with its refusals), `Angle`, `Curve`.
 -- `Promises`: what inner functions promise one another.
 -- `Laws`: theorems that upper crates cite.
 pub mod Compensated

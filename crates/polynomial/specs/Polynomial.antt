@@ -10,12 +10,12 @@ use Rattle.float.specs.Number.{_⊕_, _⊗_, abs, zero-float, one-float}
 use Rattle.polynomial.specs.Compensated.{from, plus, times, value, is-zero}
 use Rattle.polynomial.specs.declared.compensated.Compensated.{Compensated}
 
-abbrev pub nothing : Compensated
-nothing = from zero-float
+abbrev pub zero-pair : Compensated
+zero-pair = from zero-float
 
 -- the coefficients in the first of nine places, and zeros behind them
 unfoldable pub nine : List Compensated → List Compensated
-nine l = l ++ replicate (9 - length l) nothing
+nine l = l ++ replicate (9 - length l) zero-pair
 
 -- a + scale * b. Each coefficient of the result starts at zero; the coefficients of a are added, then those of b times the scale
 abbrev pub scaled-on : Compensated → Compensated → Float → Compensated
@@ -23,14 +23,14 @@ scaled-on r b scale = plus r (times b (from scale))
 
 unfoldable pub add : List Compensated → List Compensated → Float → List Compensated
 add [] [] scale = []
-add [] (b ∷ bs) scale = scaled-on nothing b scale ∷ add [] bs scale
-add (a ∷ cs) [] scale = plus nothing a ∷ add cs [] scale
-add (a ∷ cs) (b ∷ bs) scale = scaled-on (plus nothing a) b scale ∷ add cs bs scale
+add [] (b ∷ bs) scale = scaled-on zero-pair b scale ∷ add [] bs scale
+add (a ∷ cs) [] scale = plus zero-pair a ∷ add cs [] scale
+add (a ∷ cs) (b ∷ bs) scale = scaled-on (plus zero-pair a) b scale ∷ add cs bs scale
 
--- a_i * b_(k - i) for `count` places i in turn, added to r
+-- a_i * b_(k - i) for `count` places i, one after the other, added to r
 unfoldable pub column : List Compensated → List Compensated → ℕ → ℕ → ℕ → Compensated → Compensated
 column a b k i zero r = r
-column a b k i (suc count) r = column a b k (suc i) count (plus r (times (getD a i nothing) (getD b (k - i) nothing)))
+column a b k i (suc count) r = column a b k (suc i) count (plus r (times (getD a i zero-pair) (getD b (k - i) zero-pair)))
 
 -- the coefficient k of a * b: from zero, the sum over each place i of a that has a partner k - i in b
 abbrev pub first-place : ℕ → ℕ → ℕ
@@ -40,7 +40,7 @@ abbrev pub places : ℕ → ℕ → ℕ → ℕ
 places n m k = min (k + 1) n - first-place m k
 
 abbrev pub coefficient : List Compensated → List Compensated → ℕ → Compensated
-coefficient a b k = column a b k (first-place (length b) k) (places (length a) (length b) k) nothing
+coefficient a b k = column a b k (first-place (length b) k) (places (length a) (length b) k) zero-pair
 
 -- `count` coefficients of a * b, from k on
 unfoldable pub coefficients : List Compensated → List Compensated → ℕ → ℕ → List Compensated
@@ -56,7 +56,7 @@ determinant a b c d = add (multiply a b) (multiply c d) (neg one-float)
 
 -- compensated Horner arithmetic from the highest coefficient down, then rounded
 unfoldable pub horner : List Compensated → Float → Compensated
-horner [] x = nothing
+horner [] x = zero-pair
 horner (c ∷ cs) x = plus (times (horner cs x) (from x)) c
 
 unfoldable pub evaluate : List Compensated → Float → Float
@@ -81,7 +81,8 @@ value-near p x v = le (abs v) (roundoff ⊗ magnitudes p x)
 unfoldable pub near-zero : List Compensated → Float → Bool
 near-zero p x = value-near p x (evaluate p x)
 
--- The coefficients up to the last that is not zero. Only exact zeros go: a leading coefficient that is merely small can still shape the curve enough to be told from none.
+-- The coefficients up to the last that is not zero. Only exact zeros go: a leading coefficient
+-- that is merely small can still shape the curve enough to be told from none.
 unfoldable pub kept : Compensated → List Compensated → List Compensated
 kept c [] = cond (is-zero c) [] (c ∷ [])
 kept c (d ∷ ds) = c ∷ d ∷ ds

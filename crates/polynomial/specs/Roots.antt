@@ -7,37 +7,39 @@ use lib.Ieee.{Float, eq, le, neg}
 use Rattle.float.specs.Number.{_⊘_, negative, middle, zero-float}
 use Rattle.polynomial.specs.Compensated.{value}
 use Rattle.polynomial.specs.Cuts.{cuts}
-use Rattle.polynomial.specs.Polynomial.{nothing, evaluate, near-zero, trim, all-finite, derivative}
+use Rattle.polynomial.specs.Polynomial.{zero-pair, evaluate, near-zero, trim, all-finite, derivative}
 use Rattle.polynomial.specs.declared.compensated.Compensated.{Compensated}
 
--- ---- halving an interval until no float lies strictly inside
+-- ---- bisecting an interval until no float lies strictly inside
 
 -- the middle is one of the ends
 abbrev pub ends : Float → Float → Bool
 ends lo hi = eq (middle lo hi) lo || eq (middle lo hi) hi
 
--- What a turn gives: the middle m where no float is inside (`stop`) or the value there is zero (`hit`), else the result in the upper half
+-- What a step gives: the middle m where no float is inside (`stop`) or the value there is zero (`hit`), else the result in the upper half
 -- where the sign at m is that at lo (`same`), or in the lower. The halves' results wait, so that only the one asked for is worked out.
-abbrev pub turn : Bool → Bool → Bool → Float → (Unit {0} → Float) → (Unit {0} → Float) → Float
-turn true hit same m above below = m
-turn false true same m above below = middle m m
-turn false false true m above below = above tt
-turn false false false m above below = below tt
+abbrev pub one-step : Bool → Bool → Bool → Float → (Unit {0} → Float) → (Unit {0} → Float) → Float
+one-step true hit same m above below = m
+one-step false true same m above below = middle m m
+one-step false false true m above below = above tt
+one-step false false false m above below = below tt
 
--- The middle of the last interval. f is what is halved, p whether its sign at lo is positive. The number counts the turns that are left.
-unfoldable pub halvings : (Float → Float) → Bool → ℕ → Float → Float → Float
-halvings f p zero lo hi = middle lo hi
-halvings f p (suc n) lo hi =
+-- The middle of the last interval. f is what is bisected, p whether its sign at lo is positive. The number counts the steps that are left.
+unfoldable pub bisect-steps : (Float → Float) → Bool → ℕ → Float → Float → Float
+bisect-steps f p zero lo hi = middle lo hi
+bisect-steps f p (suc n) lo hi =
     let m = middle lo hi in
-    turn (ends lo hi) (eq (f m) zero-float) (Bool·beq (not (negative (f m))) p) m (λ _. halvings f p n m hi) (λ _. halvings f p n lo m)
+    one-step (ends lo hi) (eq (f m) zero-float) (Bool·beq (not (negative (f m))) p) m (λ _. bisect-steps f p n m hi) (λ _. bisect-steps f p n lo m)
 
--- Between two floats within ±4 there are fewer than 2 ^ 1078 of the smallest values, and each turn takes off one at least: more turns change nothing (`Halving` of Laws).
+-- Between two floats within ±4 there are fewer than 2 ^ 1078 of the smallest values, and each step
+-- takes off one at least: more steps change nothing (`Bisection` of Laws).
 unfoldable pub bisected : (Float → Float) → Bool → Float → Float → Float
-bisected f p lo hi = halvings f p (2 ^ 1078) lo hi
+bisected f p lo hi = bisect-steps f p (2 ^ 1078) lo hi
 
 -- ---- partition points
 
--- The bounds and what lies between, sorted, each once. Between two neighbours the polynomial rises or falls throughout, so that a change of sign there is one simple root.
+-- The bounds and what lies between, sorted, each once. Between two neighbours the polynomial rises
+-- or falls throughout, so that a change of sign there is one simple root.
 abbrev pub partitions : Float → Float → List Float → List Float
 partitions lower upper inner = cuts (lower ∷ (inner ++ (upper ∷ [])))
 
@@ -58,7 +60,8 @@ crossing false z l = l
 unfoldable pub crossings : List Compensated → List Float → List Float
 crossings p [] = []
 crossings p (a ∷ []) = []
-crossings p (a ∷ (b ∷ r)) = crossing (crosses (evaluate p a) (evaluate p b)) (λ _. bisected (evaluate p) (not (negative (evaluate p a))) a b) (crossings p (b ∷ r))
+crossings p (a ∷ (b ∷ r)) = crossing (crosses (evaluate p a) (evaluate p b)) (λ _. bisected (evaluate p) (not (negative (evaluate p a))) a b)
+    (crossings p (b ∷ r))
 
 -- ---- roots
 
@@ -73,13 +76,14 @@ quotient a b lower upper =
 unfoldable pub by-count : ℕ → List Compensated → Float → Float → (Unit {0} → List Float) → List Float
 by-count zero p lower upper inner = []
 by-count (suc zero) p lower upper inner = []
-by-count (suc (suc zero)) p lower upper inner = quotient (getD p 0 nothing) (getD p 1 nothing) lower upper
+by-count (suc (suc zero)) p lower upper inner = quotient (getD p 0 zero-pair) (getD p 1 zero-pair) lower upper
 by-count (suc (suc (suc n))) p lower upper inner = let points = partitions lower upper (inner tt) in cuts (touches p points ++ crossings p points)
 
 -- leading zeros are removed; a part that is not finite leaves no root. The number counts the degrees that are left
 unfoldable pub roots-at : ℕ → List Compensated → Float → Float → List Float
 roots-at zero p lower upper = []
-roots-at (suc k) p lower upper = by-count (cond (all-finite (trim p)) (length (trim p)) 0) (trim p) lower upper (λ _. roots-at k (derivative (trim p)) lower upper)
+roots-at (suc k) p lower upper = by-count (cond (all-finite (trim p)) (length (trim p)) 0) (trim p) lower upper
+    (λ _. roots-at k (derivative (trim p)) lower upper)
 
 -- Any count as large as the number of coefficients gives the same (`Degree` of Laws).
 unfoldable pub roots : List Compensated → Float → Float → List Float

@@ -2,10 +2,10 @@
 // what.
 pub mod angle;
 pub mod arithmetic;
+pub mod bisection;
 pub mod compensated;
 pub mod curve;
 pub mod cuts;
-pub mod halving;
 pub mod inner;
 pub mod norm;
 pub mod operation;

@@ -4,7 +4,7 @@ ghost use mathlib.Core.Path.{_≡_};
 ghost use mathlib.Core.Bool.{true};
 ghost use Prim.Native.Nat.{_≤_};
 ghost use lib.ListN.{take};
-ghost use Rattle.polynomial.specs.Promises.Plain.{both, Tidy, AllTidy, Tells, told};
+ghost use Rattle.polynomial.specs.Promises.Plain.{both, Tidy, AllTidy, Tells, sign-if-sure};
 use crate::compensated::Compensated;
 use float::number::abs;
 
@@ -48,7 +48,7 @@ pub(crate) fn all_tidy(p: [Compensated; 9], n: usize) -> bool
 // The sign, 1.0 or -1.0, of the plain value v at a point of this size, and 0.0 where v may have another
 // sign than the compensated value.
 fn sign_of(size: f64, v: f64, scale: f64) -> f64
-    ensures { λ r. ⌜ r ≡ told size v scale ⌝ }
+    ensures { λ r. ⌜ r ≡ sign-if-sure size v scale ⌝ }
 {
     if size <= 1.0 {
         if scale >= LEAST {

@@ -11,7 +11,7 @@ use lib.Ieee.{Float, nan, neg}
 use Rattle.float.specs.Number.{_⊕_, _⊗_, one-float, two-float}
 use Rattle.float.specs.Trig.{atan}
 use Rattle.polynomial.specs.Curve.{numerator, harmonic-a, harmonic-b, harmonic-c}
-use Rattle.polynomial.specs.Polynomial.{nothing, nine, add, multiply, determinant}
+use Rattle.polynomial.specs.Polynomial.{zero-pair, nine, add, multiply, determinant}
 use Rattle.polynomial.specs.Laws.Nine.{add-front, multiply-front, determinant-front, numerator-front}
 use Rattle.polynomial.specs.declared.compensated.Compensated.{Compensated}
 use Rattle.polynomial.specs.declared.curve.Curve.{Curve}
@@ -44,7 +44,7 @@ three A B f l e = let h = length-map l f in omega arith
 
 nine-long : (l : List Compensated) → 9 ≤ length (nine l)
 unfolding nine
-nine-long l = omega (arith, length-append l (replicate (9 - length l) nothing), length-replicate (9 - length l) nothing)
+nine-long l = omega (arith, length-append l (replicate (9 - length l) zero-pair), length-replicate (9 - length l) zero-pair)
 
 squares-front : (s p q r : List Compensated) (n : ℕ) → n ≤ 5 → n ≤ length p → n ≤ length q → n ≤ length r → s ≡ nine (squares (take n p) (take n q) (take n r))
     → take (n + n - 1) s ≡ squares (take n p) (take n q) (take n r)
@@ -148,12 +148,14 @@ module _ (c : Chart) (l : List Curve) (i n : ℕ) (d : Curve) (h : i < n) (b : n
 
   pub critical-next :
       critical c (slice i n l)
-      ≡ (chart-roots c (tangency (polynomials (getD l i d) (c .origin))) ++ meetings c (polynomials (getD l i d) (c .origin)) (slice (i + 1) n l)) ++ critical c (slice (i + 1) n l)
+      ≡ (chart-roots c (tangency (polynomials (getD l i d) (c .origin))) ++ meetings c (polynomials (getD l i d) (c .origin))
+      (slice (i + 1) n l)) ++ critical c (slice (i + 1) n l)
   critical-next = rw (add-one, slice-cons i n l d h b) (critical-cons c (getD l i d) (slice (suc i) n l))
 
   pub critical-holds-next :
       critical-holds c (slice i n l)
-      ≡ ((chart-holds c (tangency (polynomials (getD l i d) (c .origin))) && meetings-hold c (polynomials (getD l i d) (c .origin)) (slice (i + 1) n l)) && critical-holds c (slice (i + 1) n l))
+      ≡ ((chart-holds c (tangency (polynomials (getD l i d) (c .origin))) && meetings-hold c (polynomials (getD l i d) (c .origin))
+      (slice (i + 1) n l)) && critical-holds c (slice (i + 1) n l))
   critical-holds-next = rw (add-one, slice-cons i n l d h b) (critical-holds-cons c (getD l i d) (slice (suc i) n l))
 
 -- one more part of what has to hold

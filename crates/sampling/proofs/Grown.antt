@@ -20,7 +20,8 @@ pub none : {a : List Float} {s : Put} → Grown [] a s a s
 none {a} {s} = record { fit = tt; same = refl; kept = λ before w f k. subst (λ (z : List Float). Kept z w a s) (sym (append-nil before)) k }
 
 -- one value, put in as polynomial's `insert` does it, or left out where there was no place before
-pub one : (a b : List Float) (s t : Put) (v : Float) → T (fits binary64 v) → length b ≡ length a → t ≡ pushAnswer a s v → b ≡ pushRoom a s v → Grown (v ∷ []) a s b t
+pub one : (a b : List Float) (s t : Put) (v : Float) → T (fits binary64 v) → length b ≡ length a → t ≡ pushAnswer a s v → b ≡ pushRoom a s v
+    → Grown (v ∷ []) a s b t
 one a b s t v g e p q =
     record {
       fit = (g, tt);
@@ -82,16 +83,20 @@ answer-within false k places m e q = let z : _≡_ {A = ℕ} 0 1 = cc in absurd 
 pub one-beyond : (a : List Float) (n : ℕ) (v : Float) → T (fits binary64 v) → length a < n → Grown (v ∷ []) a (counted n a) a (counted n a)
 one-beyond a n v g h = subst (λ (s : Put). Grown (v ∷ []) a s a s) (sym (counted-beyond n a h)) (one a a Full Full v g refl refl refl)
 
-pub one-put : (a b : List Float) (n m : ℕ) (v : Float) → T (fits binary64 v) → n ≤ length a → length b ≡ length a → Count m ≡ putAnswer a n v → b ≡ putRoom a n v
+pub one-put : (a b : List Float) (n m : ℕ) (v : Float) → T (fits binary64 v) → n ≤ length a → length b ≡ length a → Count m ≡ putAnswer a n v
+    → b ≡ putRoom a n v
     → Grown (v ∷ []) a (counted n a) b (counted m b)
 one-put a b n m v g h e p q =
     let i = answer-within (leb (length (grown a n v)) (length a)) (length (grown a n v)) (length a) m refl p in
-    subst₂ (λ (s t : Put). Grown (v ∷ []) a s b t) (sym (counted-within n a h)) (sym (counted-within m b (omega (arith, i, e)))) (one a b (Count n) (Count m) v g e p q)
+    subst₂ (λ (s t : Put). Grown (v ∷ []) a s b t) (sym (counted-within n a h)) (sym (counted-within m b (omega (arith, i, e))))
+    (one a b (Count n) (Count m) v g e p q)
 
-pub one-full : (a b : List Float) (n m : ℕ) (v : Float) → T (fits binary64 v) → n ≤ length a → length b ≡ length a → m ≡ length a + 1 → Full ≡ putAnswer a n v → b ≡ putRoom a n v
+pub one-full : (a b : List Float) (n m : ℕ) (v : Float) → T (fits binary64 v) → n ≤ length a → length b ≡ length a → m ≡ length a + 1
+    → Full ≡ putAnswer a n v → b ≡ putRoom a n v
     → Grown (v ∷ []) a (counted n a) b (counted m b)
 one-full a b n m v g h e k p q =
-    subst₂ (λ (s t : Put). Grown (v ∷ []) a s b t) (sym (counted-within n a h)) (sym (counted-beyond m b (omega (arith, k, e)))) (one a b (Count n) Full v g e p q)
+    subst₂ (λ (s t : Put). Grown (v ∷ []) a s b t) (sym (counted-within n a h)) (sym (counted-beyond m b (omega (arith, k, e))))
+    (one a b (Count n) Full v g e p q)
 
 -- a number of cuts that has no place is of no values, so from the number of s all comes as from s
 pub from-number : {l a b : List Float} {t : Put} (s : Put) → Grown l a (counted (number s (length a)) a) b t → Grown l a s b t

@@ -1,2 +1,2 @@
 -- What the proofs of the stream share.
-mod Turn
+mod Steps

@@ -1,12 +1,13 @@
--- A job's angles: kind 1's those of free joint 1, kind 2's those of free joint 2, kind 3's the slices of joint 1 where joints 1 and 2 are free (01, modules 5 and 6). Every field of the job is taken as given. Definitions only.
+-- A job's angles: kind 1's those of free joint 1, kind 2's those of free joint 2, kind 3's the slices of joint 1 where joints
+-- 1 and 2 are free (01, modules 5 and 6). Every field of the job is taken as given. Definitions only.
 use Prim.Native.Nat.{ℕ}
 use mathlib.Core.Bool.{Bool}
 use mathlib.Core.List.{List}
 use lib.Ieee.{Float}
-use Rattle.sampling.specs.J1free as First
-use Rattle.sampling.specs.J2free as Second
-use Rattle.sampling.specs.SampleAngles as One
-use Rattle.sampling.specs.J1j2free as Two
+use Rattle.sampling.specs.J1free as J1free
+use Rattle.sampling.specs.J2free as J2free
+use Rattle.sampling.specs.SampleAngles as SampleAngles
+use Rattle.sampling.specs.J1j2free as J1j2free
 use Rattle.sampling.specs.declared.job.Job.{Job}
 use Rattle.sampling.specs.declared.job.Kind.{Kind}
 use Rattle.sampling.specs.declared.job.Kind.the-variants.{J1free, J2free, J1j2free}
@@ -14,10 +15,10 @@ use Rattle.sampling.specs.declared.sample_angles.Free.{Free}
 
 -- joint 1 free, joint 2 free
 unfoldable pub first-free : Job → Free
-first-free job = One.free (First.arm-axes (job .arm)) job (job .j1)
+first-free job = SampleAngles.free (J1free.arm-axes (job .arm)) job (job .j1)
 
 unfoldable pub second-free : Job → Free
-second-free job = One.free (Second.arm-axes (job .arm)) job (job .j2)
+second-free job = SampleAngles.free (J2free.arm-axes (job .arm)) job (job .j2)
 
 -- what a kind has
 abbrev pub by-kind : {A : Type 0} → Kind → A → A → A → A
@@ -29,22 +30,22 @@ by-kind J1j2free first second both = both
 unfoldable pub angles : Job → List Float
 angles job =
     by-kind (job .kind)
-    (One.sample-angles (first-free job))
-    (One.sample-angles (second-free job))
-    (Two.all-slices (Two.folded job))
+    (SampleAngles.sample-angles (first-free job))
+    (SampleAngles.sample-angles (second-free job))
+    (J1j2free.all-slices (J1j2free.folded job))
 
 -- the number of cuts
 unfoldable pub cut-count : Job → ℕ
 cut-count job =
     by-kind (job .kind)
-    (One.cut-count (first-free job))
-    (One.cut-count (second-free job))
-    (Two.cut-count (Two.folded job))
+    (SampleAngles.cut-count (first-free job))
+    (SampleAngles.cut-count (second-free job))
+    (J1j2free.cut-count (J1j2free.folded job))
 
 -- whether no inner call of the root finder is refused
 unfoldable pub hold : Job → Bool
 hold job =
     by-kind (job .kind)
-    (One.hold (first-free job))
-    (One.hold (second-free job))
-    (Two.hold (Two.folded job))
+    (SampleAngles.hold (first-free job))
+    (SampleAngles.hold (second-free job))
+    (J1j2free.hold (J1j2free.folded job))

@@ -1,5 +1,7 @@
--- The slices of narrow bends: `bend_slices` of j1j2free.rs (01, module 6). Beside the list stands whether no inner call of the root finder on the way is refused; a refused call gives no angle. Definitions only.
--- Near a pole the cosine of joint 5 differs from ±1 by less than the rounding of the matrix, so its curve loses the bend. The slices are found again from sines, across the arm: where joint 5's end meets an end of joint 4, 6 or 2, and where the component across is largest.
+-- The slices of narrow bends: `bend_slices` of j1j2free.rs (01, module 6). Beside the list stands whether no inner
+-- call of the root finder on the way is refused; a refused call gives no angle. Definitions only.
+-- Near a pole the cosine of joint 5 differs from ±1 by less than the rounding of the matrix, so its curve loses the bend. The slices are found again
+-- from sines, across the arm: where joint 5's end meets an end of joint 4, 6 or 2, and where the component across is largest.
 use mathlib.Core.Bool.{Bool, true, _&&_, cond}
 use mathlib.Core.List.{List, [], _∷_, _++_}
 use lib.Ieee.{Float, neg, lt, le}
@@ -20,7 +22,8 @@ use Rattle.sampling.specs.Pose as Pose
 
 -- z is the target's third column, s5 the sine of joint 5 at an end of its limits.
 
--- Where the transverse component has a value: two angles of joint 1, if the column leaves the axis and the value is within its radius. The azimuth is that of the column.
+-- Where the transverse component has a value: two angles of joint 1, if the column leaves the
+-- axis and the value is within its radius. The azimuth is that of the column.
 unfoldable pub transverse : Float → Float → Float → List Float
 transverse radius azimuth component =
     let offset = asin (clamp (component ⊘ radius)) in

@@ -1,4 +1,6 @@
--- The boundary angles of joint 5, and all boundary angles in the order in which the Rust finds them: `bend_roots` and `sample_angles` of continuum.rs (01, module 5). Beside each list stands whether no inner call of the root finder on the way is refused; a refused call gives no angle. Definitions only.
+-- The boundary angles of joint 5, and all boundary angles in the order in which the Rust finds them: `bend_roots`
+-- and `sample_angles` of continuum.rs (01, module 5). Beside each list stands whether no inner call of the root
+-- finder on the way is refused; a refused call gives no angle. Definitions only.
 use mathlib.Core.Bool.{Bool, true, false, _&&_, cond}
 use mathlib.Core.List.{List, [], _∷_, _++_}
 use lib.Ieee.{Float, binary64, round, lt}
@@ -28,7 +30,8 @@ harmonic t = record { constant = t .constant; cosine = t .cosine; sine = t .sine
 unfoldable pub narrow : Float → Bool
 narrow sine = lt zero-float sine && lt sine (round binary64 false 1 10000)
 
--- Where the cosine of joint 5 is that of the angle and, for a narrow sine, where the vector of joint 4, whose length it is, has that length: its square is small, and compensated arithmetic keeps it.
+-- Where the cosine of joint 5 is that of the angle and, for a narrow sine, where the vector of joint 4, whose
+-- length it is, has that length: its square is small, and compensated arithmetic keeps it.
 unfoldable pub bend-roots : Trig → Ray → Float → List Float
 bend-roots cos5 q4 angle =
     let sine = abs (sin-cos angle .sine) in
@@ -63,7 +66,8 @@ bend-marks-hold q4 m = bend-at-holds q4 (m .reference) && cond (m .limited) (ben
 
 -- All of them: the free joint's reference, the poles, joints 4, 5 and 6, the centre of the free joint's limits. Only joint 5 asks the root finder.
 unfoldable pub all-roots : Wrist → Float → Marks → Marks → Sixth → Float → List Float
-all-roots w near m4 m5 m6 center = ((((near ∷ [] ++ poles (w .cos5)) ++ ray-marks (w .q4) m4) ++ bend-marks (w .cos5) (w .q4) m5) ++ sixth-roots w m4 m6) ++ center ∷ []
+all-roots w near m4 m5 m6 center =
+    ((((near ∷ [] ++ poles (w .cos5)) ++ ray-marks (w .q4) m4) ++ bend-marks (w .cos5) (w .q4) m5) ++ sixth-roots w m4 m6) ++ center ∷ []
 
 unfoldable pub all-roots-hold : Wrist → Marks → Bool
 all-roots-hold w m5 = bend-marks-hold (w .q4) m5

@@ -44,7 +44,8 @@ curve a b c =
       c2 = c .sine;
     }
 
--- Joint 2 at an angle: what is allowed enters or leaves joint 2's interval only through its ends. The opposite direction is on the curve too; its cuts do no harm.
+-- Joint 2 at an angle: what is allowed enters or leaves joint 2's interval only through its
+-- ends. The opposite direction is on the curve too; its cuts do no harm.
 unfoldable pub second-curve : Float → Float → Curve
 second-curve q3 angle = curve (level (neg (sin-cos (angle ⊕ q3) .sine))) (level (sin-cos (angle ⊕ q3) .cosine)) (level zero-float)
 
@@ -68,7 +69,8 @@ sixth-curve m angle =
     (plus (times (along (m .y)) (sin-cos angle .cosine)) (times (along (m .x)) (sin-cos angle .sine)))
     (level zero-float)
 
--- At a pole, the sum (sign 1) or the difference (sign −1) of an angle of joint 4 and one of joint 6. Under a vertical target axis a pole lasts along an interval of joint 1; the curves of joints 4 and 6 vanish there and cannot bound it.
+-- At a pole, the sum (sign 1) or the difference (sign −1) of an angle of joint 4 and one of joint 6. Under a vertical target axis
+-- a pole lasts along an interval of joint 1; the curves of joints 4 and 6 vanish there and cannot bound it.
 unfoldable pub corner-curve : Matrix → Float → Float → Float → Curve
 corner-curve m sign q4 q6 =
     let s = sin-cos (q4 ⊕ sign ⊗ q6) .sine in
@@ -116,4 +118,5 @@ corner-curves m (Between a b) (Between c d) = signed-corners m (neg one-float) a
 -- Joint 2's interval, the poles, the limits of joints 4, 5 and 6, and the phases at a pole: 18 at most.
 unfoldable pub boundaries : Matrix → Float → Range → Range → Range → Range → List Curve
 boundaries m q3 range2 range4 range5 range6 =
-    ((((second-curves q3 range2 ++ pole-curves (m .z)) ++ fourth-curves (m .z) range4) ++ fifth-curves (m .z) range5) ++ sixth-curves m range6) ++ corner-curves m range4 range6
+    ((((second-curves q3 range2 ++ pole-curves (m .z)) ++ fourth-curves (m .z) range4) ++ fifth-curves (m .z) range5) ++ sixth-curves m range6) ++
+    corner-curves m range4 range6

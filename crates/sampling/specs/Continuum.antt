@@ -1,5 +1,7 @@
 -- First harmonics of a free model angle, shared by joints 1 and 2: continuum.rs of the Rust up to its boundary lines (01, module 5). Definitions only.
--- With joint 1 or joint 2 free, every entry of the wrist's rotation is a cos(t) + b sin(t) + c, so the angles where a wrist joint meets a limit have a formula. Between two neighbouring ones no wrist angle enters or leaves its range: samples there miss no range, however narrow, where a grid would.
+-- With joint 1 or joint 2 free, every entry of the wrist's rotation is a cos(t) + b sin(t) + c, so the angles
+-- where a wrist joint meets a limit have a formula. Between two neighbouring ones no wrist angle enters or
+-- leaves its range: samples there miss no range, however narrow, where a grid would.
 use mathlib.Core.Bool.{false, not, _||_, cond}
 use mathlib.Core.List.{List, [], _∷_}
 use lib.IntN.{negsuc}
@@ -33,7 +35,8 @@ root-roundoff = fin false 1 (negsuc 45)
 unfoldable pub error : Trig → Float → Float
 error t target = root-roundoff ⊗ (abs (t .cosine) ⊕ abs (t .sine) ⊕ abs (t .constant) ⊕ abs target)
 
--- Where t equals the target: the wrapped angles on both sides of the phase. A t without radius is the same at every angle: it places no boundary, and the others sample its whole interval.
+-- Where t equals the target: the wrapped angles on both sides of the phase. A t without radius is the same
+-- at every angle: it places no boundary, and the others sample its whole interval.
 unfoldable pub crossings : Trig → Float → Crossings
 crossings t target =
     let radius = hypot (t .cosine) (t .sine) in

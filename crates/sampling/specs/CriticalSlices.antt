@@ -1,4 +1,5 @@
--- The cuts of joint 1 at the intersections and the vertical tangencies of curves: `critical_slices` of j1j2free.rs (01, module 6). Beside each list stands whether no inner call of the root finder on the way is refused; a refused call gives no angle. Definitions only.
+-- The cuts of joint 1 at the intersections and the vertical tangencies of curves: `critical_slices` of j1j2free.rs (01, module 6). Beside each
+-- list stands whether no inner call of the root finder on the way is refused; a refused call gives no angle. Definitions only.
 -- Between two neighbouring cuts the curves keep their order, so what joint 2 may do does not change: one value of joint 1 stands for all of them.
 use mathlib.Core.Bool.{Bool, true, _&&_, cond}
 use mathlib.Core.List.{List, [], _∷_, _++_, map, flatMap}
@@ -12,7 +13,8 @@ use Rattle.polynomial.specs.declared.compensated.Compensated.{Compensated}
 use Rattle.polynomial.specs.declared.curve.Curve.{Curve}
 use Rattle.sampling.specs.declared.critical_slices.Chart.{Chart}
 
--- The chart u = tan((q1 - origin) / 2) of a half of joint 1's interval: its origin and its bounds. A half, so that u stays within ±1: over a whole turn the tangent has its pole, and large u spoil the coefficients.
+-- The chart u = tan((q1 - origin) / 2) of a half of joint 1's interval: its origin and its bounds. A half, so that u
+-- stays within ±1: over a whole turn the tangent has its pole, and large u spoil the coefficients.
 unfoldable pub chart : Float → Float → Chart
 chart lower upper =
     let origin = middle lower upper in

@@ -1,10 +1,11 @@
--- Allowed displacements from a reference, bounded to the nearest full turn: `wrist_limit_intervals` of the Rust (01, module 4). A limit interval is either none or a pair of angles. Definitions only.
+-- Allowed displacements from a reference, bounded to the nearest full turn: `wrist_limit_intervals` of the Rust
+-- (01, module 4). A limit interval is either none or a pair of angles. Definitions only.
 use mathlib.Core.Bool.{_&&_, cond}
 use lib.Ieee.{Float, le, neg}
 use lib.Ieee.Scale.{finite}
 use Rattle.float.specs.Number.{_⊕_, _⊖_, _⊗_, minimum, maximum, zero-float}
 use Rattle.float.specs.Trig.{P}
-use Rattle.polynomial.specs.Angle.{turn, wrapped-angle}
+use Rattle.polynomial.specs.Angle.{two-pi, wrapped-angle}
 use Rattle.sampling.specs.declared.constraints.Center.{Center}
 use Rattle.sampling.specs.declared.intervals.Range.{Range}
 use Rattle.sampling.specs.declared.intervals.Range.the-variants.{Nothing, Between}
@@ -28,4 +29,4 @@ interval c shift =
 unfoldable pub wrist-limit-intervals : Center → Float → Float → Intervals
 wrist-limit-intervals c reference sign =
     let s = seen c reference sign in
-    record { first = interval s (neg turn); second = interval s zero-float; third = interval s turn }
+    record { first = interval s (neg two-pi); second = interval s zero-float; third = interval s two-pi }

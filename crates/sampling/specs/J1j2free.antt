@@ -9,7 +9,7 @@ use Rattle.polynomial.specs.Angle.{wrapped-angle}
 use Rattle.polynomial.specs.Cuts.{cuts}
 use Rattle.polynomial.specs.declared.curve.Curve.{Curve}
 use Rattle.sampling.specs.Limits.{limits}
-use Rattle.sampling.specs.Samples.{all-turns}
+use Rattle.sampling.specs.Samples.{all-copies}
 use Rattle.sampling.specs.Boundaries.{wrist-limits, boundaries}
 use Rattle.sampling.specs.BendSlices.{bend-slices, bend-slices-hold}
 use Rattle.sampling.specs.CriticalSlices.{chart, critical, critical-holds}
@@ -54,7 +54,7 @@ critical-slices l lower upper = cuts ((lower ∷ [] ++ upper ∷ []) ++ critical
 
 -- The cuts of one half: with the bends, each also a turn below and a turn above, where it lies in the half. What the curves give stays, in the half or not.
 unfoldable pub half-cuts : Folded → Float → Float → List Float
-half-cuts t lower upper = cuts (critical-slices (curves t) lower upper ++ all-turns lower upper (bends t))
+half-cuts t lower upper = cuts (critical-slices (curves t) lower upper ++ all-copies lower upper (bends t))
 
 -- two halves with a common end
 unfoldable pub first-half : Folded → Float → Float → List Float

@@ -15,7 +15,7 @@ zero-vector = vector zero-float zero-float zero-float
 abbrev pub unit-z : Vector
 unit-z = vector zero-float zero-float one-float
 
--- the first and the third column, by the direction of joint 1 and the turn of joint 3
+-- the first and the third column, by the direction of joint 1 and the angle of joint 3
 unfoldable pub x-axis : Vector → SinCos → TrigVector
 x-axis radial q3 =
     record {

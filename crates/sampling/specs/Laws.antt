@@ -1,17 +1,22 @@
 -- Laws of the definitions, for upper files to cite.
 -- `Intervals` (a limit interval is in order and lies within P), `Limits` (the ends of a joint's interval are in order and lie within a turn),
 -- `Pose` (the parts of a normalized quaternion lie within 2, the entries of its matrix within 17),
--- `Samples` (roots one by one, the sample at each position), `Few` (how many boundary angles, cuts and angles of one free joint at most), `CriticalSlices` (what curves give, curve by curve),
+-- `Samples` (roots one by one, the sample at each position), `AngleCounts` (how many boundary angles, cuts and
+-- angles of one free joint at most), `CriticalSlices` (what curves give, curve by curve),
 -- `Weave` (a list with the middles of its neighbours: its values, its length, its places),
 -- `Slices` (the values at which joint 1 is tried are what the stream has; how many at most; the reference is among them),
--- `Least`, `Heads` and `Step` (a step of the stream gives the first of what is to come), `Woven` (the cuts of values within ±64 can be streamed), `Plan` (where a job's plan is laid, the angles read off work are the job's, and depend on its front alone), `J1j2free` (the cuts of a half as those of one list),
--- `FewCuts` (how many curves, bends and cuts of two free joints at most), `SmallCuts` (the cuts of both halves can be streamed), `Reference` (joint 1's reference as a model angle lies within P),
--- `Angles` (how many angles a job has at most; kind 3 tries the reference), `Reads` (what is not read changes no angle, no number of cuts and no refusal), `Fit` (the format holds every angle), `Nested` (definitions of one sentence, test by test).
+-- `Least`, `Heads` and `Step` (a step of the stream gives the first of what is to come), `Woven` (the cuts of
+-- values within ±64 can be streamed), `Plan` (where a job's plan is laid, the angles read off work are the job's,
+-- and depend on its front alone), `J1j2free` (the cuts of a half as those of one list),
+-- `SliceCounts` (how many curves, bends and cuts of two free joints at most), `SliceBounds` (the cuts of both
+-- halves can be streamed), `Reference` (joint 1's reference as a model angle lies within P),
+-- `Angles` (how many angles a job has at most; kind 3 tries the reference), `Reads` (what is not read changes no angle, no number of
+-- cuts and no refusal), `Fit` (the format holds every angle), `Nested` (definitions of one sentence, test by test).
 pub mod Intervals
 pub mod Limits
 pub mod Pose
 pub mod Samples
-pub mod Few
+pub mod AngleCounts
 pub mod Weave
 pub mod Slices
 pub mod Least
@@ -21,8 +26,8 @@ pub mod Woven
 pub mod Plan
 pub mod J1j2free
 pub mod CriticalSlices
-pub mod FewCuts
-pub mod SmallCuts
+pub mod SliceCounts
+pub mod SliceBounds
 pub mod Reference
 pub mod Angles
 pub mod Reads

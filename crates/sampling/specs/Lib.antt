@@ -1,7 +1,9 @@
 -- From a job's numbers to its angles: document 01's modules 4 to 6. A reader must believe:
 -- of module 4, `Constraints`, `Intervals`, `Pose`, `Limits`;
--- of module 5, `Continuum` (first harmonics and where they meet a target), `J1free`, `J2free`, `Marks`, `Wrist`, `Rays` and `Bends` (the boundary angles of joints 4, 5 and 6, in order), `Samples` (from boundary angles to cuts and samples), `SampleAngles` (the angles of one free joint);
--- of module 6, `Boundaries` (the boundary curves of two free joints), `BendSlices` (the slices of narrow bends), `CriticalSlices` (where curves meet), `Slices` and `J1j2free` (the values at which joint 1 is tried);
+-- of module 5, `Continuum` (first harmonics and where they meet a target), `J1free`, `J2free`, `Marks`, `Wrist`, `Rays` and `Bends` (the boundary
+-- angles of joints 4, 5 and 6, in order), `Samples` (from boundary angles to cuts and samples), `SampleAngles` (the angles of one free joint);
+-- of module 6, `Boundaries` (the boundary curves of two free joints), `BendSlices` (the slices of narrow bends),
+-- `CriticalSlices` (where curves meet), `Slices` and `J1j2free` (the values at which joint 1 is tried);
 -- of both, `Angles` (a job's angles by its kind) and `Reads` (which fields of a job each kind reads).
 -- `Promises`: what functions promise one another, and `plan_of` its callers. `Examples`: 01's examples, computed. `Laws`: theorems that upper crates cite.
 pub mod Constraints

@@ -1,4 +1,5 @@
--- The angles of a wrist joint that bound the free joint's samples: its reference and, with limits, their centre and ends; from `sample_angles` of continuum.rs (01, module 5). Definitions only.
+-- The angles of a wrist joint that bound the free joint's samples: its reference and, with limits, their
+-- centre and ends; from `sample_angles` of continuum.rs (01, module 5). Definitions only.
 use mathlib.Core.Bool.{Bool, true, false, _&&_, cond}
 use lib.Ieee.{Float, le, lt}
 use lib.Ieee.Scale.{finite}
@@ -15,7 +16,8 @@ use Rattle.sampling.specs.declared.marks.Marks.{Marks}
 unfoldable pub model-angle : Float → Float → Float → Float
 model-angle sign offset angle = wrapped-angle (wrapped-angle angle ⊗ sign ⊖ wrapped-angle offset)
 
--- The ends of limits: none where the tolerance leaves no angle out (P or more, infinity included) or admits none (a NaN). They are not wrapped: only their sines and cosines count.
+-- The ends of limits: none where the tolerance leaves no angle out (P or more, infinity included) or
+-- admits none (a NaN). They are not wrapped: only their sines and cosines count.
 unfoldable pub ends : Float → Float → Range
 ends center tolerance =
     cond (finite tolerance && le zero-float tolerance && lt tolerance P) (Between (center ⊖ tolerance) (center ⊕ tolerance)) Nothing

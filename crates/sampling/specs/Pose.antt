@@ -27,7 +27,8 @@ try-normalize q =
     (cond (le (quaternion-length q) zero-float) Zero
     (Unit (over q (quaternion-length q))))
 
--- `DMat3::from_quat`, of the normalized parts, with X = x + x and so on: columns (1 − (yY + zZ), xY + wZ, xZ − wY), (xY − wZ, 1 − (xX + zZ), yZ + wX), (xZ + wY, yZ − wX, 1 − (xX + yY))
+-- `DMat3::from_quat`, of the normalized parts, with X = x + x and so on: columns (1 − (yY + zZ), xY + wZ,
+-- xZ − wY), (xY − wZ, 1 − (xX + zZ), yZ + wX), (xZ + wY, yZ − wX, 1 − (xX + yY))
 unfoldable pub from-quat : Quaternion → Matrix
 from-quat q =
     let X = q .x ⊕ q .x in

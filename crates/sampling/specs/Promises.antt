@@ -1,8 +1,9 @@
--- What inner functions promise one another: `Polar` (crossings in steps), `Pushed`, `Asked` and `Grown` (lists, questions and cuts that grow), `Numerators` and `Meetings` (curves one by one), `Halves` (cuts of both halves in work),
+-- What inner functions promise one another: `Polar` (crossings in steps), `Pushed`, `Deferred` and `Grown` (lists, deferred crossings
+-- and cuts that grow), `Numerators` and `Meetings` (curves one by one), `Halves` (cuts of both halves in work),
 -- `Stream` (slices one at a time), `Plan` (what `plan_of` answers and leaves in work, and the angles read off the cuts there).
 pub mod Polar
 pub mod Pushed
-pub mod Asked
+pub mod Deferred
 pub mod Grown
 pub mod Stream
 pub mod Plan

@@ -10,11 +10,12 @@ use Rattle.sampling.specs.declared.wrist.Ray.{Ray}
 use Rattle.sampling.specs.declared.wrist.Wrist.{Wrist}
 use Rattle.sampling.specs.declared.marks.Marks.{Marks}
 use Rattle.sampling.specs.declared.marks.Sixth.{Sixth}
-use Rattle.sampling.specs.declared.marks.Sixth.the-variants.{Fixed, Turns}
+use Rattle.sampling.specs.declared.marks.Sixth.the-variants.{Fixed, Moves}
 use Rattle.sampling.specs.declared.intervals.Range.{Range}
 use Rattle.sampling.specs.declared.intervals.Range.the-variants.{Nothing, Between}
 
--- The poles: the cosine of joint 5 is 1 or −1. They count with and without limits, since the vectors of joints 4 and 6 vanish there and their lines say nothing.
+-- The poles: the cosine of joint 5 is 1 or −1. They count with and without limits, since the
+-- vectors of joints 4 and 6 vanish there and their lines say nothing.
 unfoldable pub poles : Trig → List Float
 poles cos5 = roots cos5 one-float ++ roots cos5 (neg one-float)
 
@@ -30,7 +31,8 @@ ray-range ray (Between lower upper) = ray-at ray lower ++ ray-at ray upper
 unfoldable pub ray-marks : Ray → Marks → List Float
 ray-marks ray m = ray-at ray (m .reference) ++ cond (m .limited) (ray-at ray (m .center) ++ ray-range ray (m .range)) []
 
--- At a pole only the sum or the difference of joints 4 and 6 is known, so where a pole lasts along an interval these bound it, not the angles of one joint. Whether the angle is finite is not asked.
+-- At a pole only the sum or the difference of joints 4 and 6 is known, so where a pole lasts along an interval
+-- these bound it, not the angles of one joint. Whether the angle is finite is not asked.
 unfoldable pub corner : Ray → Float → Float → Float → List Float
 corner ray sign angle4 angle6 = ray-roots (ray .x) (ray .y) (angle4 ⊕ sign ⊗ angle6)
 
@@ -50,4 +52,4 @@ phases w m4 m6 = phase-roots (w .sum) one-float m4 m6 ++ phase-roots (w .differe
 -- A fixed joint 6 bounds nothing: five axes fix the tool's direction alone, and its roll must not restrict the arm.
 unfoldable pub sixth-roots : Wrist → Marks → Sixth → List Float
 sixth-roots w m4 Fixed = []
-sixth-roots w m4 (Turns m6) = ray-marks (w .q6) m6 ++ phases w m4 m6
+sixth-roots w m4 (Moves m6) = ray-marks (w .q6) m6 ++ phases w m4 m6

@@ -19,7 +19,7 @@ use Rattle.sampling.specs.declared.intervals.Intervals.{Intervals}
 use Rattle.sampling.specs.declared.job.Job.{Job}
 use Rattle.sampling.specs.declared.job.Joint.{Joint}
 use Rattle.sampling.specs.declared.marks.Sixth.{Sixth}
-use Rattle.sampling.specs.declared.marks.Sixth.the-variants.{Fixed, Turns}
+use Rattle.sampling.specs.declared.marks.Sixth.the-variants.{Fixed, Moves}
 use Rattle.sampling.specs.declared.sample_angles.Free.{Free}
 
 -- the centre and the tolerance of the free joint's limits as a model angle; without limits, 0 and P
@@ -31,7 +31,7 @@ free-limits limited j =
 
 -- a fixed sixth joint is not read
 unfoldable pub sixth : Bool → Bool → Joint → Sixth
-sixth fixed limited j = cond fixed Fixed (Turns (marks limited j))
+sixth fixed limited j = cond fixed Fixed (Moves (marks limited j))
 
 -- what counts of a job whose joint j is free, and which has these columns of the arm's rotation
 unfoldable pub free : Axes → Job → Joint → Free

@@ -1,4 +1,5 @@
--- From the boundary angles of one free joint to its samples: the end of `sample_angles` of continuum.rs (01, module 5). Cuts: each interval's list after its dedup. Definitions only.
+-- From the boundary angles of one free joint to its samples: the end of `sample_angles` of continuum.rs
+-- (01, module 5). Cuts: each interval's list after its dedup. Definitions only.
 use mathlib.Core.Bool.{_&&_, cond}
 use mathlib.Core.List.{List, [], _∷_, _++_}
 use Prim.Native.Nat.{ℕ, zero, suc, _*_}
@@ -6,7 +7,7 @@ use lib.Ieee.{Float, neg, le}
 use lib.Ieee.Scale.{finite}
 use Rattle.float.specs.Number.{_⊕_, _⊖_, _⊗_, _⊘_, abs, minimum, maximum, middle, zero-float, one-float}
 use Rattle.float.specs.Trig.{four-float}
-use Rattle.polynomial.specs.Angle.{turn}
+use Rattle.polynomial.specs.Angle.{two-pi}
 use Rattle.polynomial.specs.Cuts.{cuts}
 use Rattle.sampling.specs.Continuum.{root-roundoff}
 use Rattle.sampling.specs.declared.intervals.Range.{Range}
@@ -17,23 +18,24 @@ unfoldable pub inside : Float → Float → Float → List Float
 inside lower upper angle = cond (le lower angle && le angle upper) (angle ∷ []) []
 
 -- An angle, a turn below, as it is and a turn above: roots are wrapped, and an interval around a reference reaches up to half a turn beyond.
-unfoldable pub turns : Float → Float → Float → List Float
-turns lower upper angle =
-    (inside lower upper (angle ⊕ neg one-float ⊗ turn) ++ inside lower upper (angle ⊕ zero-float ⊗ turn)) ++ inside lower upper (angle ⊕ one-float ⊗ turn)
+unfoldable pub copies : Float → Float → Float → List Float
+copies lower upper angle =
+    (inside lower upper (angle ⊕ neg one-float ⊗ two-pi) ++ inside lower upper (angle ⊕ zero-float ⊗ two-pi)) ++ inside lower upper (angle ⊕ one-float ⊗ two-pi)
 
-unfoldable pub all-turns : Float → Float → List Float → List Float
-all-turns lower upper [] = []
-all-turns lower upper (angle ∷ angles) = turns lower upper angle ++ all-turns lower upper angles
+unfoldable pub all-copies : Float → Float → List Float → List Float
+all-copies lower upper [] = []
+all-copies lower upper (angle ∷ angles) = copies lower upper angle ++ all-copies lower upper angles
 
 -- a root that is not finite bounds nothing
 unfoldable pub windings : Float → Float → Float → List Float
-windings lower upper root = cond (finite root) (turns lower upper root) []
+windings lower upper root = cond (finite root) (copies lower upper root) []
 
 unfoldable pub all-windings : Float → Float → List Float → List Float
 all-windings lower upper [] = []
 all-windings lower upper (root ∷ roots) = windings lower upper root ++ all-windings lower upper roots
 
--- The ends of a displacement interval around the reference, and the roots between them. Roots that differ are all kept, however near: a narrow range may lie between them.
+-- The ends of a displacement interval around the reference, and the roots between them. Roots that
+-- differ are all kept, however near: a narrow range may lie between them.
 unfoldable pub interval-values : Float → List Float → Range → List Float
 interval-values near roots Nothing = []
 interval-values near roots (Between lower upper) =

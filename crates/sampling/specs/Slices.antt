@@ -11,7 +11,8 @@ mids [] = []
 mids (x ∷ []) = []
 mids (x ∷ (y ∷ l)) = middle x y ∷ mids (y ∷ l)
 
--- The list after the last `dedup`: the reference, the limits, and of each half its cuts a or b and the middles of their neighbours, sorted and with no value twice.
+-- The list after the last `dedup`: the reference, the limits, and of each half its cuts a or b
+-- and the middles of their neighbours, sorted and with no value twice.
 unfoldable pub slices : Float → Float → Float → List Float → List Float → List Float
 slices reference lower upper a b = cuts (reference ∷ lower ∷ upper ∷ ((a ++ mids a) ++ (b ++ mids b)))
 

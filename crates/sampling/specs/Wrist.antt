@@ -1,4 +1,5 @@
--- The harmonics of the wrist that its boundaries are about: the pairs whose atan2 are joints 4 and 6, the cosine of joint 5, and the pairs of the phases at the poles; from `sample_angles` of continuum.rs (01, module 5). Definitions only.
+-- The harmonics of the wrist that its boundaries are about: the pairs whose atan2 are joints 4 and 6, the cosine of joint 5, and
+-- the pairs of the phases at the poles; from `sample_angles` of continuum.rs (01, module 5). Definitions only.
 use lib.Ieee.{Float, neg}
 use Rattle.float.specs.Number.{one-float}
 use Rattle.sampling.specs.Continuum.{scaled, plus, dot}

@@ -24,7 +24,7 @@ use crate::lists::Halves;
 use crate::lists::Lists;
 use crate::lists::Plan;
 use crate::pose::Matrix;
-use crate::samples::all_turns;
+use crate::samples::all_copies;
 use crate::work::push;
 use float::number::middle;
 use polynomial::angle::wrapped_angle;
@@ -100,7 +100,7 @@ fn half_cuts(
     let at = curves.at;
     let grew = critical(work, ends, c, at, count);
     let cuts = grew.cuts;
-    let all = all_turns(work, cuts, lower, upper, bends, n);
+    let all = all_copies(work, cuts, lower, upper, bends, n);
     Grew {
         cuts: all,
         holds: grew.holds,

@@ -8,7 +8,7 @@ use crate::pose::Vector;
 use float::trig::SinCos;
 use float::trig::sin_cos;
 
-// The first column, by the direction of joint 1 and the turn of joint 3.
+// The first column, by the direction of joint 1 and the angle of joint 3.
 fn x_axis(radial: Vector, third: SinCos) -> TrigVector
     ensures { λ r. ⌜ r ≡ Of.x-axis radial third ⌝ }
 {

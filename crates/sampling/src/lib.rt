@@ -1,12 +1,12 @@
 // From a job's numbers to its angles, document 01's modules 4 to 6. specs/Lib.antt says which files
 // define what.
-pub mod asked;
 pub mod bend_slices;
 pub mod bends;
 pub mod boundaries;
 pub mod constraints;
 pub mod continuum;
 pub mod critical_slices;
+pub mod deferred;
 pub mod intervals;
 pub mod j1free;
 pub mod j1j2free;

@@ -20,15 +20,15 @@ pub struct Marks {
 // Joint 6, which may be fixed.
 pub enum Sixth {
     Fixed,
-    Turns(Marks),
+    Moves(Marks),
 }
 
 // An angle of a joint as a model angle. The offset is wrapped here.
 pub(crate) fn model_angle(sign: f64, offset: f64, angle: f64) -> f64
     ensures { λ r. ⌜ r ≡ Of.model-angle sign offset angle ⌝ }
 {
-    let turned = wrapped_angle(angle) * sign;
-    wrapped_angle(turned - wrapped_angle(offset))
+    let signed = wrapped_angle(angle) * sign;
+    wrapped_angle(signed - wrapped_angle(offset))
 }
 
 // The ends of limits, where there are any.

@@ -119,7 +119,7 @@ fn cut(work: &mut [f64], job: Job) -> Plan
 }
 
 // Nothing stays in work that is not read.
-fn settle(work: &mut [f64], plan: Plan)
+fn clear_unlaid(work: &mut [f64], plan: Plan)
     ensures { λ _. ⌜ now (work .exit) ≡ where-laid plan (now (work .entry)) (zeros (length (now (work .entry)))) ⌝ }
 {
     match plan {
@@ -136,6 +136,6 @@ pub fn plan_of(work: &mut [f64], job: Job) -> Plan
     ensures { λ r. ⌜ now (work .exit) ≡ Of.work-after job (now (work .entry)) ⌝ }
 {
     let plan = cut(work, job);
-    settle(work, plan);
+    clear_unlaid(work, plan);
     plan
 }

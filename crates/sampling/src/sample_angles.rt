@@ -63,7 +63,7 @@ fn sixth_of(fixed: bool, limited: bool, j: Joint) -> Sixth
     if fixed {
         return Sixth::Fixed;
     }
-    Sixth::Turns(marks_of(limited, j))
+    Sixth::Moves(marks_of(limited, j))
 }
 
 // What counts of a job whose joint j is free.

@@ -32,8 +32,8 @@ fn inside(work: &mut [f64], cuts: usize, lower: f64, upper: f64, angle: f64) -> 
 }
 
 // An angle, a turn below, as it is and a turn above.
-fn turns(work: &mut [f64], cuts: usize, lower: f64, upper: f64, angle: f64) -> usize
-    ensures { λ r. ⌜ Grown (Of.turns lower upper angle) (now (work .entry)) (counted cuts (now (work .entry))) (now (work .exit)) (counted r (now (work .exit))) ⌝ }
+fn copies(work: &mut [f64], cuts: usize, lower: f64, upper: f64, angle: f64) -> usize
+    ensures { λ r. ⌜ Grown (Of.copies lower upper angle) (now (work .entry)) (counted cuts (now (work .entry))) (now (work .exit)) (counted r (now (work .exit))) ⌝ }
 {
     let below = inside(work, cuts, lower, upper, angle + -1.0 * TWO_PI);
     let same = inside(work, below, lower, upper, angle + 0.0 * TWO_PI);
@@ -41,7 +41,7 @@ fn turns(work: &mut [f64], cuts: usize, lower: f64, upper: f64, angle: f64) -> u
 }
 
 // Those of the first n angles.
-pub(crate) fn all_turns(
+pub(crate) fn all_copies(
     work: &mut [f64],
     cuts: Put,
     lower: f64,
@@ -50,14 +50,14 @@ pub(crate) fn all_turns(
     n: usize,
 ) -> Put
     requires { ⌜ n ≤ length (now angles) ⌝ }
-    ensures { λ r. ⌜ Grown (Of.all-turns lower upper (take n (now (angles .entry)))) (now (work .entry)) cuts (now (work .exit)) r ⌝ }
+    ensures { λ r. ⌜ Grown (Of.all-copies lower upper (take n (now (angles .entry)))) (now (work .entry)) cuts (now (work .exit)) r ⌝ }
 {
     let mut state = number_of(cuts, work.len());
     let mut i = 0;
     while i < n {
         let angle = angles[i];
         i += 1;
-        state = turns(work, state, lower, upper, angle);
+        state = copies(work, state, lower, upper, angle);
     }
     put_of(state, work.len())
 }
@@ -67,7 +67,7 @@ fn windings(work: &mut [f64], cuts: usize, lower: f64, upper: f64, root: f64) ->
     ensures { λ r. ⌜ Grown (Of.windings lower upper root) (now (work .entry)) (counted cuts (now (work .entry))) (now (work .exit)) (counted r (now (work .exit))) ⌝ }
 {
     if is_finite(root) {
-        return turns(work, cuts, lower, upper, root);
+        return copies(work, cuts, lower, upper, root);
     }
     cuts
 }

@@ -11,20 +11,20 @@ ghost use Rattle.sampling.specs.Promises.Stream as Of;
 use float::number::middle;
 use float::number::total_le;
 
-// Nothing: a NaN, which comes last and equals nothing.
-fn nothing() -> f64
+// None left: a NaN, which comes last and equals no value.
+fn none_left() -> f64
     ensures { λ r. ⌜ r ≡ nan ⌝ }
 {
     0.0 / 0.0
 }
 
-// The k-th of a list's cuts and middles in turn, or nothing.
+// The k-th of a list's cuts and middles alternately, or a NaN.
 fn woven(list: &[f64], k: usize) -> f64
     ensures { λ r. ⌜ r ≡ getD (weave (now (list .entry))) k nan ⌝ }
 {
     let h = k / 2;
     if h >= list.len() {
-        return nothing();
+        return none_left();
     }
     let x = list[h];
     if k % 2 == 0 {
@@ -32,7 +32,7 @@ fn woven(list: &[f64], k: usize) -> f64
     }
     let next = h + 1;
     if next >= list.len() {
-        return nothing();
+        return none_left();
     }
     middle(x, list[next])
 }
@@ -58,7 +58,7 @@ pub(crate) fn start() -> Cursor
         i: 0,
         j: 0,
         used: false,
-        last: nothing(),
+        last: none_left(),
     }
 }
 
@@ -72,7 +72,7 @@ fn advance(a: &[f64], b: &[f64], r: f64, c: Cursor) -> Step
     let mut to = c;
     let x = woven(a, i);
     let y = woven(b, j);
-    let z = if used { nothing() } else { r };
+    let z = if used { none_left() } else { r };
     if total_le(x, y) {
         if total_le(x, z) {
             if x != x {

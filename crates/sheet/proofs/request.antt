@@ -1,3 +1,3 @@
 -- What the proofs of `put_blank` and `unread_zero` use.
 
-mod Turns
+mod Steps

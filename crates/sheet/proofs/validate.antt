@@ -1,3 +1,3 @@
 -- What the proofs of the loops over the tests use.
 
-mod Turns
+mod Steps

@@ -8,9 +8,9 @@ use lib.Ieee.{Float, binary64, ofBits}
 use Rattle.float.specs.Number.{zero-float}
 
 -- the number that bytes stand for
-unfoldable pub le : List ℕ → ℕ
-le [] = 0
-le (b ∷ bs) = b + 256 * le bs
+unfoldable pub little-endian : List ℕ → ℕ
+little-endian [] = 0
+little-endian (b ∷ bs) = b + 256 * little-endian bs
 
 -- the k lowest bytes of a number
 unfoldable pub bytes : ℕ → ℕ → List ℕ
@@ -23,7 +23,7 @@ part at k s = take k (drop at s)
 
 -- the float whose eight bytes start at a position; every NaN pattern is the one NaN
 abbrev pub float-at : List ℕ → ℕ → Float
-float-at s at = ofBits binary64 (le (part at 8 s))
+float-at s at = ofBits binary64 (little-endian (part at 8 s))
 
 -- the bytes of several 64-bit numbers, one after the other
 unfoldable pub words-bytes : List ℕ → List ℕ

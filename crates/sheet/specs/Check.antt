@@ -4,7 +4,7 @@ use mathlib.Core.List.{List}
 use mathlib.Core.Bool.{Bool, true, false, _&&_}
 use lib.ListN.{length, take}
 use lib.Dec.{eqb, leb, ltb}
-use Rattle.sheet.specs.Bytes.{le, part, words-bytes, same-bytes}
+use Rattle.sheet.specs.Bytes.{little-endian, part, words-bytes, same-bytes}
 use Rattle.sheet.specs.Request.{core-size, request-size, blank}
 use Rattle.sheet.specs.Refusals.{Answer, accepted, refused, need, fault-number}
 use Rattle.sheet.specs.Sheet.{trailer, trailer-size, frame-size, items-bound}
@@ -22,10 +22,10 @@ abbrev pub trailer-of : List ℕ → List ℕ
 trailer-of s = part (length s - trailer-size) trailer-size s
 
 abbrev pub count-of : List ℕ → ℕ
-count-of s = le (part (length s - trailer-size) 4 s)
+count-of s = little-endian (part (length s - trailer-size) 4 s)
 
 abbrev pub edition-of : List ℕ → ℕ
-edition-of s = le (part 8 2 (trailer-of s))
+edition-of s = little-endian (part 8 2 (trailer-of s))
 
 abbrev pub request-of : List ℕ → List ℕ
 request-of s = part (length s - frame-size) request-size s

@@ -7,7 +7,7 @@ use lib.Dec.{eqb}
 use lib.IntN.{pos}
 use lib.Ieee.{Float, fin, le, neg}
 use lib.Ieee.Scale.{finite}
-use Rattle.polynomial.specs.Angle.{turn}
+use Rattle.polynomial.specs.Angle.{two-pi}
 use Rattle.sampling.specs.Pose.{try-normalize}
 use Rattle.sampling.specs.declared.pose.Normalized.{Normalized}
 use Rattle.sampling.specs.declared.pose.Normalized.the-variants.{Unit, NotFinite, Zero}
@@ -68,7 +68,7 @@ unfoldable pub passes : Field → Float → Bool
 passes Sign x = true
 passes Arm x = within eight x
 passes Reference x = finite x
-passes Offset x = within turn x
+passes Offset x = within two-pi x
 passes From x = true
 passes To x = true
 

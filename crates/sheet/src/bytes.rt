@@ -35,7 +35,7 @@ pub(crate) fn byte_at(s: &[u8], at: usize) -> u8
 // The number whose four bytes start at `at`.
 pub(crate) fn half(s: &[u8], at: usize) -> u32
     requires { ⌜ at + 4 ≤ length (now s) ⌝ }
-    ensures { λ r. ⌜ r ≡ Bytes.le (Bytes.part at 4 (now (s .entry))) ⌝ }
+    ensures { λ r. ⌜ r ≡ Bytes.little-endian (Bytes.part at 4 (now (s .entry))) ⌝ }
 {
     of_four(s[at], s[at + 1], s[at + 2], s[at + 3])
 }
@@ -43,7 +43,7 @@ pub(crate) fn half(s: &[u8], at: usize) -> u32
 // The number whose eight bytes start at `at`.
 pub fn word(s: &[u8], at: usize) -> u64
     requires { ⌜ at + 8 ≤ length (now s) ⌝ }
-    ensures { λ r. ⌜ r ≡ Bytes.le (Bytes.part at 8 (now (s .entry))) ⌝ }
+    ensures { λ r. ⌜ r ≡ Bytes.little-endian (Bytes.part at 8 (now (s .entry))) ⌝ }
 {
     of_halves(half(s, at), half(s, at + 4))
 }

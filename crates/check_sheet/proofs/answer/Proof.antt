@@ -20,7 +20,8 @@ enum-known-printed c = search needs
 array-share-prefix-text : tie.Need-array-share-prefix-text
 array-share-prefix-text c =
     let t = c .before .before .before .before .check-text in
-    let w = printed-within (check-text (c .before .before .before .before .before .before .before .args .input .now)) _ _ (sym (c .before .printed .given .1) ∙ t .ensures .0) in
+    let c5 = c .before .before .before .before .before in
+    let w = printed-within (check-text (c5 .before .before .args .input .now)) _ _ (sym (c .before .printed .given .1) ∙ t .ensures .0) in
     omega (arith, w, t .kept .1 .0)
 
 slice-aggregate-deliver : tie.Need-slice-aggregate-deliver

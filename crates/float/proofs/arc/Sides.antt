@@ -23,20 +23,21 @@ chosen m n p q g y x = cond (m || n) nan (cond p (atan (y ⊘ x)) (cond q (cond 
 module _ (y x : Float) (a : isNan y ≡ false) (b : isNan x ≡ false) where
   pub right : lt (ofBits binary64 0) x ≡ true → atan (y ⊘ x) ≡ atan2 y x
   unfolding atan2
-  right p = sym (λ i. chosen (a i) (b i) (told i) (lt x zero-float) (le zero-float y) y x)
+  right p = sym (λ i. chosen (a i) (b i) (tested i) (lt x zero-float) (le zero-float y) y x)
     where
-      told : lt zero-float x ≡ true
-      told = ap (λ (z : Float). lt z x) (sym zero-bits) ∙ p
+      tested : lt zero-float x ≡ true
+      tested = ap (λ (z : Float). lt z x) (sym zero-bits) ∙ p
 
-  pub left : (g : Bool) → lt (ofBits binary64 0) x ≡ false → lt x (ofBits binary64 0) ≡ true → le (ofBits binary64 0) y ≡ g → cond g (atan (y ⊘ x) ⊕ P) (atan (y ⊘ x) ⊖ P) ≡ atan2 y x
+  pub left : (g : Bool) → lt (ofBits binary64 0) x ≡ false → lt x (ofBits binary64 0) ≡ true → le (ofBits binary64 0) y ≡ g
+      → cond g (atan (y ⊘ x) ⊕ P) (atan (y ⊘ x) ⊖ P) ≡ atan2 y x
   unfolding atan2
-  left g p q h = sym (λ i. chosen (a i) (b i) (not-right i) (told i) (side i) y x)
+  left g p q h = sym (λ i. chosen (a i) (b i) (not-right i) (tested i) (side i) y x)
     where
       not-right : lt zero-float x ≡ false
       not-right = ap (λ (z : Float). lt z x) (sym zero-bits) ∙ p
 
-      told : lt x zero-float ≡ true
-      told = ap (λ (z : Float). lt x z) (sym zero-bits) ∙ q
+      tested : lt x zero-float ≡ true
+      tested = ap (λ (z : Float). lt x z) (sym zero-bits) ∙ q
 
       side : le zero-float y ≡ g
       side = ap (λ (z : Float). le z y) (sym zero-bits) ∙ h
@@ -77,7 +78,8 @@ module _ (y x : Float) (h : plain y x ≡ true) where
   is-left e = ap (λ (z : Float). lt x z) zero-bits ∙ other (lt zero-float x) (lt x zero-float) (parts .1) (ap (λ (z : Float). lt z x) (sym zero-bits) ∙ e)
 
 -- four of them
-pub all-four : (y x : Four) → all-plain y x ≡ true → (plain (y .a) (x .a) ≡ true) × (plain (y .b) (x .b) ≡ true) × (plain (y .c) (x .c) ≡ true) × (plain (y .d) (x .d) ≡ true)
+pub all-four : (y x : Four) → all-plain y x ≡ true → (plain (y .a) (x .a) ≡ true) × (plain (y .b) (x .b) ≡ true) × (plain (y .c) (x .c) ≡ true) ×
+    (plain (y .d) (x .d) ≡ true)
 unfolding all-plain
 all-four y x h =
     let p = both (plain (y .a) (x .a) && plain (y .b) (x .b)) (plain (y .c) (x .c) && plain (y .d) (x .d)) h in

@@ -1,9 +1,11 @@
--- Two numbers at two places, X * 2 ^ d and Y, of which Y is cut to X's place by `jam`: for an even X, the sum and the difference of X and what is left of Y are the exact ones, cut by `jam`.
+-- Two numbers at two places, X * 2 ^ d and Y, of which Y is cut to X's place by `jam`: for an even X, the
+-- sum and the difference of X and what is left of Y are the exact ones, cut by `jam`.
 --
 use mathlib.Core.Path.{_≡_, sym, ap, _∙_, subst}
 use mathlib.Core.Logic.{_⊎_, inl, inr}
 use Prim.Native.Nat.{ℕ, zero, suc, _+_, _-_, _*_, _/_, _%_, _^_, _≤_, _<_, min}
-use native.Mathlib.Nat.{le-trans, le-of-eq, lt-of-lt-of-le, mod-lt, div-add-mod', mul-assoc, mul-comm, mul-le-mul-right, mul-le-mul-left, eq-or-lt-of-le, eq-zero-or-pos, pow-succ', add-sub-of-le}
+use native.Mathlib.Nat.{le-trans, le-of-eq, lt-of-lt-of-le, mod-lt, div-add-mod', mul-assoc, mul-comm}
+use native.Mathlib.Nat.{mul-le-mul-right, mul-le-mul-left, eq-or-lt-of-le, eq-zero-or-pos, pow-succ', add-sub-of-le}
 use native.Mathlib.Omega.{arith}
 use lib.Pow.{pow-pos}
 use Rattle.float.specs.Promises.Jam.{jam}

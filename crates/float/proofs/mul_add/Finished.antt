@@ -1,10 +1,12 @@
--- What `finish` rounds is the exact number: D is the exact S cut by `jam`, and shifting D to the left before the next cut is shifting S, if nothing was lost of S or the shift is by a word at most.
+-- What `finish` rounds is the exact number: D is the exact S cut by `jam`, and shifting D to the left before
+-- the next cut is shifting S, if nothing was lost of S or the shift is by a word at most.
 --
 use mathlib.Core.Path.{_≡_, sym, ap, _∙_, subst}
 use mathlib.Core.Logic.{_⊎_, inl, inr}
 use mathlib.Core.Bool.{Bool}
 use Prim.Native.Nat.{ℕ, suc, _+_, _-_, _*_, _/_, _%_, _^_, _≤_, _<_, min}
-use native.Mathlib.Nat.{le-trans, le-of-eq, lt-of-not-le, not-le-of-lt, le-of-suc-le-suc, mod-lt, div-add-mod', mul-assoc, mul-comm, mul-right-comm, mul-le-mul-right, mul-le-mul-left, mul-lt-mul-of-pos-right, mul-pos, one-mul, eq-zero-or-pos, sub-add-cancel}
+use native.Mathlib.Nat.{le-trans, le-of-eq, lt-of-not-le, not-le-of-lt, le-of-suc-le-suc, mod-lt, div-add-mod', mul-assoc, mul-comm}
+use native.Mathlib.Nat.{mul-right-comm, mul-le-mul-right, mul-le-mul-left, mul-lt-mul-of-pos-right, mul-pos, one-mul, eq-zero-or-pos, sub-add-cancel}
 use native.Mathlib.Omega.{arith}
 use lib.Arith.{digits-lt}
 use lib.Pow.{pow-pos, pow-add, pow-mono}
@@ -32,10 +34,10 @@ module _ (S d L : ℕ) where
 
   -- the unit of the second cut: 2 ^ 64 of D's, and so 2 ^ (d + 64) of S's
   unit : 2 ^ suc (d + 64) ≡ 2 ^ 64 * b
-  unit = ap (λ (x : ℕ). 2 ^ x) (turn d) ∙ pow-add 2 64 (suc d)
+  unit = ap (λ (x : ℕ). 2 ^ x) (rearranged d) ∙ pow-add 2 64 (suc d)
     where
-      turn : (d : ℕ) → suc (d + 64) ≡ 64 + suc d
-      turn d = omega arith
+      rearranged : (d : ℕ) → suc (d + 64) ≡ 64 + suc d
+      rearranged d = omega arith
 
   -- where nothing was lost, D * 2 ^ d is S
   exact : r ≡ 0 → jam (jam S d * 2 ^ L) 64 ≡ jam (S * 2 ^ L) (d + 64)
@@ -85,8 +87,10 @@ module _ (S d L : ℕ) where
       (subst (λ (x : ℕ). 2 * (q * p) + p < 2 * x) mp (omega arith))
       ∙ ap (λ (x : ℕ). 2 * t + x) (both (2 * (q * p) + p) ((q * b + r) * p) (omega arith) (mul-pos (omega arith) P))
       ∙ sym (jam-at (S * p) (d + 64) t ((q * b + r) * p)
-      (subst (λ (x : ℕ). S * p ≡ t * x + (q * b + r) * p) (sym unit) (subst (λ (x : ℕ). S * p ≡ t * (x * b) + (q * b + r) * p) mp (lower S A p t q m b r e S-is)))
-      (subst (λ (x : ℕ). (q * b + r) * p < x) (ap (λ (x : ℕ). x * b) mp ∙ sym unit) (subst (λ (x : ℕ). (q * b + r) * p < x) (mul-right-comm m b p) (mul-lt-mul-of-pos-right (digits-lt l g) P))))
+      (subst (λ (x : ℕ). S * p ≡ t * x + (q * b + r) * p) (sym unit)
+      (subst (λ (x : ℕ). S * p ≡ t * (x * b) + (q * b + r) * p) mp (lower S A p t q m b r e S-is)))
+      (subst (λ (x : ℕ). (q * b + r) * p < x) (ap (λ (x : ℕ). x * b) mp ∙ sym unit)
+      (subst (λ (x : ℕ). (q * b + r) * p < x) (mul-right-comm m b p) (mul-lt-mul-of-pos-right (digits-lt l g) P))))
     where
       one : (r : ℕ) → 0 < r → min 1 r ≡ 1
       one r h = omega arith
@@ -113,15 +117,19 @@ module _ (S d L : ℕ) where
 -- ---- the shift is by a word at most
 short-shift : (D y s : ℕ) → Shifts D y s → (y ≤ 64) ⊎ (2 ^ 64 ≤ D) → s ≤ 64
 short-shift D y s h (inl l) = le-trans (h .within) l
-short-shift D y s h (inr g) = le-of-suc-le-suc (lt-of-not-le (λ (k : 65 ≤ s). not-le-of-lt (h .top) (le-trans (le-trans (lib.Dec.lit≤ tt) (mul-le-mul-left (2 ^ 64) (pow-mono k))) (mul-le-mul-right (2 ^ s) g))))
+short-shift D y s h (inr g) = le-of-suc-le-suc
+    (lt-of-not-le (λ (k : 65 ≤ s). not-le-of-lt (h .top) (le-trans (le-trans (lib.Dec.lit≤ tt) (mul-le-mul-left (2 ^ 64) (pow-mono k)))
+    (mul-le-mul-right (2 ^ s) g))))
 
 -- ---- the exact number, rounded
-module _ (neg : Bool) (D y : ℕ) (v : Float) (F : Finishes neg D y v) (S d f c : ℕ) (cut : D ≡ jam S d) (place : c + y ≡ f + d + 1149) (safe : (S % 2 ^ suc d ≡ 0) ⊎ ((y ≤ 64) ⊎ (2 ^ 64 ≤ D))) where
+module _ (neg : Bool) (D y : ℕ) (v : Float) (F : Finishes neg D y v) (S d f c : ℕ) (cut : D ≡ jam S d) (place : c + y ≡ f + d + 1149)
+    (safe : (S % 2 ^ suc d ≡ 0) ⊎ ((y ≤ 64) ⊎ (2 ^ 64 ≤ D))) where
   abbrev s : ℕ
   s = F .shift
 
   s-lt : s < 128
-  s-lt = lt-of-not-le (λ (g : 128 ≤ s). not-le-of-lt (F .shifts .top) (le-trans (pow-mono g) (le-trans (le-of-eq (sym (one-mul (2 ^ s)))) (mul-le-mul-right (2 ^ s) (F .some)))))
+  s-lt = lt-of-not-le (λ (g : 128 ≤ s). not-le-of-lt (F .shifts .top)
+      (le-trans (pow-mono g) (le-trans (le-of-eq (sym (one-mul (2 ^ s)))) (mul-le-mul-right (2 ^ s) (F .some)))))
 
   word : jam (D * 2 ^ s) 64 ≡ jam (S * 2 ^ s) (d + 64)
   word = ap (λ (x : ℕ). jam (x * 2 ^ s) 64) cut ∙ jam-left S d s (go safe)
@@ -133,20 +141,22 @@ module _ (neg : Bool) (D y : ℕ) (v : Float) (F : Finishes neg D y v) (S d f c 
   same : S * 2 ^ f * 2 ^ (c + 128) ≡ S * 2 ^ s * 2 ^ (f + 128 - s) * 2 ^ c
   same =
       ap (λ (x : ℕ). S * 2 ^ f * x) (pow-add 2 c 128)
-      ∙ turn S (2 ^ f) (2 ^ c) (2 ^ 128)
+      ∙ rearranged S (2 ^ f) (2 ^ c) (2 ^ 128)
       ∙ ap (λ (x : ℕ). S * x * 2 ^ c) (sym (pow-add 2 f 128) ∙ ap (λ (x : ℕ). 2 ^ x) (whole f s s-lt) ∙ pow-add 2 s (f + 128 - s))
       ∙ ap (λ (x : ℕ). x * 2 ^ c) (sym (mul-assoc S (2 ^ s) (2 ^ (f + 128 - s))))
     where
       whole : (f s : ℕ) → s < 128 → f + 128 ≡ s + (f + 128 - s)
       whole f s h = omega arith
 
-      turn : (a b c d : ℕ) → a * b * (c * d) ≡ a * (b * d) * c
-      turn a b c d = simp (mul-assoc, mul-comm)
+      rearranged : (a b c d : ℕ) → a * b * (c * d) ≡ a * (b * d) * c
+      rearranged a b c d = simp (mul-assoc, mul-comm)
 
   pub finished : v ≡ round binary64 neg (S * 2 ^ f) (2 ^ c)
   finished =
       F .is
-      ∙ sym (round-jam neg (S * 2 ^ s) (f + 128 - s) (c + 128) (d + 64) (y - s) (jam (D * 2 ^ s) 64) (exponents c y f d s place s-lt (F .shifts .within)) word (jam-under (D * 2 ^ s) (F .shifts .top)) (λ (h : 0 < y - s). jam-top (D * 2 ^ s) (F .shifts .full (below y s h))))
+      ∙ sym (round-jam neg (S * 2 ^ s) (f + 128 - s) (c + 128) (d + 64) (y - s) (jam (D * 2 ^ s) 64)
+      (exponents c y f d s place s-lt (F .shifts .within)) word (jam-under (D * 2 ^ s) (F .shifts .top))
+      (λ (h : 0 < y - s). jam-top (D * 2 ^ s) (F .shifts .full (below y s h))))
       ∙ sym (round-same binary64 neg (S * 2 ^ f) (2 ^ c) (S * 2 ^ s * 2 ^ (f + 128 - s)) (2 ^ (c + 128)) (pow-pos c) (pow-pos (c + 128)) same)
     where
       exponents : (c y f d s : ℕ) → c + y ≡ f + d + 1149 → s < 128 → s ≤ y → c + 128 + (y - s) ≡ f + 128 - s + (d + 64) + 1085

@@ -1,10 +1,13 @@
--- The two ways of `mul_add` from the parts of three finite operands: the product p, 2 ^ 20 times that of the digits, at the place m, and the addend h, 2 ^ 73 times its digits, at the place l.
+-- The two ways of `mul_add` from the parts of three finite operands: the product p, 2 ^ 20 times that of the
+-- digits, at the place m, and the addend h, 2 ^ 73 times its digits, at the place l.
 -- The one at the lower place is cut to the other's.
 use mathlib.Core.Path.{_≡_, refl, sym, ap, _∙_, subst}
 use mathlib.Core.Logic.{_⊎_, inl, inr}
 use mathlib.Core.Bool.{Bool}
 use Prim.Native.Nat.{ℕ, suc, _+_, _-_, _*_, _%_, _^_, _≤_, _<_}
-use native.Mathlib.Nat.{le-trans, le-of-eq, le-of-lt, lt-of-lt-of-le, lt-of-le-of-lt, le-add-right, le-add-left, eq-zero-or-pos, mul-comm, mul-assoc, mul-left-comm, mul-mod-left, mul-pos, mul-le-mul-right, mul-le-mul-left, mul-lt-mul-of-pos-right, lt-of-mul-lt-mul-right, mul-one, one-mul, sub-add-cancel}
+use native.Mathlib.Nat.{le-trans, le-of-eq, le-of-lt, lt-of-lt-of-le, lt-of-le-of-lt, le-add-right, le-add-left}
+use native.Mathlib.Nat.{eq-zero-or-pos, mul-comm, mul-assoc, mul-left-comm, mul-mod-left, mul-pos, mul-le-mul-right}
+use native.Mathlib.Nat.{mul-le-mul-left, mul-lt-mul-of-pos-right, lt-of-mul-lt-mul-right, mul-one, one-mul, sub-add-cancel}
 use native.Mathlib.Omega.{arith}
 use lib.Dec.{lit≤}
 use lib.Pow.{pow-pos, pow-add, pow-mono}
@@ -91,7 +94,8 @@ module _ (a b c : Float) (sa : Bool) (qa ka : ℕ) (sb : Bool) (qb kb : ℕ) (sc
   P-some = mul-pos (mul-pos someA (pow-pos 10)) (mul-pos someB (pow-pos 10))
 
   P-lt : P < 2 ^ 62 * 2 ^ 64
-  P-lt = lt-of-lt-of-le (lt-of-le-of-lt (mul-le-mul-left (qa * 2 ^ 10) (le-of-lt (ten qb (B .short)))) (mul-lt-mul-of-pos-right (ten qa (A .short)) (pow-pos 63))) (lit≤ tt)
+  P-lt = lt-of-lt-of-le (lt-of-le-of-lt (mul-le-mul-left (qa * 2 ^ 10) (le-of-lt (ten qb (B .short))))
+      (mul-lt-mul-of-pos-right (ten qa (A .short)) (pow-pos 63))) (lit≤ tt)
     where
       ten : (q : ℕ) → q < 2 ^ 53 → q * 2 ^ 10 < 2 ^ 63
       ten q h = omega arith

@@ -1,7 +1,9 @@
 -- A number of two words, shifted to the left within two words, and its lower word cut off by `jam`.
 use mathlib.Core.Path.{_≡_, sym, ap, _∙_, subst}
 use Prim.Native.Nat.{ℕ, _+_, _-_, _*_, _/_, _%_, _^_, _≤_, _<_, min, max}
-use native.Mathlib.Nat.{le-trans, le-of-eq, lt-of-lt-of-le, lt-of-le-of-lt, lt-of-not-le, not-le-of-lt, le-add-right, mod-lt, mod-eq-of-lt, div-add-mod', add-zero, one-mul, mul-one, mul-assoc, mul-right-comm, mul-le-mul-left, mul-le-mul-right, lt-of-mul-lt-mul-right, mul-div-mul-right, le-div-iff-mul-le}
+use native.Mathlib.Nat.{le-trans, le-of-eq, lt-of-lt-of-le, lt-of-le-of-lt, lt-of-not-le, not-le-of-lt, le-add-right}
+use native.Mathlib.Nat.{mod-lt, mod-eq-of-lt, div-add-mod', add-zero, one-mul, mul-one, mul-assoc}
+use native.Mathlib.Nat.{mul-right-comm, mul-le-mul-left, mul-le-mul-right, lt-of-mul-lt-mul-right, mul-div-mul-right, le-div-iff-mul-le}
 use native.Mathlib.Omega.{arith}
 use lib.Pow.{pow-pos, pow-add, pow-mono, shr-lt}
 use lib.Bits.{bitOr, or-shifted}
@@ -39,7 +41,8 @@ module _ (hi lo y s : ℕ) (L : lo < 2 ^ 64) (some : 0 < hi * 2 ^ 64 + lo) (S : 
 
   -- not by two words
   pub less : s < 128
-  less = lt-of-not-le (λ (g : 128 ≤ s). not-le-of-lt (S .top) (le-trans (pow-mono g) (le-trans (le-of-eq (sym (one-mul (2 ^ s)))) (mul-le-mul-right (2 ^ s) some))))
+  less = lt-of-not-le (λ (g : 128 ≤ s). not-le-of-lt (S .top)
+      (le-trans (pow-mono g) (le-trans (le-of-eq (sym (one-mul (2 ^ s)))) (mul-le-mul-right (2 ^ s) some))))
 
   -- and by one digit at least, where the top digit is not set
   pub more : hi < 2 ^ 63 → 0 < y → 0 < s
@@ -63,7 +66,8 @@ module _ (hi lo y s : ℕ) (L : lo < 2 ^ 64) (some : 0 < hi * 2 ^ 64 + lo) (S : 
       let r = lo * p % 2 ^ 64 in
       let gp : 2 ^ 64 ≡ g * p = ap (λ (k : ℕ). 2 ^ k) (together s U) ∙ pow-add 2 (64 - s) s in
       let top : lo / g < p = shr-lt s (64 - s) (subst (λ (k : ℕ). lo < 2 ^ k) (other s U) L) in
-      let e : lo / g * 2 ^ 64 + r ≡ lo * p = ap (λ (x : ℕ). x * 2 ^ 64 + r) (sym (ap (λ (x : ℕ). lo * p / x) gp ∙ mul-div-mul-right lo g (pow-pos s))) ∙ div-add-mod' (lo * p) (2 ^ 64) in
+      let e : lo / g * 2 ^ 64 + r ≡ lo * p = ap (λ (x : ℕ). x * 2 ^ 64 + r) (sym (ap (λ (x : ℕ). lo * p / x) gp ∙ mul-div-mul-right lo g (pow-pos s)))
+      ∙ div-add-mod' (lo * p) (2 ^ 64) in
       ap (λ (x : ℕ). bitOr (bitOr x (lo / g)) (min 1 r)) (mod-eq-of-lt kept)
       ∙ ap (λ (x : ℕ). bitOr x (min 1 r)) (or-shifted hi s (lo / g) top)
       ∙ or-last v (min 1 r) (one r)
@@ -86,8 +90,10 @@ module _ (hi lo y s : ℕ) (L : lo < 2 ^ 64) (some : 0 < hi * 2 ^ 64 + lo) (S : 
   left-long P =
       let p = 2 ^ (s - 64) in
       let sp : 2 ^ s ≡ p * 2 ^ 64 = ap (λ (k : ℕ). 2 ^ k) (after s P) ∙ pow-add 2 (s - 64) 64 in
-      let none : hi ≡ 0 = zero-of hi (lt-of-mul-lt-mul-right (2 ^ 64) (lt-of-le-of-lt (mul-le-mul-left hi (pow-mono P)) (lt-of-lt-of-le kept (le-of-eq (sym (one-mul (2 ^ 64))))))) in
-      let e : X ≡ lo * p * 2 ^ 64 = ap (λ (x : ℕ). (x * 2 ^ 64 + lo) * 2 ^ s) none ∙ ap (λ (x : ℕ). (0 + lo) * x) sp ∙ ap (λ (x : ℕ). x * (p * 2 ^ 64)) (native.Mathlib.Nat.zero-add lo) ∙ sym (mul-assoc lo p (2 ^ 64)) in
+      let none : hi ≡ 0 = zero-of hi (lt-of-mul-lt-mul-right (2 ^ 64)
+      (lt-of-le-of-lt (mul-le-mul-left hi (pow-mono P)) (lt-of-lt-of-le kept (le-of-eq (sym (one-mul (2 ^ 64))))))) in
+      let e : X ≡ lo * p * 2 ^ 64 = ap (λ (x : ℕ). (x * 2 ^ 64 + lo) * 2 ^ s) none ∙ ap (λ (x : ℕ). (0 + lo) * x) sp
+      ∙ ap (λ (x : ℕ). x * (p * 2 ^ 64)) (native.Mathlib.Nat.zero-add lo) ∙ sym (mul-assoc lo p (2 ^ 64)) in
       let u : lo * p < 2 ^ 64 = lt-of-mul-lt-mul-right (2 ^ 64) (lt-of-le-of-lt (le-of-eq (sym e)) (S .top)) in
       mod-eq-of-lt u
       ∙ whole (lo * p)

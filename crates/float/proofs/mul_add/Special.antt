@@ -72,13 +72,14 @@ module _ (s : Bool) (m : ℕ) (e : ℤ) (t : Bool) (n : ℕ) (d : ℤ) (none : m
   sum-zero : (u : Bool) (p : ℕ) (g : ℤ) → add binary64 (fin (unlike s t) 0 (pos 0)) (fin u p g) ≡ mul-add binary64 (fin s m e) (fin t n d) (fin u p g)
   unfolding mul-add
   sum-zero u p g =
-      sum-same (unlike s t) (0 * 1 * down g) u (p * up g * 1) (1 * down g) (m * up e * (n * up d) * down g) (p * up g * (down e * down d)) (down e * down d * down g)
+      sum-same (unlike s t) (0 * 1 * down g) u (p * up g * 1) (1 * down g) (m * up e * (n * up d) * down g) (p * up g * (down e * down d))
+      (down e * down d * down g)
       (mul-pos (zero-lt-suc 0) (down-pos g)) (mul-pos (mul-pos (down-pos e) (down-pos d)) (down-pos g))
-      (nothing ∙ sym (ap (λ (x : ℕ). x * down g * (1 * down g)) none ∙ ap (λ (x : ℕ). x * (1 * down g)) (zero-mul (down g)) ∙ zero-mul (1 * down g)))
+      (no-product ∙ sym (ap (λ (x : ℕ). x * down g * (1 * down g)) none ∙ ap (λ (x : ℕ). x * (1 * down g)) (zero-mul (down g)) ∙ zero-mul (1 * down g)))
       (shape (p * up g) (down e * down d) (down g))
     where
-      nothing : 0 * 1 * down g * (down e * down d * down g) ≡ 0
-      nothing = ap (λ (x : ℕ). x * (down e * down d * down g)) (zero-mul (down g)) ∙ zero-mul (down e * down d * down g)
+      no-product : 0 * 1 * down g * (down e * down d * down g) ≡ 0
+      no-product = ap (λ (x : ℕ). x * (down e * down d * down g)) (zero-mul (down g)) ∙ zero-mul (down e * down d * down g)
 
       shape : (a b c : ℕ) → a * 1 * (b * c) ≡ a * b * (1 * c)
       shape a b c = omega arith
@@ -88,21 +89,25 @@ module _ (s : Bool) (m : ℕ) (e : ℤ) (t : Bool) (n : ℕ) (d : ℤ) (none : m
   factor-zero (inf u) h = absurd h
   factor-zero (fin u p g) h = ap (λ (v : Float). add binary64 v (fin u p g)) product-zero ∙ sum-zero u p g
 
-pub first-zero : (x y z : Float) → T (finite x) → T (finite y) → T (finite z) → eq x (ofBits binary64 0) ≡ true → add binary64 (mul binary64 x y) z ≡ mul-add binary64 x y z
+pub first-zero : (x y z : Float) → T (finite x) → T (finite y) → T (finite z) → eq x (ofBits binary64 0) ≡ true
+    → add binary64 (mul binary64 x y) z ≡ mul-add binary64 x y z
 first-zero nan y z g h k e = absurd g
 first-zero (inf s) y z g h k e = absurd g
 first-zero (fin s m i) nan z g h k e = absurd h
 first-zero (fin s m i) (inf t) z g h k e = absurd h
 first-zero (fin s m i) (fin t n d) z g h k e =
-    factor-zero s m i t n d (ap (λ (x : ℕ). x * up i * (n * up d)) (zero-of s m i e) ∙ ap (λ (x : ℕ). x * (n * up d)) (zero-mul (up i)) ∙ zero-mul (n * up d)) z k
+    factor-zero s m i t n d (ap (λ (x : ℕ). x * up i * (n * up d)) (zero-of s m i e) ∙ ap (λ (x : ℕ). x * (n * up d)) (zero-mul (up i))
+    ∙ zero-mul (n * up d)) z k
 
-pub second-zero : (x y z : Float) → T (finite x) → T (finite y) → T (finite z) → eq y (ofBits binary64 0) ≡ true → add binary64 (mul binary64 x y) z ≡ mul-add binary64 x y z
+pub second-zero : (x y z : Float) → T (finite x) → T (finite y) → T (finite z) → eq y (ofBits binary64 0) ≡ true
+    → add binary64 (mul binary64 x y) z ≡ mul-add binary64 x y z
 second-zero nan y z g h k e = absurd g
 second-zero (inf s) y z g h k e = absurd g
 second-zero (fin s m i) nan z g h k e = absurd h
 second-zero (fin s m i) (inf t) z g h k e = absurd h
 second-zero (fin s m i) (fin t n d) z g h k e =
-    factor-zero s m i t n d (ap (λ (x : ℕ). m * up i * (x * up d)) (zero-of t n d e) ∙ ap (λ (x : ℕ). m * up i * x) (zero-mul (up d)) ∙ native.Mathlib.Nat.mul-zero (m * up i)) z k
+    factor-zero s m i t n d (ap (λ (x : ℕ). m * up i * (x * up d)) (zero-of t n d e) ∙ ap (λ (x : ℕ). m * up i * x) (zero-mul (up d))
+    ∙ native.Mathlib.Nat.mul-zero (m * up i)) z k
 
 -- ---- three finite operands, by any fractions that they equal, brought to one denominator g
 pub mul-add-at : (x y z : Float) (s : Bool) (a α : ℕ) (t : Bool) (b β : ℕ) (u : Bool) (c γ : ℕ) (p q g : ℕ) → 0 < α → 0 < β → 0 < γ → 0 < g
@@ -116,12 +121,14 @@ mul-add-at (fin s' m e) (fin t' n d) nan s a α t b β u c γ p q g A B C G v w 
 mul-add-at (fin s' m e) (fin t' n d) (inf u') s a α t b β u c γ p q g A B C G v w o h k = absurd o
 mul-add-at (fin s' m e) (fin t' n d) (fin u' l i) s a α t b β u c γ p q g A B C G v w o h k =
     opened
-    ∙ sum-same (unlike s' t') (m * up e * (n * up d) * down i) u' (l * up i * (down e * down d)) (down e * down d * down i) p q g (mul-pos (mul-pos (down-pos e) (down-pos d)) (down-pos i)) G product addend
+    ∙ sum-same (unlike s' t') (m * up e * (n * up d) * down i) u' (l * up i * (down e * down d)) (down e * down d * down i) p q g
+    (mul-pos (mul-pos (down-pos e) (down-pos d)) (down-pos i)) G product addend
     ∙ ap (λ (x : Bool). sum binary64 (unlike x t') p u' q g) (v .0)
     ∙ ap (λ (x : Bool). sum binary64 (unlike s x) p u' q g) (w .0)
     ∙ ap (λ (x : Bool). sum binary64 (unlike s t) p x q g) (o .0)
   where
-    opened : mul-add binary64 (fin s' m e) (fin t' n d) (fin u' l i) ≡ sum binary64 (unlike s' t') (m * up e * (n * up d) * down i) u' (l * up i * (down e * down d)) (down e * down d * down i)
+    opened : mul-add binary64 (fin s' m e) (fin t' n d) (fin u' l i) ≡ sum binary64 (unlike s' t') (m * up e * (n * up d) * down i) u'
+        (l * up i * (down e * down d)) (down e * down d * down i)
     opened = unfold mul-add in refl
 
     M : ℕ
@@ -130,8 +137,8 @@ mul-add-at (fin s' m e) (fin t' n d) (fin u' l i) s a α t b β u c γ p q g A B
     N : ℕ
     N = n * up d
 
-    turn : (M N D α β g p q x y : ℕ) → 0 < α * β → M * α ≡ x * p → N * β ≡ y * q → x * y * g ≡ D * (α * β) → M * N * g ≡ D * (p * q)
-    turn M N D α β g p q x y P f k e =
+    rearranged : (M N D α β g p q x y : ℕ) → 0 < α * β → M * α ≡ x * p → N * β ≡ y * q → x * y * g ≡ D * (α * β) → M * N * g ≡ D * (p * q)
+    rearranged M N D α β g p q x y P f k e =
         eq-of-mul-eq-mul-right (α * β) P (M * N * g) (D * (p * q))
         (mul-right-comm (M * N) g (α * β)
         ∙ ap (λ (z : ℕ). z * g) (mul-mul-mul-comm M N α β ∙ ap (λ (z : ℕ). z * (N * β)) f ∙ ap (λ (z : ℕ). x * p * z) k ∙ mul-mul-mul-comm x p y q)
@@ -142,7 +149,7 @@ mul-add-at (fin s' m e) (fin t' n d) (fin u' l i) s a α t b β u c γ p q g A B
     product : m * up e * (n * up d) * down i * g ≡ p * (down e * down d * down i)
     product =
         mul-right-comm (m * up e * (n * up d)) (down i) g
-        ∙ ap (λ (z : ℕ). z * down i) (turn (m * up e) (n * up d) p α β g (down e) (down d) a b (mul-pos A B) (v .1) (w .1) h)
+        ∙ ap (λ (z : ℕ). z * down i) (rearranged (m * up e) (n * up d) p α β g (down e) (down d) a b (mul-pos A B) (v .1) (w .1) h)
         ∙ mul-assoc p (down e * down d) (down i)
 
     one : (L γ c i q g : ℕ) → 0 < γ → L * γ ≡ c * i → c * g ≡ q * γ → L * g ≡ q * i

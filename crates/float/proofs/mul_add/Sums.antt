@@ -29,23 +29,28 @@ module _ (a b c a' b' c' : ℕ) (C : 0 < c) (C' : 0 < c') (p : a * c' ≡ a' * c
   sum-too : (a + b) * c' ≡ (a' + b') * c
   sum-too = add-mul a b c' ∙ ap (λ (x : ℕ). x + b * c') p ∙ ap (λ (x : ℕ). a' * c + x) q ∙ sym (add-mul a' b' c)
 
-pub sum-same : (s : Bool) (a : ℕ) (t : Bool) (b c a' b' c' : ℕ) → 0 < c → 0 < c' → a * c' ≡ a' * c → b * c' ≡ b' * c → sum binary64 s a t b c ≡ sum binary64 s a' t b' c'
+pub sum-same : (s : Bool) (a : ℕ) (t : Bool) (b c a' b' c' : ℕ) → 0 < c → 0 < c' → a * c' ≡ a' * c → b * c' ≡ b' * c
+    → sum binary64 s a t b c ≡ sum binary64 s a' t b' c'
 sum-same s a t b c a' b' c' C C' p q = go (Bool·beq s t) refl
   where
     same : a ≡ b → a' ≡ b'
     same h = native.Mathlib.Nat.eq-of-mul-eq-mul-right c C a' b' (sym p ∙ ap (λ (x : ℕ). x * c') h ∙ q)
 
     apart : (o : Ordering) → Cmp o a b → Bool·beq s t ≡ false → sum binary64 s a t b c ≡ sum binary64 s a' t b' c'
-    apart Ordering·lt h e = sum-less s a t b c e h ∙ round-same binary64 t (b - a) c (b' - a') c' C C' (diff-too a b c a' b' c' C C' p q) ∙ sym (sum-less s a' t b' c' e (less-too a b c a' b' c' C C' p q h))
+    apart Ordering·lt h e = sum-less s a t b c e h ∙ round-same binary64 t (b - a) c (b' - a') c' C C' (diff-too a b c a' b' c' C C' p q)
+        ∙ sym (sum-less s a' t b' c' e (less-too a b c a' b' c' C C' p q h))
     apart Ordering·eq h e = sum-none s a t b c C e h ∙ sym (sum-none s a' t b' c' C' e (same h))
-    apart Ordering·gt h e = sum-more s a t b c e h ∙ round-same binary64 s (a - b) c (a' - b') c' C C' (diff-too b a c b' a' c' C C' q p) ∙ sym (sum-more s a' t b' c' e (less-too b a c b' a' c' C C' q p h))
+    apart Ordering·gt h e = sum-more s a t b c e h ∙ round-same binary64 s (a - b) c (a' - b') c' C C' (diff-too b a c b' a' c' C C' q p)
+        ∙ sym (sum-more s a' t b' c' e (less-too b a c b' a' c' C C' q p h))
 
     go : (z : Bool) → Bool·beq s t ≡ z → sum binary64 s a t b c ≡ sum binary64 s a' t b' c'
-    go true e = sum-same-sign s a t b c e ∙ round-same binary64 s (a + b) c (a' + b') c' C C' (sum-too a b c a' b' c' C C' p q) ∙ sym (sum-same-sign s a' t b' c' e)
+    go true e = sum-same-sign s a t b c e ∙ round-same binary64 s (a + b) c (a' + b') c' C C' (sum-too a b c a' b' c' C C' p q)
+        ∙ sym (sum-same-sign s a' t b' c' e)
     go false e = apart (compare a b) (cmp a b) e
 
 -- ---- what `combine` gives: X at the place f + d, and Y at the place f, cut to X's place
-module _ (s : Bool) (X : ℕ) (t : Bool) (Y W y d f c : ℕ) (v : Float) (C : Combines s X t W y v) (x : ℕ) (even : X ≡ 2 * x) (cut : W ≡ jam Y d) (place : c + y ≡ f + d + 1149)
+module _ (s : Bool) (X : ℕ) (t : Bool) (Y W y d f c : ℕ) (v : Float) (C : Combines s X t W y v) (x : ℕ) (even : X ≡ 2 * x) (cut : W ≡ jam Y d)
+    (place : c + y ≡ f + d + 1149)
     (safe : (Y % 2 ^ suc d ≡ 0) ⊎ ((y ≤ 64) ⊎ (W + 2 ^ 64 ≤ X))) where
   abbrev goal : Float
   goal = sum binary64 s (X * 2 ^ d * 2 ^ f) t (Y * 2 ^ f) (2 ^ c)
@@ -55,7 +60,8 @@ module _ (s : Bool) (X : ℕ) (t : Bool) (Y W y d f c : ℕ) (v : Float) (C : Co
   times a b h = mul-lt-mul-of-pos-right h (pow-pos f)
 
   minus : (a b : ℕ) → (a - b) * 2 ^ f ≡ a * 2 ^ f - b * 2 ^ f
-  minus m n = mul-comm (m - n) (2 ^ f) ∙ mul-sub (2 ^ f) m n ∙ ap (λ (z : ℕ). z - 2 ^ f * n) (mul-comm (2 ^ f) m) ∙ ap (λ (z : ℕ). m * 2 ^ f - z) (mul-comm (2 ^ f) n)
+  minus m n = mul-comm (m - n) (2 ^ f) ∙ mul-sub (2 ^ f) m n ∙ ap (λ (z : ℕ). z - 2 ^ f * n) (mul-comm (2 ^ f) m)
+      ∙ ap (λ (z : ℕ). m * 2 ^ f - z) (mul-comm (2 ^ f) n)
 
   safe-in : (D S : ℕ) → (Y % 2 ^ suc d ≡ 0 → S % 2 ^ suc d ≡ 0) → (W + 2 ^ 64 ≤ X → 2 ^ 64 ≤ D) → (S % 2 ^ suc d ≡ 0) ⊎ ((y ≤ 64) ⊎ (2 ^ 64 ≤ D))
   safe-in D S h k = go safe

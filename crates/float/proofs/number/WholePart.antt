@@ -2,7 +2,8 @@
 use mathlib.Core.Path.{_≡_, refl, sym, ap, subst, _∙_}
 use mathlib.Core.Bool.{Bool, true, false, true≢false, false≢true}
 use Prim.Native.Nat.{ℕ, zero, suc, _+_, _-_, _*_, _/_, _%_, _^_, _≤_, _<_, min}
-use native.Mathlib.Nat.{le-trans, le-of-lt, le-of-eq, lt-of-le-of-lt, lt-of-lt-of-le, lt-irrefl, zero-lt-suc, mul-pos, mul-one, one-mul, zero-mul, mul-right-comm, le-of-mul-le-mul-right, lt-of-mul-lt-mul-right, eq-of-mul-eq-mul-right, div-add-mod', div-le-self, mod-one}
+use native.Mathlib.Nat.{le-trans, le-of-lt, le-of-eq, lt-of-le-of-lt, lt-of-lt-of-le, lt-irrefl, zero-lt-suc, mul-pos, mul-one}
+use native.Mathlib.Nat.{one-mul, zero-mul, mul-right-comm, le-of-mul-le-mul-right, lt-of-mul-lt-mul-right, eq-of-mul-eq-mul-right, div-add-mod', div-le-self, mod-one}
 use native.Mathlib.Omega.{arith}
 use lib.IntN.{ℤ, pos, negsuc, negℤ, _-ℤ_}
 use lib.Dec.{T, ltb, eqb, ltb→lt, eqb→eq}
@@ -21,8 +22,11 @@ use Rattle.float.specs.Laws.Within.{fits→held, exact-self}
 another : (z : Float) (s : Bool) (a c q : ℕ) → 0 < c → q * c ≡ a → HasValue z s a c → HasValue z s q 1
 another nan s a c q C e h = absurd h
 another (inf t) s a c q C e h = absurd h
-another (fin t n d) s a c q C e h =
-    (h .0, eq-of-mul-eq-mul-right c C (n * up d * 1) (q * down d) (ap (λ (x : ℕ). x * c) (mul-one (n * up d)) ∙ h .1 ∙ ap (λ (x : ℕ). x * down d) (sym e) ∙ mul-right-comm q c (down d)))
+another (fin t n d) s a c q C e h = (
+  h .0,
+  eq-of-mul-eq-mul-right c C (n * up d * 1) (q * down d)
+      (ap (λ (x : ℕ). x * c) (mul-one (n * up d)) ∙ h .1 ∙ ap (λ (x : ℕ). x * down d) (sym e) ∙ mul-right-comm q c (down d)),
+)
 
 -- a value with a fraction is below 2 ^ 53
 short : (s : Bool) (m : ℕ) (e : ℤ) → T (fits binary64 (fin s m e)) → (m * up e % down e ≡ 0 → ⊥) → m * up e / down e ≤ 2 ^ 53
@@ -51,7 +55,8 @@ whole-part s m e f t = go (eqb (m * up e % down e) 0) (eqb→eq (m * up e % down
 -- q * d * D against A * d, for A = q * D + r
 scale : (A D q r d n : ℕ) → q * D + r ≡ A → n * 1 ≡ q * d → n * D + r * d ≡ A * d
 scale A D q r d n e h =
-    ap (λ (x : ℕ). x * D + r * d) (sym (mul-one n) ∙ h) ∙ ap (λ (x : ℕ). x + r * d) (mul-right-comm q d D) ∙ sym (native.Mathlib.Nat.add-mul (q * D) r d) ∙ ap (λ (x : ℕ). x * d) e
+    ap (λ (x : ℕ). x * D + r * d) (sym (mul-one n) ∙ h) ∙ ap (λ (x : ℕ). x + r * d) (mul-right-comm q d D)
+    ∙ sym (native.Mathlib.Nat.add-mul (q * D) r d) ∙ ap (λ (x : ℕ). x * d) e
 
 module _ (m : ℕ) (e : ℤ) (q r : ℕ) (w : q * down e + r ≡ m * up e) where
   plus-above : (y : Float) → HasValue y false q 1 → lt (fin false m e) y ≡ false
@@ -59,7 +64,8 @@ module _ (m : ℕ) (e : ℤ) (q r : ℕ) (w : q * down e + r ≡ m * up e) where
   plus-above nan h = absurd h
   plus-above (inf t) h = absurd h
   plus-above (fin true n d) h = refl
-  plus-above (fin false n d) h = let k = scale (m * up e) (down e) q r (down d) (n * up d) w (h .1) in le-ltb (m * up e * down d) (n * up d * down e) (omega arith)
+  plus-above (fin false n d) h = let k = scale (m * up e) (down e) q r (down d) (n * up d) w (h .1) in
+      le-ltb (m * up e * down d) (n * up d * down e) (omega arith)
 
   minus-whole : (y : Float) → r ≡ 0 → HasValue y true q 1 → lt (fin true m e) y ≡ false
   unfolding lt
@@ -110,7 +116,8 @@ end = 2 ^ 63
 
 below-end : (A D q r : ℕ) → 0 < D → q * D + r ≡ A → A * 1 < 1 * end * D → q < end
 below-end A D q r P w h =
-    lt-of-mul-lt-mul-right D (lt-of-le-of-lt (le-trans (native.Mathlib.Nat.le-add-right (q * D) r) (le-of-eq (w ∙ sym (mul-one A)))) (lt-of-lt-of-le h (le-of-eq (ap (λ (x : ℕ). x * D) (one-mul end)))))
+    lt-of-mul-lt-mul-right D (lt-of-le-of-lt (le-trans (native.Mathlib.Nat.le-add-right (q * D) r) (le-of-eq (w ∙ sym (mul-one A))))
+    (lt-of-lt-of-le h (le-of-eq (ap (λ (x : ℕ). x * D) (one-mul end)))))
 
 cap-plus : (q : ℕ) → q < end → min q (end - 1) ≡ q
 cap-plus q h = omega arith
@@ -143,7 +150,8 @@ module _ (m : ℕ) (e : ℤ) where
   unfolding toSigned
   minus-cut h =
       ap (λ (c : ℕ). negℤ (pos c))
-      (cap-minus (A / D) (le-of-mul-le-mul-right (le-trans (native.Mathlib.Nat.le-add-right (A / D * D) (A % D)) (le-trans (le-of-eq split) (minus-most h))) (down-pos e)))
+      (cap-minus (A / D) (le-of-mul-le-mul-right (le-trans (native.Mathlib.Nat.le-add-right (A / D * D) (A % D))
+      (le-trans (le-of-eq split) (minus-most h))) (down-pos e)))
 
   minus-below : T (le (fin true 1 (pos 63)) (fin true m e)) → 0 < A % D → A / D < end
   minus-below h p = lt-of-mul-lt-mul-right D (lt-of-lt-of-le (more (A / D * D) (A % D) p) (le-trans (le-of-eq split) (minus-most h)))
@@ -160,13 +168,17 @@ stands : (m : ℕ) (e : ℤ) → T (fits binary64 (fin true m e)) → Stands m e
 unfolding ofInt
 stands m e f = go (m * up e / down e) (m * up e % down e) (split m e) refl (whole-part true m e f)
   where
-    other : (q : ℕ) → q * down e + m * up e % down e ≡ m * up e → ((t : Bool) → HasValue (round binary64 t q 1) t q 1) → (r : ℕ) → m * up e % down e ≡ r → Stands m e (lt (fin true m e) (ofInt binary64 (negℤ (pos q))))
+    other : (q : ℕ) → q * down e + m * up e % down e ≡ m * up e → ((t : Bool) → HasValue (round binary64 t q 1) t q 1) → (r : ℕ)
+        → m * up e % down e ≡ r → Stands m e (lt (fin true m e) (ofInt binary64 (negℤ (pos q))))
     other zero w v zero z = on z (zero-whole m e 0 (m * up e % down e) w (round binary64 false 0 1) refl z (v false))
-    other zero w v (suc r) z = let p : 0 < m * up e % down e = subst (λ (x : ℕ). 0 < x) (sym z) (zero-lt-suc r) in under p (zero-part m e 0 (m * up e % down e) w (round binary64 false 0 1) p (v false))
+    other zero w v (suc r) z = let p : 0 < m * up e % down e = subst (λ (x : ℕ). 0 < x) (sym z) (zero-lt-suc r) in
+        under p (zero-part m e 0 (m * up e % down e) w (round binary64 false 0 1) p (v false))
     other (suc q) w v zero z = on z (minus-whole m e (suc q) (m * up e % down e) w (round binary64 true (suc q) 1) z (v true))
-    other (suc q) w v (suc r) z = let p : 0 < m * up e % down e = subst (λ (x : ℕ). 0 < x) (sym z) (zero-lt-suc r) in under p (minus-part m e (suc q) (m * up e % down e) w (round binary64 true (suc q) 1) p (v true))
+    other (suc q) w v (suc r) z = let p : 0 < m * up e % down e = subst (λ (x : ℕ). 0 < x) (sym z) (zero-lt-suc r) in
+        under p (minus-part m e (suc q) (m * up e % down e) w (round binary64 true (suc q) 1) p (v true))
 
-    go : (q r : ℕ) → q * down e + m * up e % down e ≡ m * up e → m * up e % down e ≡ r → ((t : Bool) → HasValue (round binary64 t q 1) t q 1) → Stands m e (lt (fin true m e) (ofInt binary64 (negℤ (pos q))))
+    go : (q r : ℕ) → q * down e + m * up e % down e ≡ m * up e → m * up e % down e ≡ r → ((t : Bool) → HasValue (round binary64 t q 1) t q 1)
+        → Stands m e (lt (fin true m e) (ofInt binary64 (negℤ (pos q))))
     go q r w z v = other q w v r z
 
 less-one : (q : ℕ) → negℤ (pos q) -ℤ pos 1 ≡ negsuc q
@@ -212,7 +224,8 @@ step nan f a b h = absurd b
 step (inf true) f a b h = absurd a
 step (inf false) f a b h = absurd b
 step (fin false m e) f a b h =
-    absurd (false≢true (sym (plus-above m e (m * up e / down e) (m * up e % down e) (split m e) (ofInt binary64 (pos (m * up e / down e))) value) ∙ ap (λ (z : ℤ). lt (fin false m e) (ofInt binary64 z)) (sym (plus-cut m e b)) ∙ h))
+    absurd (false≢true (sym (plus-above m e (m * up e / down e) (m * up e % down e) (split m e) (ofInt binary64 (pos (m * up e / down e))) value)
+    ∙ ap (λ (z : ℤ). lt (fin false m e) (ofInt binary64 z)) (sym (plus-cut m e b)) ∙ h))
   where
     value : HasValue (ofInt binary64 (pos (m * up e / down e))) false (m * up e / down e) 1
     value = unfold ofInt in whole-part false m e f false

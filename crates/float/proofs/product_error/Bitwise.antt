@@ -1,8 +1,10 @@
--- For a zero or from 2 ^ -(k + 1) to 2 ^ 400 in size, and b zero or from 2 ^ -(l + 1), where k + l is at most 968, Dekker's error equals the fused product of a, b and minus their rounded product, sign of a zero included.
+-- For a zero or from 2 ^ -(k + 1) to 2 ^ 400 in size, and b zero or from 2 ^ -(l + 1), where k + l is at most 968, Dekker's
+-- error equals the fused product of a, b and minus their rounded product, sign of a zero included.
 -- Signs: both forms are odd in a and in b (`Opp`). Zeros: neither form ever gives -0.
 use mathlib.Core.Path.{_≡_, refl, sym, ap, ap₂, _∙_, subst}
 use Prim.Native.Nat.{ℕ, zero, suc, _+_, _-_, _*_, _^_, _≤_, _<_}
-use native.Mathlib.Nat.{le-of-eq, lt-of-lt-of-le, lt-irrefl, zero-lt-suc, mul-pos, mul-one, one-mul, zero-mul, mul-zero, mul-assoc, mul-left-comm, mul-right-comm, eq-of-mul-eq-mul-right}
+use native.Mathlib.Nat.{le-of-eq, lt-of-lt-of-le, lt-irrefl, zero-lt-suc, mul-pos, mul-one, one-mul}
+use native.Mathlib.Nat.{zero-mul, mul-zero, mul-assoc, mul-left-comm, mul-right-comm, eq-of-mul-eq-mul-right}
 use native.Mathlib.Omega.{arith}
 use mathlib.Core.Logic.{_⊎_, inl, inr}
 use mathlib.Core.Bool.{Bool, true, false, not, _&&_, Bool·beq, cond}
@@ -16,7 +18,8 @@ use lib.Ieee.Positive.{num, den}
 use Rattle.float.specs.Number.{negative}
 use Rattle.float.specs.MulAdd.{mul-add}
 use Rattle.float.specs.Laws.Sign.{strip, Alike, zeroF, round-zero, neg-neg}
-use Rattle.float.specs.Laws.Like.{Like, Opp, like-refl, like-sym, like-trans, add-like, sub-like, mul-like, neg-like, add-opp, sub-opp, mul-opp-l, mul-opp-r, neg-opp, from-opp, first-zero, zero-l, zero-r}
+use Rattle.float.specs.Laws.Like.{Like, Opp, like-refl, like-sym, like-trans, add-like, sub-like, mul-like, neg-like}
+use Rattle.float.specs.Laws.Like.{add-opp, sub-opp, mul-opp-l, mul-opp-r, neg-opp, from-opp, first-zero, zero-l, zero-r}
 use Rattle.float.specs.Laws.MulAdd.{by-parts, plus, mul-add-is, by-parts-like, by-parts-opp, by-parts-opp-r}
 use Rattle.float.specs.Laws.Le.{plain, neg-finite}
 use Rattle.float.specs.Promises.Order.{Within}
@@ -46,11 +49,13 @@ low-opp h = sub-opp binary64 h (high-opp h)
 
 dekker-opp-l : {a a' b b' : Float} → Opp a a' → Like b b' → Opp (dekker a b) (dekker a' b')
 dekker-opp-l h k =
-    add-opp binary64 (add-opp binary64 (add-opp binary64 (sub-opp binary64 (mul-opp-l binary64 (high-opp h) (high-like k)) (mul-opp-l binary64 h k)) (mul-opp-l binary64 (high-opp h) (low-like k))) (mul-opp-l binary64 (low-opp h) (high-like k))) (mul-opp-l binary64 (low-opp h) (low-like k))
+    add-opp binary64 (add-opp binary64 (add-opp binary64 (sub-opp binary64 (mul-opp-l binary64 (high-opp h) (high-like k)) (mul-opp-l binary64 h k))
+    (mul-opp-l binary64 (high-opp h) (low-like k))) (mul-opp-l binary64 (low-opp h) (high-like k))) (mul-opp-l binary64 (low-opp h) (low-like k))
 
 dekker-opp-r : {a a' b b' : Float} → Like a a' → Opp b b' → Opp (dekker a b) (dekker a' b')
 dekker-opp-r h k =
-    add-opp binary64 (add-opp binary64 (add-opp binary64 (sub-opp binary64 (mul-opp-r binary64 (high-like h) (high-opp k)) (mul-opp-r binary64 h k)) (mul-opp-r binary64 (high-like h) (low-opp k))) (mul-opp-r binary64 (low-like h) (high-opp k))) (mul-opp-r binary64 (low-like h) (low-opp k))
+    add-opp binary64 (add-opp binary64 (add-opp binary64 (sub-opp binary64 (mul-opp-r binary64 (high-like h) (high-opp k)) (mul-opp-r binary64 h k))
+    (mul-opp-r binary64 (high-like h) (low-opp k))) (mul-opp-r binary64 (low-like h) (high-opp k))) (mul-opp-r binary64 (low-like h) (low-opp k))
 
 fused-opp-l : {a a' b b' : Float} → Opp a a' → Like b b' → Opp (fused a b) (fused a' b')
 fused-opp-l h k = by-parts-opp binary64 h k (neg-opp (mul-opp-l binary64 h k))
@@ -59,18 +64,19 @@ fused-opp-r : {a a' b b' : Float} → Like a a' → Opp b b' → Opp (fused a b)
 fused-opp-r h k = by-parts-opp-r binary64 h k (neg-opp (mul-opp-r binary64 h k))
 
 back : (a : Float) → Opp (neg a) a
-back a = record { turned = ap strip (sym (neg-neg a)) }
+back a = record { negated = ap strip (sym (neg-neg a)) }
 
-turn : {x x' y y' : Float} → Opp x x' → Opp y y' → Like x y → Like x' y'
-turn p q h = like-trans (from-opp p) (like-trans (neg-like h) (like-sym (from-opp q)))
+both-negated : {x x' y y' : Float} → Opp x x' → Opp y y' → Like x y → Like x' y'
+both-negated p q h = like-trans (from-opp p) (like-trans (neg-like h) (like-sym (from-opp q)))
 
 by-right : {k l : ℕ} (a b : Float) → suc k + suc l ≤ 970 → Normal k a → Normal l b ⊎ Normal l (neg b) → Like (dekker a b) (fused a b)
 by-right a b near x (inl y) = record { same = in-range-equal a b near x y }
-by-right a b near x (inr y) = turn (dekker-opp-r (like-refl a) (back b)) (fused-opp-r (like-refl a) (back b)) (record { same = in-range-equal a (neg b) near x y })
+by-right a b near x (inr y) = both-negated (dekker-opp-r (like-refl a) (back b)) (fused-opp-r (like-refl a) (back b))
+    (record { same = in-range-equal a (neg b) near x y })
 
 signs-equal : {k l : ℕ} (a b : Float) → suc k + suc l ≤ 970 → Normal k a ⊎ Normal k (neg a) → Normal l b ⊎ Normal l (neg b) → Like (dekker a b) (fused a b)
 signs-equal a b near (inl x) y = by-right a b near x y
-signs-equal a b near (inr x) y = turn (dekker-opp-l (back a) (like-refl b)) (fused-opp-l (back a) (like-refl b)) (by-right (neg a) b near x y)
+signs-equal a b near (inr x) y = both-negated (dekker-opp-l (back a) (like-refl b)) (fused-opp-l (back a) (like-refl b)) (by-right (neg a) b near x y)
 
 -- ---- Dekker's error is not -0
 abbrev pow2 : ℕ → Float
@@ -104,10 +110,15 @@ dekker-nz a b wa wb ea eb =
     let σ = unlike (negative a) (negative b) in
     let sX : negative X ≡ σ = mul-sgn (high-half a) (high-half b) (high-within wa .real) (high-within wb .real) ∙ ap₂ (λ (u v : Bool). unlike u v) ea eb in
     let sp : negative (neg p) ≡ not σ = neg-sgn p (pp .real) ∙ ap not (mul-sgn a b (wa .real) (wb .real)) in
-    let n1 = add-nz X (neg p) (held-of (mul-fits binary64 (high-half a) (high-half b)) hh) (held-of (neg-fits binary64 p (mul-fits binary64 a b)) (neg-within pp)) (one-nz X (neg p) σ sX sp) in
-    let n2 = add-nz (add binary64 X (neg p)) (mul binary64 (high-half a) (low-half b)) (held-of (add-fits binary64 X (neg p)) s1) (held-of (mul-fits binary64 (high-half a) (low-half b)) hl) (inl n1) in
-    let n3 = add-nz (add binary64 (add binary64 X (neg p)) (mul binary64 (high-half a) (low-half b))) (mul binary64 (low-half a) (high-half b)) (held-of (add-fits binary64 (add binary64 X (neg p)) (mul binary64 (high-half a) (low-half b))) s2) (held-of (mul-fits binary64 (low-half a) (high-half b)) lh) (inl n2) in
-    add-nz (step3 a b) (mul binary64 (low-half a) (low-half b)) (held-of (add-fits binary64 (step2 a b) (mul binary64 (low-half a) (high-half b))) s3) (held-of (mul-fits binary64 (low-half a) (low-half b)) ll) (inl n3)
+    let n1 = add-nz X (neg p) (held-of (mul-fits binary64 (high-half a) (high-half b)) hh)
+    (held-of (neg-fits binary64 p (mul-fits binary64 a b)) (neg-within pp)) (one-nz X (neg p) σ sX sp) in
+    let n2 = add-nz (add binary64 X (neg p)) (mul binary64 (high-half a) (low-half b)) (held-of (add-fits binary64 X (neg p)) s1)
+    (held-of (mul-fits binary64 (high-half a) (low-half b)) hl) (inl n1) in
+    let n3 = add-nz (add binary64 (add binary64 X (neg p)) (mul binary64 (high-half a) (low-half b))) (mul binary64 (low-half a) (high-half b))
+    (held-of (add-fits binary64 (add binary64 X (neg p)) (mul binary64 (high-half a) (low-half b))) s2)
+    (held-of (mul-fits binary64 (low-half a) (high-half b)) lh) (inl n2) in
+    add-nz (step3 a b) (mul binary64 (low-half a) (low-half b)) (held-of (add-fits binary64 (step2 a b) (mul binary64 (low-half a) (high-half b))) s3)
+    (held-of (mul-fits binary64 (low-half a) (low-half b)) ll) (inl n3)
 
 -- ---- the fused one is not -0, where the exact product is a whole number of units
 plus-nz : (s : Bool) (X c W : ℕ) (p : Float) → 0 < c → X * 2 ^ 1074 ≡ W * c → negative p ≡ s → T (held binary64 p) → T (nz (plus binary64 s X c (neg p)))
@@ -116,7 +127,8 @@ plus-nz s X c W nan C e h t = absurd t
 plus-nz s X c W (inf u) C e h t = absurd t
 plus-nz s X c W (fin u k g) C e h t =
     let wz = whole-units (fin u k g) t in
-    sum-nz (X * down g) (k * up g * c) (c * down g) W (wz .0) (mul-pos C (down-pos g)) (over-l X c (2 ^ 1074) W (down g) e) (over-r (k * up g) (down g) (2 ^ 1074) (wz .0) c (wz .1)) s (not u) (go s h)
+    sum-nz (X * down g) (k * up g * c) (c * down g) W (wz .0) (mul-pos C (down-pos g)) (over-l X c (2 ^ 1074) W (down g) e)
+    (over-r (k * up g) (down g) (2 ^ 1074) (wz .0) c (wz .1)) s (not u) (go s h)
   where
     go : (s : Bool) → u ≡ s → (s ≡ false) ⊎ (not u ≡ false) ⊎ (0 < X * down g + k * up g * c)
     go false h = inl refl
@@ -129,7 +141,8 @@ fused-nz (inf s) b W wa wb e = absurd (wa .real)
 fused-nz (fin s m e) nan W wa wb h = absurd (wb .real)
 fused-nz (fin s m e) (inf t) W wa wb h = absurd (wb .real)
 fused-nz (fin s m e) (fin t n d) W wa wb h =
-    plus-nz (unlike s t) (m * up e * (n * up d)) (down e * down d) W (mul binary64 (fin s m e) (fin t n d)) (mul-pos (down-pos e) (down-pos d)) h (mul-sgn (fin s m e) (fin t n d) tt tt)
+    plus-nz (unlike s t) (m * up e * (n * up d)) (down e * down d) W (mul binary64 (fin s m e) (fin t n d)) (mul-pos (down-pos e) (down-pos d)) h
+    (mul-sgn (fin s m e) (fin t n d) tt tt)
     (held-of (mul-fits binary64 (fin s m e) (fin t n d)) (mul-within binary64 (pow2 862) tt wa wb))
 
 -- ---- a value above zero, by its units
@@ -139,11 +152,17 @@ pos-prod p w d P W D h = lt-irrefl 0 (lt-of-lt-of-le (mul-pos (mul-pos P W) D) (
 Is-plus : (x : Float) (p i : ℕ) → 0 < p → Is binary64 x p 0 i → (negative x ≡ false) × (num x * 2 ^ 1074 ≡ p * 2 ^ i * den x)
 Is-plus nan p i P h = absurd (h .real)
 Is-plus (inf s) p i P h = absurd (h .real)
-Is-plus (fin true m e) p i P h = absurd (pos-prod p (2 ^ i) (down e) P (pow-pos i) (down-pos e) (none (p * 2 ^ i * down e) (m * up e * 2 ^ 1074) (0 * 2 ^ i * down e) (ap (λ (z : ℕ). z * down e) (zero-mul (2 ^ i)) ∙ zero-mul (down e)) (sym (h .value))))
+Is-plus (fin true m e) p i P h = absurd (pos-prod p (2 ^ i) (down e) P (pow-pos i) (down-pos e)
+    (none (p * 2 ^ i * down e) (m * up e * 2 ^ 1074) (0 * 2 ^ i * down e) (ap (λ (z : ℕ). z * down e) (zero-mul (2 ^ i)) ∙ zero-mul (down e))
+    (sym (h .value))))
   where
     none : (a b c : ℕ) → c ≡ 0 → a + b ≡ 0 + c → a ≡ 0
     none a b c e h = omega arith
-Is-plus (fin false m e) p i P h = (refl, drop (m * up e * 2 ^ 1074) (0 * 2 ^ i * down e) (p * 2 ^ i * down e) (ap (λ (z : ℕ). z * down e) (zero-mul (2 ^ i)) ∙ zero-mul (down e)) (h .value))
+Is-plus (fin false m e) p i P h = (
+  refl,
+  drop (m * up e * 2 ^ 1074) (0 * 2 ^ i * down e) (p * 2 ^ i * down e)
+      (ap (λ (z : ℕ). z * down e) (zero-mul (2 ^ i)) ∙ zero-mul (down e)) (h .value),
+)
   where
     drop : (a c b : ℕ) → c ≡ 0 → a + c ≡ b + 0 → a ≡ b
     drop a c b e h = omega arith
@@ -153,7 +172,8 @@ minus-sgn : (x y : Float) (p i : ℕ) → 0 < p → Is binary64 x p 0 i → Alik
 unfolding neg strip
 minus-sgn nan y p i P h k = absurd (h .real)
 minus-sgn (inf s) y p i P h k = absurd (h .real)
-minus-sgn (fin s zero e) y p i P h k = absurd (pos-prod p (2 ^ i) (down e) P (pow-pos i) (down-pos e) (sym (Is-plus (fin s zero e) p i P h .1) ∙ zero-l (up e) (2 ^ 1074)))
+minus-sgn (fin s zero e) y p i P h k = absurd (pos-prod p (2 ^ i) (down e) P (pow-pos i) (down-pos e)
+    (sym (Is-plus (fin s zero e) p i P h .1) ∙ zero-l (up e) (2 ^ 1074)))
 minus-sgn (fin s (suc m) e) y p i P h k = go y k (Is-plus (fin s (suc m) e) p i P h .0)
   where
     tell : Float → Type 0
@@ -189,7 +209,9 @@ sized : (k : ℕ) → suc k ≤ 1000 → (a : Float) → T (fits binary64 a) →
 sized k short nan t w b = absurd (w .real)
 sized k short (inf s) t w b = absurd (w .real)
 sized k short (fin false m e) t w b = inl (normal k short (fin false m e) (fits→held binary64 (fin false m e) t tt) tt w b)
-sized k short (fin true m e) t w b = inr (normal k short (neg (fin true m e)) (fits→held binary64 (neg (fin true m e)) (neg-fits binary64 (fin true m e) t) (neg-finite (fin true m e) tt)) (upright m e) (neg-within w) (neg-beyond b))
+sized k short (fin true m e) t w b = inr (normal k short (neg (fin true m e))
+    (fits→held binary64 (neg (fin true m e)) (neg-fits binary64 (fin true m e) t) (neg-finite (fin true m e) tt)) (upright m e) (neg-within w)
+    (neg-beyond b))
 
 flat : (e : ℤ) → up e * down e ≡ 1 → e ≡ pos 0
 flat (pos zero) h = refl
@@ -231,8 +253,8 @@ high-sgn {k} a r = go (r .kind)
         let u = x .down in
         let l = x .lo in
         let h = halves (neg a) (x .A) (x .i) (x .lo) (x .hi) (omega arith) (x .is) in
-        minus-sgn (high-half (neg a)) (high-half a) (h .0) (x .i + 27) (h .1 .some) (h .1 .top) (high-opp (back a) .turned)
-        ∙ sym (minus-sgn (neg a) a (x .A) (x .i) (omega arith) (x .is) (back a .turned))
+        minus-sgn (high-half (neg a)) (high-half a) (h .0) (x .i + 27) (h .1 .some) (h .1 .top) (high-opp (back a) .negated)
+        ∙ sym (minus-sgn (neg a) a (x .A) (x .i) (omega arith) (x .is) (back a .negated))
 
     go : T (isZero a) ⊎ Beyond (fin false 1 (negsuc k)) a → negative (high-half a) ≡ negative a
     go (inl z) = at-zero a (r .ok) z
@@ -259,12 +281,14 @@ big a (inr x) =
       A = x .A;
       i = x .i;
       far = x .up;
-      is = ap (λ (z : ℕ). z * 2 ^ 1074) (sym (neg-parts a .0)) ∙ Is-plus (neg a) (x .A) (x .i) (omega arith) (x .is) .1 ∙ ap (λ (z : ℕ). x .A * 2 ^ x .i * z) (neg-parts a .1);
+      is = ap (λ (z : ℕ). z * 2 ^ 1074) (sym (neg-parts a .0)) ∙ Is-plus (neg a) (x .A) (x .i) (omega arith) (x .is) .1
+          ∙ ap (λ (z : ℕ). x .A * 2 ^ x .i * z) (neg-parts a .1);
     }
 
 product-units : (n1 d1 n2 d2 u P Q W : ℕ) → 0 < u → n1 * u ≡ P * d1 → n2 * u ≡ Q * d2 → P * Q ≡ W * u → n1 * n2 * u ≡ W * (d1 * d2)
 product-units n1 d1 n2 d2 u P Q W U h k e =
-    eq-of-mul-eq-mul-right u U (n1 * n2 * u) (W * (d1 * d2)) (one ∙ ap₂ (λ (x y : ℕ). x * y) h k ∙ two ∙ ap (λ (z : ℕ). z * (d1 * d2)) e ∙ mul-right-comm W u (d1 * d2))
+    eq-of-mul-eq-mul-right u U (n1 * n2 * u) (W * (d1 * d2)) (one ∙ ap₂ (λ (x y : ℕ). x * y) h k ∙ two ∙ ap (λ (z : ℕ). z * (d1 * d2)) e
+    ∙ mul-right-comm W u (d1 * d2))
   where
     one : n1 * n2 * u * u ≡ n1 * u * (n2 * u)
     one = simp (mul-assoc, mul-left-comm)
@@ -281,7 +305,9 @@ big-product a b near x y =
     let W = x .A * y .A * 2 ^ k in (
       W,
       product-units (num a) (den a) (num b) (den b) (2 ^ 1074) (x .A * 2 ^ x .i) (y .A * 2 ^ y .i) W (pow-pos 1074) (x .is) (y .is)
-          (native.Mathlib.Nat.mul-mul-mul-comm (x .A) (2 ^ x .i) (y .A) (2 ^ y .i) ∙ ap (λ (z : ℕ). x .A * y .A * z) (sym (pow-add 2 (x .i) (y .i)) ∙ ap (λ (z : ℕ). 2 ^ z) e ∙ pow-add 2 k 1074) ∙ sym (mul-assoc (x .A * y .A) (2 ^ k) (2 ^ 1074))),
+          (native.Mathlib.Nat.mul-mul-mul-comm (x .A) (2 ^ x .i) (y .A) (2 ^ y .i)
+          ∙ ap (λ (z : ℕ). x .A * y .A * z) (sym (pow-add 2 (x .i) (y .i)) ∙ ap (λ (z : ℕ). 2 ^ z) e ∙ pow-add 2 k 1074)
+          ∙ sym (mul-assoc (x .A * y .A) (2 ^ k) (2 ^ 1074))),
     )
 
 zero-num : (a : Float) → T (isZero a) → num a ≡ 0
@@ -296,7 +322,8 @@ whole-product {k} {l} a b near x y = go (x .kind) (y .kind)
     no-product : num a * num b ≡ 0 → (W : ℕ) × (num a * num b * 2 ^ 1074 ≡ W * (den a * den b))
     no-product h = (0, ap (λ (z : ℕ). z * 2 ^ 1074) h ∙ zero-mul (2 ^ 1074) ∙ sym (zero-mul (den a * den b)))
 
-    go : T (isZero a) ⊎ Beyond (fin false 1 (negsuc k)) a → T (isZero b) ⊎ Beyond (fin false 1 (negsuc l)) b → (W : ℕ) × (num a * num b * 2 ^ 1074 ≡ W * (den a * den b))
+    go : T (isZero a) ⊎ Beyond (fin false 1 (negsuc k)) a → T (isZero b) ⊎ Beyond (fin false 1 (negsuc l)) b
+        → (W : ℕ) × (num a * num b * 2 ^ 1074 ≡ W * (den a * den b))
     go (inl z) k = no-product (ap (λ (v : ℕ). v * num b) (zero-num a z) ∙ zero-mul (num b))
     go (inr u) (inl z) = no-product (ap (λ (v : ℕ). num a * v) (zero-num b z) ∙ mul-zero (num a))
     go (inr u) (inr v) = big-product a b near (big a (sized k (x .short) a (x .ok) (x .size) u)) (big b (sized l (y .short) b (y .ok) (y .size) v))
@@ -312,13 +339,19 @@ mul-zero-l : (y : Float) → T (finite y) → Like (mul binary64 zeroF y) zeroF
 unfolding mul strip
 mul-zero-l nan p = absurd p
 mul-zero-l (inf t) p = absurd p
-mul-zero-l (fin t n d) p = record { same = round-zero binary64 (unlike false t) (0 * 1 * (n * up d)) (1 * down d) (mul-pos (zero-lt-suc 0) (down-pos d)) (zero-l 1 (n * up d)) }
+mul-zero-l (fin t n d) p = record {
+  same = round-zero binary64 (unlike false t) (0 * 1 * (n * up d)) (1 * down d)
+      (mul-pos (zero-lt-suc 0) (down-pos d)) (zero-l 1 (n * up d));
+}
 
 mul-zero-r : (x : Float) → T (finite x) → Like (mul binary64 x zeroF) zeroF
 unfolding mul strip
 mul-zero-r nan p = absurd p
 mul-zero-r (inf t) p = absurd p
-mul-zero-r (fin s m e) p = record { same = round-zero binary64 (unlike s false) (m * up e * (0 * 1)) (down e * 1) (mul-pos (down-pos e) (zero-lt-suc 0)) (zero-r (m * up e) 1) }
+mul-zero-r (fin s m e) p = record {
+  same = round-zero binary64 (unlike s false) (m * up e * (0 * 1)) (down e * 1)
+      (mul-pos (down-pos e) (zero-lt-suc 0)) (zero-r (m * up e) 1);
+}
 
 halves-zero : (high-half zeroF ≡ zeroF) × (low-half zeroF ≡ zeroF)
 unfolding mul sub
@@ -331,7 +364,8 @@ sums-zero : Like (add binary64 (add binary64 (add binary64 (sub binary64 zeroF z
 unfolding sub strip
 sums-zero = record { same = refl }
 
-all-zero : {v p w x y : Float} → Like v zeroF → Like p zeroF → Like w zeroF → Like x zeroF → Like y zeroF → Like (add binary64 (add binary64 (add binary64 (sub binary64 v p) w) x) y) zeroF
+all-zero : {v p w x y : Float} → Like v zeroF → Like p zeroF → Like w zeroF → Like x zeroF → Like y zeroF
+    → Like (add binary64 (add binary64 (add binary64 (sub binary64 v p) w) x) y) zeroF
 all-zero h i j k l = like-trans (add-like binary64 (add-like binary64 (add-like binary64 (sub-like binary64 h i) j) k) l) sums-zero
 
 dekker-zero-l : (a b : Float) → T (isZero a) → Within most b → Like (dekker a b) zeroF
@@ -339,16 +373,20 @@ dekker-zero-l a b z w =
     let h = zero-like a z in
     let hh = of-eq (halves-zero .0) (high-like h) in
     let hr = of-eq (halves-zero .1) (low-like h) in
-    let at : (x y : Float) → Like x zeroF → T (finite y) → Like (mul binary64 x y) zeroF = λ x y k p. like-trans (mul-like binary64 k (like-refl y)) (mul-zero-l y p) in
-    all-zero (at (high-half a) (high-half b) hh (high-within w .real)) (at a b h (w .real)) (at (high-half a) (low-half b) hh (low-within w .real)) (at (low-half a) (high-half b) hr (high-within w .real)) (at (low-half a) (low-half b) hr (low-within w .real))
+    let at : (x y : Float) → Like x zeroF → T (finite y) → Like (mul binary64 x y) zeroF = λ x y k p. like-trans (mul-like binary64 k (like-refl y))
+    (mul-zero-l y p) in
+    all-zero (at (high-half a) (high-half b) hh (high-within w .real)) (at a b h (w .real)) (at (high-half a) (low-half b) hh (low-within w .real))
+    (at (low-half a) (high-half b) hr (high-within w .real)) (at (low-half a) (low-half b) hr (low-within w .real))
 
 dekker-zero-r : (a b : Float) → T (isZero b) → Within most a → Like (dekker a b) zeroF
 dekker-zero-r a b z w =
     let h = zero-like b z in
     let hh = of-eq (halves-zero .0) (high-like h) in
     let hr = of-eq (halves-zero .1) (low-like h) in
-    let at : (x y : Float) → Like y zeroF → T (finite x) → Like (mul binary64 x y) zeroF = λ x y k p. like-trans (mul-like binary64 (like-refl x) k) (mul-zero-r x p) in
-    all-zero (at (high-half a) (high-half b) hh (high-within w .real)) (at a b h (w .real)) (at (high-half a) (low-half b) hr (high-within w .real)) (at (low-half a) (high-half b) hh (low-within w .real)) (at (low-half a) (low-half b) hr (low-within w .real))
+    let at : (x y : Float) → Like y zeroF → T (finite x) → Like (mul binary64 x y) zeroF = λ x y k p. like-trans (mul-like binary64 (like-refl x) k)
+    (mul-zero-r x p) in
+    all-zero (at (high-half a) (high-half b) hh (high-within w .real)) (at a b h (w .real)) (at (high-half a) (low-half b) hr (high-within w .real))
+    (at (low-half a) (high-half b) hh (low-within w .real)) (at (low-half a) (low-half b) hr (low-within w .real))
 
 -- 0 plus ±0
 plus-zeros : (s : Bool) (X c : ℕ) (z : Float) → 0 < c → X ≡ 0 → z ≡ neg zeroF → Alike (plus binary64 s X c z) zeroF
@@ -362,13 +400,19 @@ by-parts-zero-l : (y : Float) → T (finite y) → Like (by-parts binary64 zeroF
 unfolding by-parts strip
 by-parts-zero-l nan p = absurd p
 by-parts-zero-l (inf t) p = absurd p
-by-parts-zero-l (fin t n d) p = record { same = plus-zeros (unlike false t) (0 * 1 * (n * up d)) (1 * down d) (neg zeroF) (mul-pos (zero-lt-suc 0) (down-pos d)) (zero-l 1 (n * up d)) refl }
+by-parts-zero-l (fin t n d) p = record {
+  same = plus-zeros (unlike false t) (0 * 1 * (n * up d)) (1 * down d) (neg zeroF)
+      (mul-pos (zero-lt-suc 0) (down-pos d)) (zero-l 1 (n * up d)) refl;
+}
 
 by-parts-zero-r : (x : Float) → T (finite x) → Like (by-parts binary64 x zeroF (neg zeroF)) zeroF
 unfolding by-parts strip
 by-parts-zero-r nan p = absurd p
 by-parts-zero-r (inf t) p = absurd p
-by-parts-zero-r (fin s m e) p = record { same = plus-zeros (unlike s false) (m * up e * (0 * 1)) (down e * 1) (neg zeroF) (mul-pos (down-pos e) (zero-lt-suc 0)) (zero-r (m * up e) 1) refl }
+by-parts-zero-r (fin s m e) p = record {
+  same = plus-zeros (unlike s false) (m * up e * (0 * 1)) (down e * 1) (neg zeroF)
+      (mul-pos (down-pos e) (zero-lt-suc 0)) (zero-r (m * up e) 1) refl;
+}
 
 fused-zero-l : (a b : Float) → T (isZero a) → T (finite b) → Like (fused a b) zeroF
 fused-zero-l a b z p =
@@ -401,8 +445,10 @@ unstripped (fin false (suc m) e) p t = refl
 sum-fits : (s : Bool) (a : ℕ) (t : Bool) (b c : ℕ) → T (fits binary64 (sum binary64 s a t b c))
 unfolding sum
 sum-fits s a t b c =
-    cond-fits binary64 (Bool·beq s t) (round binary64 s (a + b) c) (cond (ltb a b) (round binary64 t (b - a) c) (round binary64 (s && ltb b a) (a - b) c)) (round-fits binary64 s (a + b) c)
-    (cond-fits binary64 (ltb a b) (round binary64 t (b - a) c) (round binary64 (s && ltb b a) (a - b) c) (round-fits binary64 t (b - a) c) (round-fits binary64 (s && ltb b a) (a - b) c))
+    cond-fits binary64 (Bool·beq s t) (round binary64 s (a + b) c)
+    (cond (ltb a b) (round binary64 t (b - a) c) (round binary64 (s && ltb b a) (a - b) c)) (round-fits binary64 s (a + b) c)
+    (cond-fits binary64 (ltb a b) (round binary64 t (b - a) c) (round binary64 (s && ltb b a) (a - b) c) (round-fits binary64 t (b - a) c)
+    (round-fits binary64 (s && ltb b a) (a - b) c))
 
 plus-fits : (s : Bool) (X c : ℕ) (z : Float) → T (fits binary64 (plus binary64 s X c z))
 unfolding plus
@@ -422,7 +468,8 @@ by-parts-fits (fin s m e) (fin t n d) z p q = plus-fits (unlike s t) (m * up e *
 pub dekker-is-fused : {k l : ℕ} (a b : Float) → suc k + suc l ≤ 970 → Ranged k a → Ranged l b → dekker a b ≡ mul-add binary64 a b (neg (mul binary64 a b))
 dekker-is-fused a b near x y =
     let W = whole-product a b near x y in
-    sym (unstripped (dekker a b) (dekker-nz a b (x .size) (y .size) (high-sgn a x) (high-sgn b y)) (add-fits binary64 (step3 a b) (mul binary64 (low-half a) (low-half b))))
+    sym (unstripped (dekker a b) (dekker-nz a b (x .size) (y .size) (high-sgn a x) (high-sgn b y))
+    (add-fits binary64 (step3 a b) (mul binary64 (low-half a) (low-half b))))
     ∙ numbers-equal a b near x y .same
     ∙ unstripped (fused a b) (fused-nz a b (W .0) (x .size) (y .size) (W .1)) (by-parts-fits a b (neg (mul binary64 a b)) (x .size .real) (y .size .real))
     ∙ mul-add-is binary64 a b (neg (mul binary64 a b))

@@ -1,4 +1,5 @@
--- Dekker's product: for a = A * 2 ^ i and b = B * 2 ^ j units with A and B of 53 digits, every step of (((ah·bh − p) + ah·bl) + al·bh) + al·bl but the last is exact,
+-- Dekker's product: for a = A * 2 ^ i and b = B * 2 ^ j units with A and B of 53 digits, every
+-- step of (((ah·bh − p) + ah·bl) + al·bh) + al·bl but the last is exact,
 -- and the last rounds the exact error a·b − p, which the fused product of a, b and −p rounds too.
 use mathlib.Core.Path.{_≡_, sym, ap₂, _∙_, subst}
 use Prim.Native.Nat.{ℕ, _+_, _-_, _*_, _^_, _≤_, _<_}
@@ -46,14 +47,17 @@ corner A H B G E a b c d = go (leb H A) (leb G B) (leb→le H A) (nleb→lt H A)
         let v : G ≤ B = r tt in
         let eA : A ≡ H + (A - H) = omega arith in
         let eB : B ≡ G + (B - G) = omega arith in
-        subst (λ (z : ℕ). z * B + H * G ≤ z * G + H * B + E * E) (sym eA) (subst (λ (z : ℕ). (H + (A - H)) * z + H * G ≤ (H + (A - H)) * G + H * z + E * E) (sym eB) (grow H (A - H) G (B - G) (omega arith) (omega arith)))
+        subst (λ (z : ℕ). z * B + H * G ≤ z * G + H * B + E * E) (sym eA)
+        (subst (λ (z : ℕ). (H + (A - H)) * z + H * G ≤ (H + (A - H)) * G + H * z + E * E) (sym eB)
+        (grow H (A - H) G (B - G) (omega arith) (omega arith)))
     go false false p q r s =
         let u : A < H = q tt in
         let v : B < G = s tt in
         let eH : H ≡ A + (H - A) = omega arith in
         let eG : G ≡ B + (G - B) = omega arith in
         let g = grow A (H - A) B (G - B) (omega arith) (omega arith) in
-        let g' : H * G + A * B ≤ H * B + A * G + E * E = subst (λ (z : ℕ). z * G + A * B ≤ z * B + A * G + E * E) (sym eH) (subst (λ (z : ℕ). (A + (H - A)) * z + A * B ≤ (A + (H - A)) * B + A * z + E * E) (sym eG) g) in
+        let g' : H * G + A * B ≤ H * B + A * G + E * E = subst (λ (z : ℕ). z * G + A * B ≤ z * B + A * G + E * E) (sym eH)
+        (subst (λ (z : ℕ). (A + (H - A)) * z + A * B ≤ (A + (H - A)) * B + A * z + E * E) (sym eG) g) in
         omega arith
     go true false p q r s =
         let u : H ≤ A = p tt in
@@ -61,7 +65,8 @@ corner A H B G E a b c d = go (leb H A) (leb G B) (leb→le H A) (nleb→lt H A)
         let eA : A ≡ H + (A - H) = omega arith in
         let eG : G ≡ B + (G - B) = omega arith in
         let g = fall H (A - H) B (G - B) in
-        let g' : A * B + H * G ≤ A * G + H * B = subst (λ (z : ℕ). z * B + H * G ≤ z * G + H * B) (sym eA) (subst (λ (z : ℕ). (H + (A - H)) * B + H * z ≤ (H + (A - H)) * z + H * B) (sym eG) g) in
+        let g' : A * B + H * G ≤ A * G + H * B = subst (λ (z : ℕ). z * B + H * G ≤ z * G + H * B) (sym eA)
+        (subst (λ (z : ℕ). (H + (A - H)) * B + H * z ≤ (H + (A - H)) * z + H * B) (sym eG) g) in
         omega arith
     go false true p q r s =
         let u : A < H = q tt in
@@ -69,7 +74,8 @@ corner A H B G E a b c d = go (leb H A) (leb G B) (leb→le H A) (nleb→lt H A)
         let eH : H ≡ A + (H - A) = omega arith in
         let eB : B ≡ G + (B - G) = omega arith in
         let g = fall A (H - A) G (B - G) in
-        let g' : H * G + A * B ≤ H * B + A * G = subst (λ (z : ℕ). z * G + A * B ≤ z * B + A * G) (sym eH) (subst (λ (z : ℕ). (A + (H - A)) * G + A * z ≤ (A + (H - A)) * z + A * G) (sym eB) g) in
+        let g' : H * G + A * B ≤ H * B + A * G = subst (λ (z : ℕ). z * G + A * B ≤ z * B + A * G) (sym eH)
+        (subst (λ (z : ℕ). (A + (H - A)) * G + A * z ≤ (A + (H - A)) * z + A * G) (sym eB) g) in
         omega arith
 
 -- ---- the product, rounded: a multiple of 2 ^ 52 within 2 ^ 52
@@ -78,7 +84,8 @@ pub record Product (a b : Float) (A B k : ℕ) : Type 0 where
   pub is : Is binary64 (mul binary64 a b) (Q * 2 ^ 52) 0 k
   pub close : Apart (Q * 2 ^ 52) (A * B) (2 ^ 52)
 
-pub product : (a b : Float) (A B i j k : ℕ) → i + j ≡ 1074 + k → k < 1900 → 2 ^ 52 ≤ A → A < 2 ^ 53 → 2 ^ 52 ≤ B → B < 2 ^ 53 → Is binary64 a A 0 i → Is binary64 b B 0 j → Product a b A B k
+pub product : (a b : Float) (A B i j k : ℕ) → i + j ≡ 1074 + k → k < 1900 → 2 ^ 52 ≤ A → A < 2 ^ 53 → 2 ^ 52 ≤ B → B < 2 ^ 53 → Is binary64 a A 0 i
+    → Is binary64 b B 0 j → Product a b A B k
 product a b A B i j k e r la ha lb hb x y = go (ltb (A * B) (2 ^ 105)) (ltb→lt (A * B) (2 ^ 105)) (nltb→le (A * B) (2 ^ 105))
   where
     lo : 2 ^ 104 ≤ A * B
@@ -103,7 +110,8 @@ product a b A B i j k e r la ha lb hb x y = go (ltb (A * B) (2 ^ 105)) (ltb→lt
         let n = closest-near (A * B) (2 ^ 53) (pow-pos 53) in
         record {
           Q = closest (A * B) (2 ^ 53) * 2;
-          is = subst (λ (z : ℕ). Is binary64 (mul binary64 a b) z 0 k) (sym (mul-assoc (closest (A * B) (2 ^ 53)) 2 (2 ^ 52))) (mul-near binary64 a b A B 53 i j k e (v tt) hi (omega arith) x y);
+          is = subst (λ (z : ℕ). Is binary64 (mul binary64 a b) z 0 k) (sym (mul-assoc (closest (A * B) (2 ^ 53)) 2 (2 ^ 52)))
+              (mul-near binary64 a b A B 53 i j k e (v tt) hi (omega arith) x y);
           close = record { over = omega arith; under = omega arith };
         }
 
@@ -115,7 +123,8 @@ pub record Numbers (A B h g : ℕ) : Type 0 where
   pub Ag : Apart (A * g) (h * g * 2 ^ 27) (2 ^ 52)
   pub tail : Apart (A * B + h * g * 2 ^ 54) (A * g * 2 ^ 27 + h * B * 2 ^ 27) (2 ^ 52)
 
-pub numbers : (A B h g : ℕ) → B < 2 ^ 53 → h ≤ 2 ^ 26 → g ≤ 2 ^ 26 → A ≤ h * 2 ^ 27 + 2 ^ 26 → h * 2 ^ 27 ≤ A + 2 ^ 26 → B ≤ g * 2 ^ 27 + 2 ^ 26 → g * 2 ^ 27 ≤ B + 2 ^ 26 → Numbers A B h g
+pub numbers : (A B h g : ℕ) → B < 2 ^ 53 → h ≤ 2 ^ 26 → g ≤ 2 ^ 26 → A ≤ h * 2 ^ 27 + 2 ^ 26 → h * 2 ^ 27 ≤ A + 2 ^ 26 → B ≤ g * 2 ^ 27 + 2 ^ 26
+    → g * 2 ^ 27 ≤ B + 2 ^ 26 → Numbers A B h g
 numbers A B h g hb fh fg ao au bo bu =
     let q1 : h * (g * 2 ^ 27) ≡ h * g * 2 ^ 27 = sym (mul-assoc h g (2 ^ 27)) in
     let q2 : h * 2 ^ 27 * g ≡ h * g * 2 ^ 27 = mul-right-comm h (2 ^ 27) g in
@@ -154,7 +163,8 @@ step3 a b = add binary64 (step2 a b) (mul binary64 (low-half a) (high-half b))
 abbrev pub dekker : Float → Float → Float
 dekker a b = add binary64 (step3 a b) (mul binary64 (low-half a) (low-half b))
 
-module _ (a b : Float) (A B i j k h g : ℕ) (e : i + j ≡ 1074 + k) (r : k < 1900) (x : Halves a A i h) (y : Halves b B j g) (N : Numbers A B h g) (p : Product a b A B k) where
+module _ (a b : Float) (A B i j k h g : ℕ) (e : i + j ≡ 1074 + k) (r : k < 1900) (x : Halves a A i h) (y : Halves b B j g) (N : Numbers A B h g)
+    (p : Product a b A B k) where
   pub first : Is binary64 (step1 a b) (h * g * 4) (p .Q) (k + 27 + 25)
   first =
       let n0 = N .hg in
@@ -164,10 +174,13 @@ module _ (a b : Float) (A B i j k h g : ℕ) (e : i + j ≡ 1074 + k) (r : k < 1
       let hh : Is binary64 (mul binary64 (high-half a) (high-half b)) (h * g * 4) 0 (k + 27 + 25) =
       Is-shift binary64 (mul binary64 (high-half a) (high-half b)) ((h * g + 0 * 0) * 2 ^ 2) ((h * 0 + 0 * g) * 2 ^ 2) (h * g * 4) 0 (k + 27 + 25) (omega arith)
       (Is-unit binary64 (mul binary64 (high-half a) (high-half b)) (h * g + 0 * 0) (h * 0 + 0 * g) (k + 27 + 25) 2
-      (Is-mul binary64 (high-half a) (high-half b) h 0 g 0 (i + 27) (j + 27) (k + 27 + 25 + 2) (omega arith) (omega arith) (omega arith) (omega arith) (x .top) (y .top))) in
-      let pp : Is binary64 (mul binary64 a b) (p .Q) 0 (k + 27 + 25) = Is-at binary64 (mul binary64 a b) (p .Q) 0 (k + 52) (k + 27 + 25) (omega arith) (Is-ununit binary64 (mul binary64 a b) (p .Q) 0 k 52 (p .is)) in
+      (Is-mul binary64 (high-half a) (high-half b) h 0 g 0 (i + 27) (j + 27) (k + 27 + 25 + 2) (omega arith) (omega arith) (omega arith) (omega arith)
+      (x .top) (y .top))) in
+      let pp : Is binary64 (mul binary64 a b) (p .Q) 0 (k + 27 + 25) = Is-at binary64 (mul binary64 a b) (p .Q) 0 (k + 52) (k + 27 + 25) (omega arith)
+      (Is-ununit binary64 (mul binary64 a b) (p .Q) 0 k 52 (p .is)) in
       Is-shift binary64 (step1 a b) (h * g * 4 + 0) (0 + p .Q) (h * g * 4) (p .Q) (k + 27 + 25) (omega arith)
-      (Is-sub binary64 (mul binary64 (high-half a) (high-half b)) (mul binary64 a b) (h * g * 4) 0 (p .Q) 0 (k + 27 + 25) (omega arith) (omega arith) (omega arith) hh pp)
+      (Is-sub binary64 (mul binary64 (high-half a) (high-half b)) (mul binary64 a b) (h * g * 4) 0 (p .Q) 0 (k + 27 + 25) (omega arith) (omega arith)
+      (omega arith) hh pp)
 
   pub second : Is binary64 (step2 a b) (h * B) (p .Q * 2 ^ 25) (k + 27)
   second =
@@ -176,9 +189,12 @@ module _ (a b : Float) (A B i j k h g : ℕ) (e : i + j ≡ 1074 + k) (r : k < 1
       let n3 = p .close in
       let q1 : h * (g * 2 ^ 27) ≡ h * g * 2 ^ 27 = sym (mul-assoc h g (2 ^ 27)) in
       let f1 = Is-unit binary64 (step1 a b) (h * g * 4) (p .Q) (k + 27) 25 first in
-      let f2 = Is-mul binary64 (high-half a) (low-half b) h 0 B (g * 2 ^ 27) (i + 27) j (k + 27) (omega arith) (omega arith) (omega arith) (omega arith) (x .top) (y .low) in
-      Is-shift binary64 (step2 a b) (h * g * 4 * 2 ^ 25 + (h * B + 0 * (g * 2 ^ 27))) (p .Q * 2 ^ 25 + (h * (g * 2 ^ 27) + 0 * B)) (h * B) (p .Q * 2 ^ 25) (k + 27) (omega arith)
-      (Is-add binary64 (step1 a b) (mul binary64 (high-half a) (low-half b)) (h * g * 4 * 2 ^ 25) (p .Q * 2 ^ 25) (h * B + 0 * (g * 2 ^ 27)) (h * (g * 2 ^ 27) + 0 * B) (k + 27) (omega arith) (omega arith) (omega arith) f1 f2)
+      let f2 = Is-mul binary64 (high-half a) (low-half b) h 0 B (g * 2 ^ 27) (i + 27) j (k + 27) (omega arith) (omega arith) (omega arith)
+      (omega arith) (x .top) (y .low) in
+      Is-shift binary64 (step2 a b) (h * g * 4 * 2 ^ 25 + (h * B + 0 * (g * 2 ^ 27))) (p .Q * 2 ^ 25 + (h * (g * 2 ^ 27) + 0 * B)) (h * B)
+      (p .Q * 2 ^ 25) (k + 27) (omega arith)
+      (Is-add binary64 (step1 a b) (mul binary64 (high-half a) (low-half b)) (h * g * 4 * 2 ^ 25) (p .Q * 2 ^ 25) (h * B + 0 * (g * 2 ^ 27))
+      (h * (g * 2 ^ 27) + 0 * B) (k + 27) (omega arith) (omega arith) (omega arith) f1 f2)
 
   pub third : Is binary64 (step3 a b) (h * B + A * g) (p .Q * 2 ^ 25 + h * g * 2 ^ 27) (k + 27)
   third =
@@ -186,9 +202,12 @@ module _ (a b : Float) (A B i j k h g : ℕ) (e : i + j ≡ 1074 + k) (r : k < 1
       let n2 = N .Ag in
       let n3 = p .close in
       let q2 : h * 2 ^ 27 * g ≡ h * g * 2 ^ 27 = mul-right-comm h (2 ^ 27) g in
-      let f2 = Is-mul binary64 (low-half a) (high-half b) A (h * 2 ^ 27) g 0 i (j + 27) (k + 27) (omega arith) (omega arith) (omega arith) (omega arith) (x .low) (y .top) in
-      Is-shift binary64 (step3 a b) (h * B + (A * g + h * 2 ^ 27 * 0)) (p .Q * 2 ^ 25 + (A * 0 + h * 2 ^ 27 * g)) (h * B + A * g) (p .Q * 2 ^ 25 + h * g * 2 ^ 27) (k + 27) (omega arith)
-      (Is-add binary64 (step2 a b) (mul binary64 (low-half a) (high-half b)) (h * B) (p .Q * 2 ^ 25) (A * g + h * 2 ^ 27 * 0) (A * 0 + h * 2 ^ 27 * g) (k + 27) (omega arith) (omega arith) (omega arith) second f2)
+      let f2 = Is-mul binary64 (low-half a) (high-half b) A (h * 2 ^ 27) g 0 i (j + 27) (k + 27) (omega arith) (omega arith) (omega arith)
+      (omega arith) (x .low) (y .top) in
+      Is-shift binary64 (step3 a b) (h * B + (A * g + h * 2 ^ 27 * 0)) (p .Q * 2 ^ 25 + (A * 0 + h * 2 ^ 27 * g)) (h * B + A * g)
+      (p .Q * 2 ^ 25 + h * g * 2 ^ 27) (k + 27) (omega arith)
+      (Is-add binary64 (step2 a b) (mul binary64 (low-half a) (high-half b)) (h * B) (p .Q * 2 ^ 25) (A * g + h * 2 ^ 27 * 0) (A * 0 + h * 2 ^ 27 * g)
+      (k + 27) (omega arith) (omega arith) (omega arith) second f2)
 
   pub fourth : Is binary64 (mul binary64 (low-half a) (low-half b)) (A * B + h * 2 ^ 27 * (g * 2 ^ 27)) (A * (g * 2 ^ 27) + h * 2 ^ 27 * B) k
   fourth =

@@ -17,7 +17,8 @@ use Rattle.float.proofs.product_error.Split.{halves}
 use Rattle.float.proofs.product_error.Dekker.{numbers, product, dekker, step3, third, fourth}
 
 -- ---- two fractions of the same number of units are equal
-same-value : (u w P N c p n P' N' c' p' n' : ℕ) → 0 < u → P * u + n * w * c ≡ p * w * c + N * u → P' * u + n' * w * c' ≡ p' * w * c' + N' * u → p + n' ≡ p' + n → P * c' + N' * c ≡ P' * c + N * c'
+same-value : (u w P N c p n P' N' c' p' n' : ℕ) → 0 < u → P * u + n * w * c ≡ p * w * c + N * u → P' * u + n' * w * c' ≡ p' * w * c' + N' * u
+    → p + n' ≡ p' + n → P * c' + N' * c ≡ P' * c + N * c'
 same-value u w P N c p n P' N' c' p' n' U h k e =
     eq-of-mul-eq-mul-right u U (P * c' + N' * c) (P' * c + N * c') (both)
   where
@@ -54,7 +55,8 @@ same-value u w P N c p n P' N' c' p' n' U h k e =
         let c2 : (P' * c + N * c') * u ≡ P' * c * u + N * c' * u = add-mul (P' * c) (N * c') u in
         omega arith
 
-pub positive-equal : (a b : Float) (A B i j k : ℕ) → i + j ≡ 1074 + k → k < 1900 → 2 ^ 52 ≤ A → A < 2 ^ 53 → i < 2000 → 2 ^ 52 ≤ B → B < 2 ^ 53 → j < 2000 → Is binary64 a A 0 i → Is binary64 b B 0 j
+pub positive-equal : (a b : Float) (A B i j k : ℕ) → i + j ≡ 1074 + k → k < 1900 → 2 ^ 52 ≤ A → A < 2 ^ 53 → i < 2000 → 2 ^ 52 ≤ B → B < 2 ^ 53
+    → j < 2000 → Is binary64 a A 0 i → Is binary64 b B 0 j
     → Alike (dekker a b) (by-parts binary64 a b (neg (mul binary64 a b)))
 positive-equal a b A B i j k e r la ha ri lb hb rj x y =
     let hx = halves a A i la ha ri x in
@@ -78,10 +80,14 @@ positive-equal a b A B i j k e r la ha ri lb hb rj x y =
     let P2 = (pl a * pl b + mi a * mi b) * den z + pl z * (den a * den b) in
     let N2 = (pl a * mi b + mi a * pl b) * den z + mi z * (den a * den b) in
     add-srnd binary64 s3 s4 (t .real) (u .real)
-    ∙ srnd-same binary64 P1 N1 (den s3 * den s4) P2 N2 (den a * den b * den z) (mul-pos (den-pos s3) (den-pos s4)) (mul-pos (mul-pos (den-pos a) (den-pos b)) (den-pos z))
-    (same-value (2 ^ 1074) (2 ^ k) P1 N1 (den s3 * den s4) ((h * B + A * g) * 2 ^ 27 + (A * B + h * 2 ^ 27 * (g * 2 ^ 27))) ((p .Q * 2 ^ 25 + h * g * 2 ^ 27) * 2 ^ 27 + (A * (g * 2 ^ 27) + h * 2 ^ 27 * B))
+    ∙ srnd-same binary64 P1 N1 (den s3 * den s4) P2 N2 (den a * den b * den z) (mul-pos (den-pos s3) (den-pos s4))
+    (mul-pos (mul-pos (den-pos a) (den-pos b)) (den-pos z))
+    (same-value (2 ^ 1074) (2 ^ k) P1 N1 (den s3 * den s4) ((h * B + A * g) * 2 ^ 27 + (A * B + h * 2 ^ 27 * (g * 2 ^ 27)))
+    ((p .Q * 2 ^ 25 + h * g * 2 ^ 27) * 2 ^ 27 + (A * (g * 2 ^ 27) + h * 2 ^ 27 * B))
     P2 N2 (den a * den b * den z) (A * B + 0 * 0 + 0) (A * 0 + 0 * B + p .Q * 2 ^ 52) (pow-pos 1074)
-    (sum-eq (2 ^ 1074) (2 ^ k) ((h * B + A * g) * 2 ^ 27) ((p .Q * 2 ^ 25 + h * g * 2 ^ 27) * 2 ^ 27) (den s3) (pl s3) (mi s3) (A * B + h * 2 ^ 27 * (g * 2 ^ 27)) (A * (g * 2 ^ 27) + h * 2 ^ 27 * B) (den s4) (pl s4) (mi s4) (t .value) (u .value))
-    (sum-eq (2 ^ 1074) (2 ^ k) (A * B + 0 * 0) (A * 0 + 0 * B) (den a * den b) (pl a * pl b + mi a * mi b) (pl a * mi b + mi a * pl b) 0 (p .Q * 2 ^ 52) (den z) (pl z) (mi z) (mul-value binary64 a b A 0 B 0 i j k e x y) (m .value))
+    (sum-eq (2 ^ 1074) (2 ^ k) ((h * B + A * g) * 2 ^ 27) ((p .Q * 2 ^ 25 + h * g * 2 ^ 27) * 2 ^ 27) (den s3) (pl s3) (mi s3)
+    (A * B + h * 2 ^ 27 * (g * 2 ^ 27)) (A * (g * 2 ^ 27) + h * 2 ^ 27 * B) (den s4) (pl s4) (mi s4) (t .value) (u .value))
+    (sum-eq (2 ^ 1074) (2 ^ k) (A * B + 0 * 0) (A * 0 + 0 * B) (den a * den b) (pl a * pl b + mi a * mi b) (pl a * mi b + mi a * pl b) 0
+    (p .Q * 2 ^ 52) (den z) (pl z) (mi z) (mul-value binary64 a b A 0 B 0 i j k e x y) (m .value))
     (omega arith))
     ∙ sym (by-parts-srnd binary64 a b z (x .real) (y .real) (m .real))

@@ -1,7 +1,8 @@
 -- When a sum or a product of two values of binary64 is not -0, and the sign of each operation.
 use mathlib.Core.Path.{_≡_, refl, sym, ap, ap₂, _∙_, subst}
 use Prim.Native.Nat.{ℕ, zero, suc, _+_, _-_, _*_, _^_, _≤_, _<_}
-use native.Mathlib.Nat.{le-trans, le-of-eq, lt-of-lt-of-le, lt-irrefl, zero-lt-suc, mul-pos, one-mul, zero-mul, mul-assoc, mul-comm, mul-right-comm, add-mul, mul-sub}
+use native.Mathlib.Nat.{le-trans, le-of-eq, lt-of-lt-of-le, lt-irrefl, zero-lt-suc, mul-pos, one-mul}
+use native.Mathlib.Nat.{zero-mul, mul-assoc, mul-comm, mul-right-comm, add-mul, mul-sub}
 use native.Mathlib.Omega.{arith}
 use mathlib.Core.Logic.{_⊎_, inl, inr}
 use mathlib.Core.Bool.{Bool, true, false, not, _&&_, cond}
@@ -38,14 +39,17 @@ tiny = fin false 1 (negsuc 1073)
 beyond-nz : {B : Float} (x : Float) → 0 < num B → (T (finite x) → Beyond B x) → T (nz x)
 beyond-nz nan p h = tt
 beyond-nz (inf s) p h = tt
-beyond-nz {B} (fin true zero e) p h = absurd (lt-irrefl 0 (lt-of-lt-of-le (mul-pos p (down-pos e)) (le-trans (h tt .size) (le-of-eq (ap (λ (z : ℕ). z * den B) (zero-mul (up e)) ∙ zero-mul (den B))))))
+beyond-nz {B} (fin true zero e) p h = absurd
+    (lt-irrefl 0 (lt-of-lt-of-le (mul-pos p (down-pos e)) (le-trans (h tt .size)
+    (le-of-eq (ap (λ (z : ℕ). z * den B) (zero-mul (up e)) ∙ zero-mul (den B))))))
 beyond-nz (fin true (suc m) e) p h = tt
 beyond-nz (fin false m e) p h = tt
 
 -- a fraction of a unit at least does not round to zero
 round-nz : (s : Bool) (v c : ℕ) → 0 < c → (s ≡ false) ⊎ (c ≤ v * 2 ^ 1074) → T (nz (round binary64 s v c))
 round-nz s v c C (inl e) = subst (λ (z : Bool). T (nz (round binary64 z v c))) (sym e) (plain-nz (round binary64 false v c) (round-plain binary64 v c))
-round-nz s v c C (inr h) = beyond-nz {B = tiny} (round binary64 s v c) (zero-lt-suc 0) (λ r. round-beyond binary64 s v c tiny C tt r (le-trans (le-of-eq (one-mul c)) h))
+round-nz s v c C (inr h) = beyond-nz {B = tiny} (round binary64 s v c) (zero-lt-suc 0)
+    (λ r. round-beyond binary64 s v c tiny C tt r (le-trans (le-of-eq (one-mul c)) h))
 
 -- w whole units, w not 0
 units-ge : (v w c u : ℕ) → 0 < c → 0 < u → 0 < v → v * u ≡ w * c → c ≤ v * u
@@ -64,10 +68,12 @@ module _ (a b c wa wb : ℕ) (C : 0 < c) (ea : a * 2 ^ 1074 ≡ wa * c) (eb : b 
   plus-ge h = units-ge (a + b) (wa + wb) c (2 ^ 1074) C (pow-pos 1074) h (add-mul a b (2 ^ 1074) ∙ ap₂ (λ (x y : ℕ). x + y) ea eb ∙ sym (add-mul wa wb c))
 
   up-ge : a < b → c ≤ (b - a) * 2 ^ 1074
-  up-ge h = units-ge (b - a) (wb - wa) c (2 ^ 1074) C (pow-pos 1074) (omega arith) (minus-mul b a (2 ^ 1074) ∙ ap₂ (λ (x y : ℕ). x - y) eb ea ∙ sym (minus-mul wb wa c))
+  up-ge h = units-ge (b - a) (wb - wa) c (2 ^ 1074) C (pow-pos 1074) (omega arith)
+      (minus-mul b a (2 ^ 1074) ∙ ap₂ (λ (x y : ℕ). x - y) eb ea ∙ sym (minus-mul wb wa c))
 
   down-ge : b < a → c ≤ (a - b) * 2 ^ 1074
-  down-ge h = units-ge (a - b) (wa - wb) c (2 ^ 1074) C (pow-pos 1074) (omega arith) (minus-mul a b (2 ^ 1074) ∙ ap₂ (λ (x y : ℕ). x - y) ea eb ∙ sym (minus-mul wa wb c))
+  down-ge h = units-ge (a - b) (wa - wb) c (2 ^ 1074) C (pow-pos 1074) (omega arith)
+      (minus-mul a b (2 ^ 1074) ∙ ap₂ (λ (x y : ℕ). x - y) ea eb ∙ sym (minus-mul wa wb c))
 
   pub sum-nz : (s t : Bool) → (s ≡ false) ⊎ (t ≡ false) ⊎ (0 < a + b) → T (nz (sum binary64 s a t b c))
   unfolding sum
@@ -93,7 +99,8 @@ pub whole-units : (x : Float) → T (held binary64 x) → (w : ℕ) × (num x * 
 whole-units nan t = absurd t
 whole-units (inf s) t = absurd t
 whole-units (fin s m e) t =
-    let sh = shift e 1074 (leb→le (down e) (2 ^ 1074) (and-l (leb (down e) (2 ^ 1074)) (ltb (m * up e) (2 ^ 1024 * down e)) (and-r (ltb m (2 ^ 53)) (leb (down e) (2 ^ 1074) && ltb (m * up e) (2 ^ 1024 * down e)) t))) in
+    let sh = shift e 1074 (leb→le (down e) (2 ^ 1074) (and-l (leb (down e) (2 ^ 1074)) (ltb (m * up e) (2 ^ 1024 * down e))
+    (and-r (ltb m (2 ^ 53)) (leb (down e) (2 ^ 1074) && ltb (m * up e) (2 ^ 1024 * down e)) t))) in
     (m * 2 ^ (sh .0), mul-assoc m (up e) (2 ^ 1074) ∙ ap (λ (z : ℕ). m * z) (sh .1) ∙ sym (mul-assoc m (2 ^ (sh .0)) (down e)))
 
 pub over-l : (n d u w k : ℕ) → n * u ≡ w * d → n * k * u ≡ w * (d * k)
@@ -117,7 +124,8 @@ add-nz (fin s m e) (inf t) p q h = absurd q
 add-nz (fin s m e) (fin t n d) p q h =
     let wx = whole-units (fin s m e) p in
     let wy = whole-units (fin t n d) q in
-    sum-nz (m * up e * down d) (n * up d * down e) (down e * down d) (wx .0) (wy .0) (mul-pos (down-pos e) (down-pos d)) (over-l (m * up e) (down e) (2 ^ 1074) (wx .0) (down d) (wx .1)) (over-r (n * up d) (down d) (2 ^ 1074) (wy .0) (down e) (wy .1)) s t (go h)
+    sum-nz (m * up e * down d) (n * up d * down e) (down e * down d) (wx .0) (wy .0) (mul-pos (down-pos e) (down-pos d))
+    (over-l (m * up e) (down e) (2 ^ 1074) (wx .0) (down d) (wx .1)) (over-r (n * up d) (down d) (2 ^ 1074) (wy .0) (down e) (wy .1)) s t (go h)
   where
     left : (a b : ℕ) → 0 < a → 0 < a + b
     left a b h = omega arith

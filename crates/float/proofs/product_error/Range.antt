@@ -24,7 +24,11 @@ abbrev low : ℕ → Float
 low k = fin false 1 (negsuc k)
 
 over : (k m : ℕ) (e : ℤ) → le (low k) (fin false m e) ≡ true → Beyond (low k) (fin false m e)
-over k m e h = record { real = tt; size = plain-le (num (low k) * down e) (den (low k)) (num (fin false m e) * den (low k)) (down e) (le→Le (low k) (fin false m e) tt tt (yes-of h) .cross) }
+over k m e h = record {
+  real = tt;
+  size = plain-le (num (low k) * down e) (den (low k)) (num (fin false m e) * den (low k)) (down e)
+      (le→Le (low k) (fin false m e) tt tt (yes-of h) .cross);
+}
 
 none : (s : Bool) (m : ℕ) (e : ℤ) → m ≡ 0 → T (isZero (fin s m e))
 none s m e h = subst (λ (n : ℕ). T (isZero (fin s n e))) (sym h) tt
@@ -36,14 +40,15 @@ sized-is : (k m : ℕ) (e : ℤ) → sized (low k) (fin false m e) ≡ true → 
 unfolding sized
 sized-is k m e h = go (le (fin false m e) most) (le (low k) (fin false m e)) refl refl h
   where
-    go : (a b : Bool) → le (fin false m e) most ≡ a → le (low k) (fin false m e) ≡ b → cond a (cond b true (eq (fin false m e) zero-float)) false ≡ true → Kind k (fin false m e)
+    go : (a b : Bool) → le (fin false m e) most ≡ a → le (low k) (fin false m e) ≡ b
+        → cond a (cond b true (eq (fin false m e) zero-float)) false ≡ true → Kind k (fin false m e)
     go false b p q h = absurd (false≢true h)
     go true true p q h = (under most m e tt tt p, inr (over k m e q))
     go true false p q h = (under most m e tt tt p, inl (none false m e (zero-of false m e (ap (eq (fin false m e)) zero-bits ∙ h))))
 
 -- minus a magnitude has the same size
-turned : (k m : ℕ) (e : ℤ) → Kind k (fin false m e) → Kind k (fin true m e)
-turned k m e h = (record { real = tt; size = h .0 .size }, side (h .1))
+negated : (k m : ℕ) (e : ℤ) → Kind k (fin false m e) → Kind k (fin true m e)
+negated k m e h = (record { real = tt; size = h .0 .size }, side (h .1))
   where
     zero-too : (m : ℕ) → T (isZero (fin false m e)) → T (isZero (fin true m e))
     zero-too zero t = tt
@@ -70,31 +75,39 @@ minus-zero m e h = no-up m e (small (m * up e) (0 * 1 * down e) (ltb-false 0 (m 
 
 kind : (k : ℕ) (x : Float) → in-range (low k) x ≡ true → Kind k x
 unfolding in-range
-kind k nan h = absurd (false≢true (sym nothing ∙ h))
+kind k nan h = absurd (false≢true (sym out-of-range ∙ h))
   where
-    nothing : cond (lt nan zero-float) (sized (low k) (neg nan)) (sized (low k) nan) ≡ false
-    nothing = unfold lt le sized neg eq in refl
-kind k (inf true) h = absurd (false≢true (sym nothing ∙ h))
+    out-of-range : cond (lt nan zero-float) (sized (low k) (neg nan)) (sized (low k) nan) ≡ false
+    out-of-range = unfold lt le sized neg eq in refl
+kind k (inf true) h = absurd (false≢true (sym out-of-range ∙ h))
   where
-    nothing : cond (lt (inf true) zero-float) (sized (low k) (neg (inf true))) (sized (low k) (inf true)) ≡ false
-    nothing = unfold lt le sized neg eq in refl
-kind k (inf false) h = absurd (false≢true (sym nothing ∙ h))
+    out-of-range : cond (lt (inf true) zero-float) (sized (low k) (neg (inf true))) (sized (low k) (inf true)) ≡ false
+    out-of-range = unfold lt le sized neg eq in refl
+kind k (inf false) h = absurd (false≢true (sym out-of-range ∙ h))
   where
-    nothing : cond (lt (inf false) zero-float) (sized (low k) (neg (inf false))) (sized (low k) (inf false)) ≡ false
-    nothing = unfold lt le sized neg eq in refl
+    out-of-range : cond (lt (inf false) zero-float) (sized (low k) (neg (inf false))) (sized (low k) (inf false)) ≡ false
+    out-of-range = unfold lt le sized neg eq in refl
 kind k (fin true m e) h = go (lt (fin true m e) zero-float) refl h
   where
     minus : neg (fin true m e) ≡ fin false m e
     minus = unfold neg in refl
 
-    go : (b : Bool) → lt (fin true m e) zero-float ≡ b → cond b (sized (low k) (neg (fin true m e))) (sized (low k) (fin true m e)) ≡ true → Kind k (fin true m e)
-    go true p h = turned k m e (sized-is k m e (ap (sized (low k)) (sym minus) ∙ h))
+    go : (b : Bool) → lt (fin true m e) zero-float ≡ b → cond b (sized (low k) (neg (fin true m e))) (sized (low k) (fin true m e)) ≡ true
+        → Kind k (fin true m e)
+    go true p h = negated k m e (sized-is k m e (ap (sized (low k)) (sym minus) ∙ h))
     go false p h =
-        let z = minus-zero m e p in
-        (record { real = tt; size = subst (λ (n : ℕ). n * up e * den most ≤ num most * down e) (sym z) (le-trans (le-of-eq (ap (λ (n : ℕ). n * den most) (zero-mul (up e)) ∙ zero-mul (den most))) zero-le) }, inl (none true m e z))
+        let z = minus-zero m e p in (
+          record {
+            real = tt;
+            size = subst (λ (n : ℕ). n * up e * den most ≤ num most * down e) (sym z)
+                (le-trans (le-of-eq (ap (λ (n : ℕ). n * den most) (zero-mul (up e)) ∙ zero-mul (den most))) zero-le);
+          },
+          inl (none true m e z),
+        )
 kind k (fin false m e) h = go (lt (fin false m e) zero-float) refl h
   where
-    go : (b : Bool) → lt (fin false m e) zero-float ≡ b → cond b (sized (low k) (neg (fin false m e))) (sized (low k) (fin false m e)) ≡ true → Kind k (fin false m e)
+    go : (b : Bool) → lt (fin false m e) zero-float ≡ b → cond b (sized (low k) (neg (fin false m e))) (sized (low k) (fin false m e)) ≡ true
+        → Kind k (fin false m e)
     go true p h = absurd (below-zero m e p)
     go false p h = sized-is k m e h
 

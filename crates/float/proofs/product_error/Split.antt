@@ -1,4 +1,5 @@
--- Veltkamp's split of a binary64 value by 2 ^ 27 + 1 is exact. For a = A * 2 ^ i units with 2 ^ 52 ≤ A < 2 ^ 53 the high half is h * 2 ^ 27 * 2 ^ i units with h ≤ 2 ^ 26,
+-- Veltkamp's split of a binary64 value by 2 ^ 27 + 1 is exact. For a = A * 2 ^ i units with 2 ^ 52
+-- ≤ A < 2 ^ 53 the high half is h * 2 ^ 27 * 2 ^ i units with h ≤ 2 ^ 26,
 -- and the low half is the rest, A - h * 2 ^ 27, of size at most 2 ^ 26.
 use mathlib.Core.Path.{_≡_, refl, sym, subst}
 use Prim.Native.Nat.{ℕ, suc, _+_, _-_, _*_, _^_, _≤_, _<_}
@@ -61,7 +62,8 @@ scaled-is a A i lo hi r h = go (ltb (134217729 * A) (2 ^ 80)) (ltb→lt (1342177
         let n = closest-near (134217729 * A) (2 ^ 28) (pow-pos 28) in
         record {
           K = q * 2;
-          is = subst (λ (z : ℕ). Is binary64 (scaled a) z 0 i) (sym (mul-assoc q 2 (2 ^ 27))) (mul-near binary64 splitter a 134217729 A 28 1074 i i refl u (omega arith) (omega arith) splitter-is h);
+          is = subst (λ (z : ℕ). Is binary64 (scaled a) z 0 i) (sym (mul-assoc q 2 (2 ^ 27)))
+              (mul-near binary64 splitter a 134217729 A 28 1074 i i refl u (omega arith) (omega arith) splitter-is h);
           over = omega arith;
           under = omega arith;
           least = λ (e : A ≡ 2 ^ 52). omega arith;
@@ -122,7 +124,8 @@ less-is a A i lo hi r h s = go (ltb Z (2 ^ 80)) (ltb→lt Z (2 ^ 80)) (nltb→le
         let e : q * 2 ≡ 2 ^ 53 = even q (omega arith) (omega arith) in
         record {
           D = q * 2;
-          is = subst (λ (z : ℕ). Is binary64 (sub binary64 (scaled a) a) z 0 i) (sym (mul-assoc q 2 (2 ^ 27))) (sub-near binary64 (scaled a) a (s .K * 2 ^ 27) A (s .K * 2 ^ 27 - A) 28 i eq w (omega arith) (omega arith) (s .is) h);
+          is = subst (λ (z : ℕ). Is binary64 (sub binary64 (scaled a) a) z 0 i) (sym (mul-assoc q 2 (2 ^ 27)))
+              (sub-near binary64 (scaled a) a (s .K * 2 ^ 27) A (s .K * 2 ^ 27 - A) 28 i eq w (omega arith) (omega arith) (s .is) h);
           over = omega arith;
           under = omega arith;
         }
@@ -157,7 +160,9 @@ halves a A i lo hi r k =
       h,
       record {
         top = top;
-        low = Is-shift binary64 (low-half a) (A + 0) (0 + h * 2 ^ 27) A (h * 2 ^ 27) i (omega arith) (Is-sub binary64 a (high-half a) A 0 (h * 2 ^ 27) 0 i (omega arith) (omega arith) (omega arith) k (Is-unit binary64 (high-half a) h 0 i 27 top));
+        low = Is-shift binary64 (low-half a) (A + 0) (0 + h * 2 ^ 27) A (h * 2 ^ 27) i (omega arith)
+            (Is-sub binary64 a (high-half a) A 0 (h * 2 ^ 27) 0 i (omega arith) (omega arith) (omega arith) k
+            (Is-unit binary64 (high-half a) h 0 i 27 top));
         few = few;
         some = omega arith;
         over = over;

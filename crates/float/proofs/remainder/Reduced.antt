@@ -1,6 +1,7 @@
 -- `rem` of two finite values by their units: the remainder of two whole numbers; and a whole number of units that is a value rounds to it.
 use Prim.Native.Nat.{ℕ, _+_, _-_, _*_, _/_, _%_, _^_, _≤_, _<_}
-use native.Mathlib.Nat.{le-trans, le-of-eq, lt-of-lt-of-le, lt-irrefl, zero-mul, mul-pos, mul-assoc, mul-comm, mul-right-comm, add-mul, mul-le-mul-right, mul-lt-mul-of-pos-right, mod-lt, mod-eq-of-lt, div-add-mod', eq-zero-or-pos}
+use native.Mathlib.Nat.{le-trans, le-of-eq, lt-of-lt-of-le, lt-irrefl, zero-mul, mul-pos, mul-assoc, mul-comm}
+use native.Mathlib.Nat.{mul-right-comm, add-mul, mul-le-mul-right, mul-lt-mul-of-pos-right, mod-lt, mod-eq-of-lt, div-add-mod', eq-zero-or-pos}
 use native.Mathlib.Omega.{arith}
 use mathlib.Core.Path.{_≡_, refl, sym, ap, _∙_, subst}
 use mathlib.Core.Logic.{_⊎_, inl, inr}

@@ -50,7 +50,8 @@ no-sign-bit x a c v f n = nleb→lt (2 ^ 63) (toBits binary64 x) (subst (λ (b :
     no-sign (fin s m e) v = v .0
 
 -- ---- g is its digits at its place
-pub by-digits : (g : Float) (k : ℕ) → T (fits binary64 g) → k ≤ 2045 → toBits binary64 g / 2 ^ 52 ≡ k + 1 → g ≡ units binary64 false (toBits binary64 g % 2 ^ 52 + 2 ^ 52) k
+pub by-digits : (g : Float) (k : ℕ) → T (fits binary64 g) → k ≤ 2045 → toBits binary64 g / 2 ^ 52 ≡ k + 1
+    → g ≡ units binary64 false (toBits binary64 g % 2 ^ 52 + 2 ^ 52) k
 by-digits g k f l e =
     sym (ofBits-toBits binary64 g f)
     ∙ ap (λ (n : ℕ). ofBits binary64 n) (joined (toBits binary64 g) k l e)

@@ -4,7 +4,9 @@ use mathlib.Core.Path.{_≡_, refl, sym, ap, _∙_, subst}
 use mathlib.Core.Logic.{_⊎_, inl, inr}
 use mathlib.Core.Bool.{Bool, true, false, not, true≢false, false≢true}
 use Prim.Native.Nat.{ℕ, zero, suc, _+_, _-_, _*_, _/_, _^_, _≤_, _<_, compare, Ordering, Ordering·lt, Ordering·gt}
-use native.Mathlib.Nat.{le-trans, le-of-eq, le-of-lt, lt-of-lt-of-le, lt-of-le-of-lt, lt-of-not-le, not-le-of-lt, le-of-suc-le-suc, lt-irrefl, zero-mul, mul-assoc, mul-right-comm, mul-pos, mul-le-mul, mul-le-mul-right, mul-le-mul-left, mul-lt-mul-of-pos-right, mul-div-cancel, div-eq-of-lt-le, le-mul-of-pos-right}
+use native.Mathlib.Nat.{le-trans, le-of-eq, le-of-lt, lt-of-lt-of-le, lt-of-le-of-lt, lt-of-not-le, not-le-of-lt}
+use native.Mathlib.Nat.{le-of-suc-le-suc, lt-irrefl, zero-mul, mul-assoc, mul-right-comm, mul-pos, mul-le-mul}
+use native.Mathlib.Nat.{mul-le-mul-right, mul-le-mul-left, mul-lt-mul-of-pos-right, mul-div-cancel, div-eq-of-lt-le, le-mul-of-pos-right}
 use native.Mathlib.Numerals.{add-one}
 use native.Mathlib.Omega.{arith}
 use lib.IntN.{ℤ, pos}
@@ -54,7 +56,8 @@ module _ (n K r : ℕ) (lo : 2 ^ 104 ≤ n) (hi : n < 2 ^ 106) (F : Floor n r) w
 
   w-lt : w < suc r * p
   w-lt = lt-of-not-le (λ (g : suc r * p ≤ w).
-      not-le-of-lt (mul-lt-mul-of-pos-right (mul-lt-mul-of-pos-right (F .1) (pow-pos K)) (pow-pos K)) (le-trans (le-of-eq (sym (square (suc r)))) (le-trans (mul-le-mul g g) (w-is .0))))
+      not-le-of-lt (mul-lt-mul-of-pos-right (mul-lt-mul-of-pos-right (F .1) (pow-pos K)) (pow-pos K))
+      (le-trans (le-of-eq (sym (square (suc r)))) (le-trans (mul-le-mul g g) (w-is .0))))
 
   r-ge : 2 ^ 52 ≤ r
   r-ge = le-of-suc-le-suc (lt-of-not-le (λ (g : suc r ≤ 2 ^ 52). not-le-of-lt (F .1) (le-trans (mul-le-mul g g) lo)))
@@ -68,7 +71,9 @@ module _ (n K r : ℕ) (lo : 2 ^ 104 ≤ n) (hi : n < 2 ^ 106) (F : Floor n r) w
   kept : w / p ≡ r
   kept = div-eq-of-lt-le p w-ge (subst (λ (x : ℕ). w < x * p) (sym (add-one r)) w-lt)
 
-  opened : rootOf binary64 v ≡ units binary64 false (nearest (w / 2 ^ (size w - 53)) (compare (4 * v) ((2 * (w / 2 ^ (size w - 53)) + 1) * 2 ^ (size w - 53) * ((2 * (w / 2 ^ (size w - 53)) + 1) * 2 ^ (size w - 53))))) (size w - 53)
+  opened : rootOf binary64 v ≡ units binary64 false (nearest (w / 2 ^ (size w - 53))
+      (compare (4 * v) ((2 * (w / 2 ^ (size w - 53)) + 1) * 2 ^ (size w - 53) * ((2 * (w / 2 ^ (size w - 53)) + 1) * 2 ^ (size w - 53)))))
+      (size w - 53)
   unfolding rootOf
   opened = refl
 
@@ -80,13 +85,17 @@ module _ (n K r : ℕ) (lo : 2 ^ 104 ≤ n) (hi : n < 2 ^ 106) (F : Floor n r) w
 
   -- the root is not above the middle, or is
   stays : n ≤ r * (r + 1) → rootOf binary64 v ≡ units binary64 false r K
-  stays h = rooted ∙ ap (λ (o : Ordering). units binary64 false (nearest r o) K) (cmp-is Ordering·lt (4 * v) ((2 * r + 1) * p * ((2 * r + 1) * p)) (less r n p (mul-le-mul-right p (mul-le-mul-right p h)) (mul-pos (pow-pos K) (pow-pos K))))
+  stays h = rooted ∙ ap (λ (o : Ordering). units binary64 false (nearest r o) K)
+      (cmp-is Ordering·lt (4 * v) ((2 * r + 1) * p * ((2 * r + 1) * p))
+      (less r n p (mul-le-mul-right p (mul-le-mul-right p h)) (mul-pos (pow-pos K) (pow-pos K))))
     where
       less : (r n p : ℕ) → n * p * p ≤ r * (r + 1) * p * p → 0 < p * p → 4 * (n * p * p) < (2 * r + 1) * p * ((2 * r + 1) * p)
       less r n p h g = omega arith
 
   goes-up : r * (r + 1) < n → rootOf binary64 v ≡ units binary64 false (suc r) K
-  goes-up h = rooted ∙ ap (λ (o : Ordering). units binary64 false (nearest r o) K) (cmp-is Ordering·gt (4 * v) ((2 * r + 1) * p * ((2 * r + 1) * p)) (more r n p (mul-le-mul-right p (mul-le-mul-right p h)) (mul-pos (pow-pos K) (pow-pos K))))
+  goes-up h = rooted ∙ ap (λ (o : Ordering). units binary64 false (nearest r o) K)
+      (cmp-is Ordering·gt (4 * v) ((2 * r + 1) * p * ((2 * r + 1) * p))
+      (more r n p (mul-le-mul-right p (mul-le-mul-right p h)) (mul-pos (pow-pos K) (pow-pos K))))
     where
       more : (r n p : ℕ) → suc (r * (r + 1)) * p * p ≤ n * p * p → 0 < p * p → (2 * r + 1) * p * ((2 * r + 1) * p) < 4 * (n * p * p)
       more r n p h g = omega arith
@@ -121,7 +130,8 @@ root-at n K q lo hi R = go q R (lt-or-le n (q * q))
 pub root-range : (n q : ℕ) → 2 ^ 104 ≤ n → n < 2 ^ 106 → Roots n q → (2 ^ 52 ≤ q) × (q ≤ 2 ^ 53)
 root-range n q lo hi R = (
   le-of-suc-le-suc (lt-of-not-le (λ (g : suc q ≤ 2 ^ 52). lt-irrefl n (lt-of-le-of-lt (R .below) (lt-of-lt-of-le (small q g) lo)))),
-  le-of-suc-le-suc (lt-of-not-le (λ (g : suc (2 ^ 53) ≤ q). lt-irrefl n (lt-of-lt-of-le hi (le-trans (mul-le-mul (le-of-lt g) (one g)) (le-of-lt (R .above)))))),
+  le-of-suc-le-suc (lt-of-not-le (λ (g : suc (2 ^ 53) ≤ q). lt-irrefl n
+      (lt-of-lt-of-le hi (le-trans (mul-le-mul (le-of-lt g) (one g)) (le-of-lt (R .above)))))),
 )
   where
     one : suc (2 ^ 53) ≤ q → 2 ^ 53 ≤ q - 1
@@ -138,7 +148,8 @@ pub sqrt-at : (x : Float) (q k : ℕ) → Splits x false q k → 0 < q → sqrt 
 sqrt-at x q k S Q = go x (S .value)
   where
     no-zero : (e : ℤ) → zero * up e * 2 ^ 1074 ≡ q * 2 ^ k * down e → ⊥
-    no-zero e h = lt-irrefl 0 (subst (λ (y : ℕ). 0 < y) (sym h ∙ ap (λ (y : ℕ). y * 2 ^ 1074) (zero-mul (up e)) ∙ zero-mul (2 ^ 1074)) (mul-pos (mul-pos Q (pow-pos k)) (down-pos e)))
+    no-zero e h = lt-irrefl 0 (subst (λ (y : ℕ). 0 < y) (sym h ∙ ap (λ (y : ℕ). y * 2 ^ 1074) (zero-mul (up e)) ∙ zero-mul (2 ^ 1074))
+        (mul-pos (mul-pos Q (pow-pos k)) (down-pos e)))
 
     opened : (m : ℕ) (e : ℤ) → sqrt binary64 (fin false (suc m) e) ≡ rootOf binary64 (suc m * up e * 2 ^ 1074 * 2 ^ 1074 / down e)
     opened m e = unfold sqrt in refl
@@ -159,7 +170,8 @@ sqrt-at x q k S Q = go x (S .value)
 pub evenly : (q k i t j : ℕ) → i + t ≡ k + 52 → t ≡ 2 * j → q * 2 ^ k * 2 ^ 1074 ≡ q * 2 ^ i * 2 ^ 52 * 2 ^ (j + 485) * 2 ^ (j + 485)
 evenly q k i t j e f =
     mul-assoc q (2 ^ k) (2 ^ 1074)
-    ∙ ap (λ (x : ℕ). q * x) (sym (pow-add 2 k 1074) ∙ ap (λ (x : ℕ). 2 ^ x) (places k i t j e f) ∙ pow-add 2 (i + 52 + (j + 485)) (j + 485) ∙ ap (λ (x : ℕ). x * 2 ^ (j + 485)) (pow-add 2 (i + 52) (j + 485) ∙ ap (λ (x : ℕ). x * 2 ^ (j + 485)) (pow-add 2 i 52)))
+    ∙ ap (λ (x : ℕ). q * x) (sym (pow-add 2 k 1074) ∙ ap (λ (x : ℕ). 2 ^ x) (places k i t j e f) ∙ pow-add 2 (i + 52 + (j + 485)) (j + 485)
+    ∙ ap (λ (x : ℕ). x * 2 ^ (j + 485)) (pow-add 2 (i + 52) (j + 485) ∙ ap (λ (x : ℕ). x * 2 ^ (j + 485)) (pow-add 2 i 52)))
     ∙ shape q (2 ^ i) (2 ^ 52) (2 ^ (j + 485))
   where
     places : (k i t j : ℕ) → i + t ≡ k + 52 → t ≡ 2 * j → k + 1074 ≡ i + 52 + (j + 485) + (j + 485)
@@ -171,7 +183,9 @@ evenly q k i t j e f =
 pub oddly : (q k i t j : ℕ) → i + t ≡ k + 52 → t ≡ 2 * j + 1 → q * 2 ^ k * 2 ^ 1074 ≡ q * 2 ^ i * 2 * 2 ^ 52 * 2 ^ (j + 485) * 2 ^ (j + 485)
 oddly q k i t j e f =
     mul-assoc q (2 ^ k) (2 ^ 1074)
-    ∙ ap (λ (x : ℕ). q * x) (sym (pow-add 2 k 1074) ∙ ap (λ (x : ℕ). 2 ^ x) (places k i t j e f) ∙ pow-add 2 (i + 1 + 52 + (j + 485)) (j + 485) ∙ ap (λ (x : ℕ). x * 2 ^ (j + 485)) (pow-add 2 (i + 1 + 52) (j + 485) ∙ ap (λ (x : ℕ). x * 2 ^ (j + 485)) (pow-add 2 (i + 1) 52 ∙ ap (λ (x : ℕ). x * 2 ^ 52) (pow-add 2 i 1))))
+    ∙ ap (λ (x : ℕ). q * x) (sym (pow-add 2 k 1074) ∙ ap (λ (x : ℕ). 2 ^ x) (places k i t j e f) ∙ pow-add 2 (i + 1 + 52 + (j + 485)) (j + 485)
+    ∙ ap (λ (x : ℕ). x * 2 ^ (j + 485)) (pow-add 2 (i + 1 + 52) (j + 485)
+    ∙ ap (λ (x : ℕ). x * 2 ^ (j + 485)) (pow-add 2 (i + 1) 52 ∙ ap (λ (x : ℕ). x * 2 ^ 52) (pow-add 2 i 1))))
     ∙ shape q (2 ^ i) 2 (2 ^ 52) (2 ^ (j + 485))
   where
     places : (k i t j : ℕ) → i + t ≡ k + 52 → t ≡ 2 * j + 1 → k + 1074 ≡ i + 1 + 52 + (j + 485) + (j + 485)
@@ -237,7 +251,8 @@ of-negative (fin true zero e) h = absurd (no (m-zero (ltb-true 0 (0 * up e * 1 +
     m-zero : 0 < 0 * up e * 1 + 0 * 1 * down e → 0 < 0
     m-zero l = omega arith
 of-negative (fin true (suc m) e) h = unfold sqrt in refl
-of-negative (fin false m e) h = absurd (no (m * up e * 1) (0 * 1 * down e) (zero-mul (down e)) (ltb-true (m * up e * 1) (0 * 1 * down e) (sym (lt-zero false m e) ∙ h)))
+of-negative (fin false m e) h = absurd (no (m * up e * 1) (0 * 1 * down e) (zero-mul (down e))
+    (ltb-true (m * up e * 1) (0 * 1 * down e) (sym (lt-zero false m e) ∙ h)))
   where
     no : (a b : ℕ) → b ≡ 0 → a < b → ⊥
     no a b z l = omega arith

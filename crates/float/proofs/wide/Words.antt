@@ -1,7 +1,8 @@
 -- `jam` as a program computes it, of a number of two words: the digits that stay, with the last one set by `bitOr`.
 use mathlib.Core.Path.{_≡_, sym, ap, _∙_, subst}
 use Prim.Native.Nat.{ℕ, zero, suc, _+_, _-_, _*_, _/_, _%_, _^_, _≤_, _<_, suc-le-suc, min, max}
-use native.Mathlib.Nat.{le-refl, le-of-lt, lt-of-lt-of-le, mod-lt, div-add-mod', add-zero, mul-assoc, mul-div-cancel, mul-mod-left, pow-suc, pow-succ', zero-lt-suc, sub-add-cancel}
+use native.Mathlib.Nat.{le-refl, le-of-lt, lt-of-lt-of-le, mod-lt, div-add-mod', add-zero, mul-assoc}
+use native.Mathlib.Nat.{mul-div-cancel, mul-mod-left, pow-suc, pow-succ', zero-lt-suc, sub-add-cancel}
 use native.Mathlib.Omega.{arith}
 use lib.Arith.{digits-lt, digits-div, digits-mod, mod-mul}
 use lib.Pow.{pow-pos, pow-add, pow-mono, shr-lt}
@@ -149,10 +150,13 @@ module _ (hi lo : ℕ) (H : hi < 2 ^ 64) (L : lo < 2 ^ 64) where
       let eh : hi / p * p + hi % p ≡ hi = div-add-mod' hi p in
       let dp : 2 ^ (i + 64) ≡ p * 2 ^ 64 = pow-add 2 i 64 in
       ap (λ (x : ℕ). 0 * 2 ^ 64 + bitOr (hi / p) (min 1 (bitOr x lo))) (left-part hi i U)
-      ∙ ap (λ (x : ℕ). 0 * 2 ^ 64 + bitOr (hi / p) x) (or-some (hi % p * 2 ^ (64 - i)) lo ∙ either (hi % p) (2 ^ 64) (hi % p * 2 ^ (64 - i)) lo (pow-pos 64) (some-times (hi % p) (64 - i)))
+      ∙ ap (λ (x : ℕ). 0 * 2 ^ 64 + bitOr (hi / p) x) (or-some (hi % p * 2 ^ (64 - i)) lo
+      ∙ either (hi % p) (2 ^ 64) (hi % p * 2 ^ (64 - i)) lo (pow-pos 64) (some-times (hi % p) (64 - i)))
       ∙ set-last 0 (hi / p) (min 1 (hi % p * 2 ^ 64 + lo)) (one-at-most (hi % p * 2 ^ 64 + lo))
       ∙ ap (λ (x : ℕ). x / 2 * 2 + max (x % 2) (min 1 (hi % p * 2 ^ 64 + lo))) (none (hi / p))
-      ∙ sym (jam-or D (i + 64) (hi / p) (hi % p * 2 ^ 64 + lo) (subst (λ (x : ℕ). D ≡ hi / p * x + (hi % p * 2 ^ 64 + lo)) (sym dp) (part hi lo (hi / p) (hi % p) p (2 ^ 64) eh)) (subst (λ (x : ℕ). hi % p * 2 ^ 64 + lo < x) (sym dp) (digits-lt (mod-lt hi (pow-pos i)) L)))
+      ∙ sym (jam-or D (i + 64) (hi / p) (hi % p * 2 ^ 64 + lo)
+      (subst (λ (x : ℕ). D ≡ hi / p * x + (hi % p * 2 ^ 64 + lo)) (sym dp) (part hi lo (hi / p) (hi % p) p (2 ^ 64) eh))
+      (subst (λ (x : ℕ). hi % p * 2 ^ 64 + lo < x) (sym dp) (digits-lt (mod-lt hi (pow-pos i)) L)))
     where
       none : (x : ℕ) → 0 * 2 ^ 64 + x ≡ x
       none x = omega arith

@@ -1,4 +1,5 @@
--- Bounds on the arctangent and what is worked out with it: atan is within 3, and atan2, acos and asin within 7. Each halving divides by 2 at least, since 1 ≤ sqrt(1 + a·a).
+-- Bounds on the arctangent and what is worked out with it: atan is within 3, and atan2, acos and
+-- asin within 7. Each halving divides by 2 at least, since 1 ≤ sqrt(1 + a·a).
 -- Sizes alone are counted, so the bounds are wide.
 use mathlib.Core.Path.{_≡_, refl, sym, subst}
 use mathlib.Core.Bool.{Bool, true, false, not, _||_, cond}
@@ -13,12 +14,13 @@ use lib.Ieee.Scale.{finite}
 use lib.Ieee.Positive.{num}
 use Rattle.float.specs.Number.{_⊕_, _⊖_, _⊗_, _⊘_, abs, negative, zero-float, one-float, two-float}
 use Rattle.float.specs.Sqrt.{sqrt}
-use Rattle.float.specs.Trig.{P, four-float, halved, atan-start, atan-series, atan-value, copysign, atan, atan2, other-side, acos, asin}
+use Rattle.float.specs.Trig.{P, four-float, half-angle, atan-start, atan-series, atan-value, copysign, atan, atan2, other-side, acos, asin}
 use Rattle.float.specs.Laws.Sign.{round-neg}
 use Rattle.float.specs.Promises.Order.{Le}
 use Rattle.float.specs.Laws.Le.{le→Le, Le→le, plain, round-plain, add-mono}
 use Rattle.float.specs.Promises.Order.{Within}
-use Rattle.float.specs.Laws.Within.{Beyond, divTest, add-within, sub-within, mul-within, div-within, neg-within, numeral, numeral-beyond, weaken, Le→beyond, not-none}
+use Rattle.float.specs.Laws.Within.{Beyond, divTest, add-within, sub-within, mul-within, div-within}
+use Rattle.float.specs.Laws.Within.{neg-within, numeral, numeral-beyond, weaken, Le→beyond, not-none}
 use Rattle.float.specs.Laws.Interval.{Le-refl, Le-trans, within-in, in-self, in-wider, add-in, sub-in}
 use Rattle.float.specs.Laws.Range.{abs-within, within-abs, lt→Le, nlt→Le}
 use Rattle.float.specs.Laws.Sine.{per, over-within, step-within}
@@ -48,18 +50,19 @@ divisor-beyond {a} h =
     let r : Le one-float (sqrt binary64 v) = sqrt-ge v (add-fits binary64 one-float (a ⊗ a)) g in
     let s : Within two-float (sqrt binary64 v) = sqrt-within two-float tt (Le-trans (record { first = tt; second = tt; cross = lit≤ tt }) g) w in
     let d : Within four-float (one-float ⊕ sqrt binary64 v) = add-within binary64 four-float tt one s in
-    Le→beyond tt (le→Le two-float (one-float ⊕ sqrt binary64 v) tt (d .real) (subst (λ (y : Float). T (le y (one-float ⊕ sqrt binary64 v))) one-one (add-mono binary64 (Le-refl one-float tt) r)))
+    Le→beyond tt (le→Le two-float (one-float ⊕ sqrt binary64 v) tt (d .real)
+    (subst (λ (y : Float). T (le y (one-float ⊕ sqrt binary64 v))) one-one (add-mono binary64 (Le-refl one-float tt) r)))
 
 -- from any bound X of at most 1 to its half
-halved-by : (B : Float) {X a : Float} → T (divTest binary64 X two-float B) → Within one-float a → Within X a → Within B (halved a)
-unfolding halved
-halved-by B t o h = div-within binary64 B t h (divisor-beyond o)
+half-angle-by : (B : Float) {X a : Float} → T (divTest binary64 X two-float B) → Within one-float a → Within X a → Within B (half-angle a)
+unfolding half-angle
+half-angle-by B t o h = div-within binary64 B t h (divisor-beyond o)
 
-halved-within : {a : Float} → Within one-float a → Within (per 1 1) (halved a)
-halved-within h = halved-by (per 1 1) tt h h
+half-angle-within : {a : Float} → Within one-float a → Within (per 1 1) (half-angle a)
+half-angle-within h = half-angle-by (per 1 1) tt h h
 
-halved-again : {a : Float} → Within (per 1 1) a → Within (per 1 2) (halved a)
-halved-again h = halved-by (per 1 2) tt (weaken one-float tt h) h
+half-angle-again : {a : Float} → Within (per 1 1) a → Within (per 1 2) (half-angle a)
+half-angle-again h = half-angle-by (per 1 2) tt (weaken one-float tt h) h
 
 -- ---- the polynomial
 atan-series-within : (z : Float) → Within one-float z → Within (per 321 8) (atan-series z)
@@ -92,7 +95,8 @@ start x p = go (lt one-float (abs x)) refl
   where
     go : (b : Bool) → lt one-float (abs x) ≡ b → Within one-float (cond b (one-float ⊘ abs x) (abs x))
     go true h = div-within binary64 one-float tt (numeral one-float one-float tt) (Le→beyond tt (lt→Le one-float (abs x) tt p (subst T (sym h) tt)))
-    go false h = within-abs (abs-within one-float x tt tt (is-true (le (abs x) one-float) (Le→le (nlt→Le one-float (abs x) tt p (subst (λ (b : Bool). T (not b)) (sym h) tt)))))
+    go false h = within-abs (abs-within one-float x tt tt (is-true (le (abs x) one-float)
+        (Le→le (nlt→Le one-float (abs x) tt p (subst (λ (b : Bool). T (not b)) (sym h) tt)))))
 
 atan-start-within : (x : Float) → T (not (isNan x)) → Within one-float (atan-start x)
 unfolding isNan abs lt div
@@ -114,10 +118,11 @@ pub atan-within : (x : Float) → T (not (isNan x)) → Within three-float (atan
 unfolding atan
 atan-within x n = copysign-within x (go (lt one-float (abs x)))
   where
-    w : Within (per 9 3) (atan-value (halved (halved (atan-start x))))
-    w = atan-value-within (halved-again (halved-within (atan-start-within x n)))
+    w : Within (per 9 3) (atan-value (half-angle (half-angle (atan-start x))))
+    w = atan-value-within (half-angle-again (half-angle-within (atan-start-within x n)))
 
-    go : (b : Bool) → Within three-float (cond b (P ⊘ two-float ⊖ atan-value (halved (halved (atan-start x)))) (atan-value (halved (halved (atan-start x)))))
+    go : (b : Bool) → Within three-float (cond b (P ⊘ two-float ⊖ atan-value (half-angle (half-angle (atan-start x))))
+        (atan-value (half-angle (half-angle (atan-start x)))))
     go true = sub-within binary64 three-float tt quarter-within w
     go false = weaken three-float tt w
 
@@ -136,7 +141,8 @@ neg-number (fin s m e) p = tt
 
 round-number : (f : Format) (s : Bool) (a c : ℕ) → T (not (isNan (round f s a c)))
 round-number f false a c = plain-number (round f false a c) (round-plain f a c)
-round-number f true a c = subst (λ (z : Float). T (not (isNan z))) (sym (round-neg f false a c)) (neg-number (round f false a c) (plain-number (round f false a c) (round-plain f a c)))
+round-number f true a c = subst (λ (z : Float). T (not (isNan z))) (sym (round-neg f false a c))
+    (neg-number (round f false a c) (plain-number (round f false a c) (round-plain f a c)))
 
 div-number : (y x : Float) → T (finite y) → T (finite x) → 0 < num x → T (not (isNan (y ⊘ x)))
 unfolding div
@@ -146,7 +152,8 @@ div-number (fin s m e) nan p q z = absurd q
 div-number (fin s m e) (inf t) p q z = absurd q
 div-number (fin s m e) (fin t n d) p q z = go (eqb n 0) (eqb→eq n 0)
   where
-    go : (b : Bool) → (T b → n ≡ 0) → T (not (isNan (cond b (cond (eqb m 0) nan (inf (unlike s t))) (round binary64 (unlike s t) (m * up e * down d) (n * up d * down e)))))
+    go : (b : Bool) → (T b → n ≡ 0)
+        → T (not (isNan (cond b (cond (eqb m 0) nan (inf (unlike s t))) (round binary64 (unlike s t) (m * up e * down d) (n * up d * down e)))))
     go true k = absurd (not-none n d z (k tt))
     go false k = round-number binary64 (unlike s t) (m * up e * down d) (n * up d * down e)
 
@@ -180,15 +187,16 @@ atan2-within y x p q =
     go (isNan y || isNan x) (lt zero-float x) (lt x zero-float) (le zero-float y) (lt zero-float y) (lt y zero-float) (numbers y x p q)
     (λ h. atan-within (y ⊘ x) (div-number y x p q (right-of x q h))) (λ h. atan-within (y ⊘ x) (div-number y x p q (left-of x q h)))
   where
-    turn : Within (per 101 5) P
-    turn = numeral (per 101 5) P tt
+    P-within : Within (per 101 5) P
+    P-within = numeral (per 101 5) P tt
 
     go : (n r l g u d : Bool) → T (not n) → (T r → Within three-float (atan (y ⊘ x))) → (T l → Within three-float (atan (y ⊘ x)))
-        → Within seven-float (cond n nan (cond r (atan (y ⊘ x)) (cond l (cond g (atan (y ⊘ x) ⊕ P) (atan (y ⊘ x) ⊖ P)) (cond u (P ⊘ two-float) (cond d (neg (P ⊘ two-float)) zero-float)))))
+        → Within seven-float (cond n nan (cond r (atan (y ⊘ x))
+        (cond l (cond g (atan (y ⊘ x) ⊕ P) (atan (y ⊘ x) ⊖ P)) (cond u (P ⊘ two-float) (cond d (neg (P ⊘ two-float)) zero-float)))))
     go true r l g u d n a b = absurd n
     go false true l g u d n a b = weaken seven-float tt (a tt)
-    go false false true true u d n a b = add-within binary64 seven-float tt (b tt) turn
-    go false false true false u d n a b = sub-within binary64 seven-float tt (b tt) turn
+    go false false true true u d n a b = add-within binary64 seven-float tt (b tt) P-within
+    go false false true false u d n a b = sub-within binary64 seven-float tt (b tt) P-within
     go false false false g true d n a b = weaken seven-float tt quarter-within
     go false false false g false true n a b = neg-within (weaken seven-float tt quarter-within)
     go false false false g false false n a b = numeral seven-float zero-float tt
@@ -197,7 +205,8 @@ atan2-within y x p q =
 other-side-within : {x : Float} → Within one-float x → Within two-float (other-side x)
 other-side-within {x} h =
     let one = numeral one-float one-float tt in
-    let w : Within four-float ((one-float ⊖ x) ⊗ (one-float ⊕ x)) = mul-within binary64 four-float tt (sub-within binary64 two-float tt one h) (add-within binary64 two-float tt one h) in
+    let w : Within four-float ((one-float ⊖ x) ⊗ (one-float ⊕ x)) = mul-within binary64 four-float tt (sub-within binary64 two-float tt one h)
+    (add-within binary64 two-float tt one h) in
     sqrt-within two-float tt (mul-plus (less h) (more h) (w .real)) w
   where
     less : {x : Float} → Within one-float x → Le zero-float (one-float ⊖ x)

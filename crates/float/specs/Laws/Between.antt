@@ -1,7 +1,9 @@
--- The middle of an interval whose ends differ stands between them in the order of `total_cmp`, in which the sign of a zero counts: where the lower end has no minus sign the middle has none,
+-- The middle of an interval whose ends differ stands between them in the order of `total_cmp`, in which the
+-- sign of a zero counts: where the lower end has no minus sign the middle has none,
 -- and where the upper end has one the middle has one, since half of what lies between is less than the lower end's size.
 use Prim.Native.Nat.{ℕ, zero, suc, _+_, _-_, _*_, _^_, _≤_, _<_, suc-le-suc}
-use native.Mathlib.Nat.{le-of-eq, le-trans, lt-of-le-of-lt, lt-of-lt-of-le, mul-pos, mul-le-mul-right, mul-lt-mul-of-pos-right, lt-of-mul-lt-mul-right, mul-right-comm, mul-mul-mul-comm, mul-assoc, mul-one, lt-trans, lt-suc-self, le-suc, pow-suc, mul-le-mul-left, sub-le, not-suc-le-zero}
+use native.Mathlib.Nat.{le-of-eq, le-trans, lt-of-le-of-lt, lt-of-lt-of-le, mul-pos, mul-le-mul-right, mul-lt-mul-of-pos-right, lt-of-mul-lt-mul-right, mul-right-comm, mul-mul-mul-comm}
+use native.Mathlib.Nat.{mul-assoc, mul-one, lt-trans, lt-suc-self, le-suc, pow-suc, mul-le-mul-left, sub-le, not-suc-le-zero}
 use native.Mathlib.Decide.{decLt}
 use native.Mathlib.Omega.{arith}
 use mathlib.Core.Path.{_≡_, refl, sym, ap, subst, _∙_}
@@ -81,7 +83,8 @@ no-minus nan hi p q l n = absurd p
 no-minus (inf s) hi p q l n = absurd p
 no-minus (fin true m e) hi p q l n = absurd (subst T n tt)
 no-minus (fin false m e) hi p q l n =
-    plain-not (fin false m e ⊕ (hi ⊖ fin false m e) ⊘ two-float) (sum-plain m e ((hi ⊖ fin false m e) ⊘ two-float) (half-plain (hi ⊖ fin false m e) (gap-plain (fin false m e) hi p q l)))
+    plain-not (fin false m e ⊕ (hi ⊖ fin false m e) ⊘ two-float)
+    (sum-plain m e ((hi ⊖ fin false m e) ⊘ two-float) (half-plain (hi ⊖ fin false m e) (gap-plain (fin false m e) hi p q l)))
 
 -- ---- half of a number above zero is less than it, even of the smallest
 
@@ -101,11 +104,14 @@ unfolding lt
 under-lt m e B nan p w k = absurd p
 under-lt m e B (inf s) p w k = absurd (w .real)
 under-lt m e B (fin true n d) p w k = absurd p
-under-lt m e B (fin false n d) p w k = lt→ltb (n * up d * down e) (m * up e * down d) (strict (n * up d) (num B) (m * up e) (down d) (den B) (down e) (down-pos d) (w .size) k)
+under-lt m e B (fin false n d) p w k = lt→ltb (n * up d * down e) (m * up e * down d)
+    (strict (n * up d) (num B) (m * up e) (down d) (den B) (down e) (down-pos d) (w .size) k)
 
 -- B is a value of the format from half of the number up, and less than it
-by-bound : (m : ℕ) (e : ℤ) (B : Float) → T (held binary64 B) → m * up e * 1 * den B ≤ num B * (2 * down e) → num B * down e < m * up e * den B → T (lt (fin false m e ⊘ two-float) (fin false m e))
-by-bound m e B t h k = under-lt m e B (fin false m e ⊘ two-float) (half-plain (fin false m e) tt) (div-exact binary64 B (fin false m e) two-float t tt tt (lit< tt) h) k
+by-bound : (m : ℕ) (e : ℤ) (B : Float) → T (held binary64 B) → m * up e * 1 * den B ≤ num B * (2 * down e) → num B * down e < m * up e * den B
+    → T (lt (fin false m e ⊘ two-float) (fin false m e))
+by-bound m e B t h k = under-lt m e B (fin false m e ⊘ two-float) (half-plain (fin false m e) tt)
+    (div-exact binary64 B (fin false m e) two-float t tt tt (lit< tt) h) k
 
 -- one digit less
 digit-less : (k u w : ℕ) → 0 < u → 0 < w → (suc (suc k) * u * 1 * w ≤ suc k * u * (2 * w)) × (suc k * u * w < suc (suc k) * u * w)
@@ -124,15 +130,18 @@ held-digit k e t =
     let d = ltb (suc k * up e) (2 ^ 1024 * down e) in
     and-i (ltb (suc k) (2 ^ 53)) (b && d) (lt→ltb (suc k) (2 ^ 53) (lt-trans (lt-suc-self (suc k)) (ltb→lt (suc (suc k)) (2 ^ 53) (and-l a (b && c) t))))
     (and-i b d (and-l b c (and-r a (b && c) t))
-    (lt→ltb (suc k * up e) (2 ^ 1024 * down e) (lt-of-le-of-lt (mul-le-mul-right (up e) (le-suc (suc k))) (ltb→lt (suc (suc k) * up e) (2 ^ 1024 * down e) (and-r b c (and-r a (b && c) t))))))
+    (lt→ltb (suc k * up e) (2 ^ 1024 * down e) (lt-of-le-of-lt (mul-le-mul-right (up e) (le-suc (suc k)))
+    (ltb→lt (suc (suc k) * up e) (2 ^ 1024 * down e) (and-r b c (and-r a (b && c) t))))))
 
 -- one binary place less
 held-up : (k : ℕ) → T (held binary64 (fin false 1 (pos (suc k)))) → T (held binary64 (fin false 1 (pos k)))
-held-up k t = lt→ltb (1 * 2 ^ k) (2 ^ 1024 * 1) (lt-of-le-of-lt (mul-le-mul-left 1 (pow-mono {i = k} {j = suc k} (le-suc k))) (ltb→lt (1 * 2 ^ suc k) (2 ^ 1024 * 1) t))
+held-up k t = lt→ltb (1 * 2 ^ k) (2 ^ 1024 * 1) (lt-of-le-of-lt (mul-le-mul-left 1 (pow-mono {i = k} {j = suc k} (le-suc k)))
+    (ltb→lt (1 * 2 ^ suc k) (2 ^ 1024 * 1) t))
 
 held-down : (k : ℕ) → k < 1073 → T (held binary64 (fin false 1 (negsuc (suc k))))
 held-down k h =
-    and-i (leb (2 ^ suc (suc k)) (2 ^ 1074)) (ltb 1 (2 ^ 1024 * 2 ^ suc (suc k))) (le→leb (2 ^ suc (suc k)) (2 ^ 1074) (pow-mono {i = suc (suc k)} {j = 1074} (suc-le-suc h)))
+    and-i (leb (2 ^ suc (suc k)) (2 ^ 1074)) (ltb 1 (2 ^ 1024 * 2 ^ suc (suc k)))
+    (le→leb (2 ^ suc (suc k)) (2 ^ 1074) (pow-mono {i = suc (suc k)} {j = 1074} (suc-le-suc h)))
     (lt→ltb 1 (2 ^ 1024 * 2 ^ suc (suc k)) (lt-of-lt-of-le {n = 1} {m = 2 ^ 1024 * 1} (lit< tt) (mul-le-mul-left (2 ^ 1024) (pow-pos (suc (suc k))))))
 
 -- the smallest number: its half is zero
@@ -147,7 +156,8 @@ unfolding lt div
 smallest = tt
 
 half-less : (m : ℕ) (e : ℤ) → T (held binary64 (fin false (suc m) e)) → T (lt (fin false (suc m) e ⊘ two-float) (fin false (suc m) e))
-half-less (suc k) e t = let d = digit-less k (up e) (down e) (up-pos e) (down-pos e) in by-bound (suc (suc k)) e (fin false (suc k) e) (held-digit k e t) (d .0) (d .1)
+half-less (suc k) e t = let d = digit-less k (up e) (down e) (up-pos e) (down-pos e) in
+    by-bound (suc (suc k)) e (fin false (suc k) e) (held-digit k e t) (d .0) (d .1)
 half-less zero (pos zero) t = by-bound 1 (pos 0) (fin false 1 (negsuc 0)) tt (omega arith) (omega arith)
 half-less zero (pos (suc k)) t =
     let u = pow-pos k in
@@ -188,7 +198,8 @@ fits-sign zero e t = t
 fits-sign (suc m) e t = t
 
 -- of what is at most a number above zero, half is less than that number
-half-under : (m : ℕ) (e : ℤ) (g : Float) → T (fits binary64 (fin false (suc m) e)) → T (plain g) → Within (fin false (suc m) e) g → T (lt (g ⊘ two-float) (fin false (suc m) e))
+half-under : (m : ℕ) (e : ℤ) (g : Float) → T (fits binary64 (fin false (suc m) e)) → T (plain g) → Within (fin false (suc m) e) g
+    → T (lt (g ⊘ two-float) (fin false (suc m) e))
 half-under m e g t p w =
     let L = fin false (suc m) e in
     let h = g ⊘ two-float in
@@ -204,7 +215,8 @@ half-under m e g t p w =
     lt-units binary64 h L s r t tt .1 (omega arith)
 
 -- the gap between two with a minus sign is at most the lower one's size
-gap-within : (m : ℕ) (e : ℤ) (i : ℕ) (d : ℤ) → T (held binary64 (fin false m e)) → i * up d * down e < m * up e * down d → Within (fin false m e) (fin true i d ⊖ fin true m e)
+gap-within : (m : ℕ) (e : ℤ) (i : ℕ) (d : ℤ) → T (held binary64 (fin false m e)) → i * up d * down e < m * up e * down d
+    → Within (fin false m e) (fin true i d ⊖ fin true m e)
 unfolding sub
 gap-within m e i d t l =
     let a = m * up e * down d in
@@ -221,7 +233,8 @@ with-minus lo (fin false i d) t p q l n = absurd (subst T (sym n) tt)
 with-minus nan (fin true i d) t p q l n = absurd p
 with-minus (inf s) (fin true i d) t p q l n = absurd p
 with-minus (fin false m e) (fin true i d) t p q l n = absurd l
-with-minus (fin true zero e) (fin true i d) t p q l n = absurd (not-suc-le-zero (subst (λ (z : ℕ). i * up d * down e < z) (zero-l (up e) (down d)) (ltb→lt (i * up d * down e) (0 * up e * down d) l)))
+with-minus (fin true zero e) (fin true i d) t p q l n = absurd
+    (not-suc-le-zero (subst (λ (z : ℕ). i * up d * down e < z) (zero-l (up e) (down d)) (ltb→lt (i * up d * down e) (0 * up e * down d) l)))
 with-minus (fin true (suc m) e) (fin true i d) t p q l n =
     let g = fin true i d ⊖ fin true (suc m) e in
     let f = fits-sign (suc m) e t in

@@ -1,6 +1,7 @@
 -- The largest value of binary64: every value of the format is within it.
 use Prim.Native.Nat.{ℕ, suc, _+_, _-_, _*_, _^_, _≤_, _<_}
-use native.Mathlib.Nat.{le-trans, le-of-eq, le-of-lt, mul-one, mul-assoc, mul-le-mul, mul-le-mul-left, mul-le-mul-right, lt-of-mul-lt-mul-right, le-of-suc-le-suc}
+use native.Mathlib.Nat.{le-trans, le-of-eq, le-of-lt, mul-one, mul-assoc}
+use native.Mathlib.Nat.{mul-le-mul, mul-le-mul-left, mul-le-mul-right, lt-of-mul-lt-mul-right, le-of-suc-le-suc}
 use native.Mathlib.Omega.{arith}
 use mathlib.Core.Path.{_≡_, sym, ap, subst, _∙_}
 use mathlib.Core.Bool.{Bool, true, false, not, _&&_}
@@ -50,6 +51,7 @@ held-largest (fin s m (pos k)) t = go (leb k 971) (leb→le k 971) (nleb→lt k 
     go false h n =
         let g : 971 < k = n tt in
         let e : k ≡ k - 971 + 971 = omega arith in
-        let q : m * 2 ^ k ≡ m * 2 ^ (k - 971) * 2 ^ 971 = ap (λ (z : ℕ). m * z) (ap (λ (z : ℕ). 2 ^ z) e ∙ pow-add 2 (k - 971) 971) ∙ sym (mul-assoc m (2 ^ (k - 971)) (2 ^ 971)) in
+        let q : m * 2 ^ k ≡ m * 2 ^ (k - 971) * 2 ^ 971 = ap (λ (z : ℕ). m * z) (ap (λ (z : ℕ). 2 ^ z) e ∙ pow-add 2 (k - 971) 971)
+        ∙ sym (mul-assoc m (2 ^ (k - 971)) (2 ^ 971)) in
         let l : m * 2 ^ (k - 971) < 2 ^ 53 = lt-of-mul-lt-mul-right (2 ^ 971) {n = 2 ^ 53} (subst (λ (z : ℕ). z < 2 ^ 1024) q top) in
         record { real = tt; size = le-trans (le-of-eq (one ∙ q)) (le-trans (mul-le-mul-right (2 ^ 971) (le-of-suc-le-suc l)) (le-of-eq whole)) }

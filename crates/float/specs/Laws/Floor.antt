@@ -40,7 +40,8 @@ floor-is (fin false m e) p = record {
 
     high : (a q d : ℕ) → q * 1 * d + 0 * 1 ≤ a * 1 + 0 * d → q * d ≤ a
     high a q d h = let e : q * 1 * d ≡ q * d = ap (λ (z : ℕ). z * d) (native.Mathlib.Nat.mul-one q) in omega arith
-floor-is (fin true m e) p = go (m * up e / down e) (m * up e % down e) (eqb (m * up e % down e) 0) (div-add-mod' (m * up e) (down e)) (native.Mathlib.Nat.mod-lt (m * up e) (down-pos e)) (eqb→eq (m * up e % down e) 0) (λ k. lib.Ieee.Fits.eq→eqb k)
+floor-is (fin true m e) p = go (m * up e / down e) (m * up e % down e) (eqb (m * up e % down e) 0) (div-add-mod' (m * up e) (down e))
+    (native.Mathlib.Nat.mod-lt (m * up e) (down-pos e)) (eqb→eq (m * up e % down e) 0) (λ k. lib.Ieee.Fits.eq→eqb k)
   where
     one-d : (q d : ℕ) → q * 1 * d ≡ q * d
     one-d q d = ap (λ (z : ℕ). z * d) (native.Mathlib.Nat.mul-one q)
@@ -50,21 +51,33 @@ floor-is (fin true m e) p = go (m * up e / down e) (m * up e % down e) (eqb (m *
         let zz : r ≡ 0 = z tt in
         let e0 : 0 * down e ≡ 0 = zero-mul (down e) in
         let e1 : 0 * 1 * down e ≡ 0 = zero-mul (down e) in
-        record { reached = record { first = tt; second = tt; cross = omega arith }; last = λ l. let c = l .cross in let f1 = one-d 1 (down e) in lt-irrefl 0 (let D = down-pos e in omega arith) }
+        record {
+          reached = record { first = tt; second = tt; cross = omega arith };
+          last = λ l. let c = l .cross in let f1 = one-d 1 (down e) in lt-irrefl 0 (let D = down-pos e in omega arith);
+        }
     go (suc zero) r true h k z w =
         let zz : r ≡ 0 = z tt in
         let f1 = one-d 1 (down e) in
-        record { reached = record { first = tt; second = tt; cross = omega arith }; last = λ l. let c = l .cross in let D = down-pos e in let e1 : 0 * 1 * down e ≡ 0 = zero-mul (down e) in lt-irrefl 0 (omega arith) }
+        record {
+          reached = record { first = tt; second = tt; cross = omega arith };
+          last = λ l. let c = l .cross in let D = down-pos e in let e1 : 0 * 1 * down e ≡ 0 = zero-mul (down e) in lt-irrefl 0 (omega arith);
+        }
     go (suc (suc q)) r true h k z w =
         let zz : r ≡ 0 = z tt in
         let f1 = one-d (suc (suc q)) (down e) in
         let f2 = one-d (suc q) (down e) in
         let f3 : suc (suc q) * down e ≡ suc q * down e + down e = suc-mul (suc q) (down e) in
-        record { reached = record { first = tt; second = tt; cross = omega arith }; last = λ l. let c = l .cross in let D = down-pos e in lt-irrefl 0 (omega arith) }
+        record {
+          reached = record { first = tt; second = tt; cross = omega arith };
+          last = λ l. let c = l .cross in let D = down-pos e in lt-irrefl 0 (omega arith);
+        }
     go zero r false h k z w =
         let f1 = one-d 1 (down e) in
         let e0 : 0 * down e ≡ 0 = zero-mul (down e) in
-        record { reached = record { first = tt; second = tt; cross = omega arith }; last = λ l. let c = l .cross in let e1 : 0 * 1 * down e ≡ 0 = zero-mul (down e) in let rz : r ≡ 0 = omega arith in w rz }
+        record {
+          reached = record { first = tt; second = tt; cross = omega arith };
+          last = λ l. let c = l .cross in let e1 : 0 * 1 * down e ≡ 0 = zero-mul (down e) in let rz : r ≡ 0 = omega arith in w rz;
+        }
     go (suc q) r false h k z w =
         let f1 = one-d (suc (suc q)) (down e) in
         let f2 = one-d (suc q) (down e) in

@@ -40,7 +40,8 @@ add-zero-is : (s : Bool) (m : ℕ) (e : ℤ) → Alike (fin s m e ⊕ zero-float
 unfolding add
 add-zero-is s m e =
     second-zero binary64 s (m * up e * 1) false (0 * 1 * down e) (down e * 1) (mul-pos (down-pos e) (zero-lt-suc 0)) (zero-mul (down e))
-    ∙ ap strip (round-same binary64 s (m * up e * 1) (down e * 1) (m * up e) (down e) (mul-pos (down-pos e) (zero-lt-suc 0)) (down-pos e) (same-frac (m * up e) (down e)))
+    ∙ ap strip (round-same binary64 s (m * up e * 1) (down e * 1) (m * up e) (down e) (mul-pos (down-pos e) (zero-lt-suc 0)) (down-pos e)
+    (same-frac (m * up e) (down e)))
 
 add-zero : (a : Float) → T (held binary64 a) → Le a (a ⊕ zero-float)
 add-zero nan t = absurd t
@@ -115,14 +116,16 @@ pub record Squares (x y z w S : Float) : Type 0 where
   pub of-z : Le (z ⊗ z) S
   pub of-w : Le (w ⊗ w) S
 
-pub squares : (x y z w : Float) → T (finite x) → T (finite y) → T (finite z) → T (finite w) → T (finite (x ⊗ x ⊕ y ⊗ y ⊕ z ⊗ z ⊕ w ⊗ w)) → Squares x y z w (x ⊗ x ⊕ y ⊗ y ⊕ z ⊗ z ⊕ w ⊗ w)
+pub squares : (x y z w : Float) → T (finite x) → T (finite y) → T (finite z) → T (finite w) → T (finite (x ⊗ x ⊕ y ⊗ y ⊕ z ⊗ z ⊕ w ⊗ w))
+    → Squares x y z w (x ⊗ x ⊕ y ⊗ y ⊕ z ⊗ z ⊕ w ⊗ w)
 squares x y z w px py pz pw f =
     let f3 = terms-finite (x ⊗ x ⊕ y ⊗ y ⊕ z ⊗ z) (w ⊗ w) f in
     let f2 = terms-finite (x ⊗ x ⊕ y ⊗ y) (z ⊗ z) (f3 .0) in
     let f1 = terms-finite (x ⊗ x) (y ⊗ y) (f2 .0) in
     let two = grown (x ⊗ x) (y ⊗ y) (mul-fits binary64 x x) (mul-fits binary64 y y) (square-plus x px (f1 .0)) (square-plus y py (f1 .1)) (f2 .0) in
     let three = grown (x ⊗ x ⊕ y ⊗ y) (z ⊗ z) (add-fits binary64 (x ⊗ x) (y ⊗ y)) (mul-fits binary64 z z) (two .plus) (square-plus z pz (f2 .1)) (f3 .0) in
-    let four = grown (x ⊗ x ⊕ y ⊗ y ⊕ z ⊗ z) (w ⊗ w) (add-fits binary64 (x ⊗ x ⊕ y ⊗ y) (z ⊗ z)) (mul-fits binary64 w w) (three .plus) (square-plus w pw (f3 .1)) f in
+    let four = grown (x ⊗ x ⊕ y ⊗ y ⊕ z ⊗ z) (w ⊗ w) (add-fits binary64 (x ⊗ x ⊕ y ⊗ y) (z ⊗ z)) (mul-fits binary64 w w) (three .plus)
+    (square-plus w pw (f3 .1)) f in
     record {
       of-x = Le-trans (two .left) (Le-trans (three .left) (four .left));
       of-y = Le-trans (two .right) (Le-trans (three .left) (four .left));
@@ -146,6 +149,8 @@ mul-plus {x = fin s m e} {y = nan} h k f = absurd (k .second)
 mul-plus {x = fin s m e} {y = inf t} h k f = absurd (k .second)
 mul-plus {x = fin false m e} {y = fin false n d} h k f = plain-plus _ (round-plain binary64 (m * up e * (n * up d)) (down e * down d)) f
 mul-plus {x = fin true m e} {y = fin t n d} h k f =
-    zero-plus (unlike true t) (m * up e * (n * up d)) (down e * down d) (mul-pos (down-pos e) (down-pos d)) (ap (λ (z : ℕ). z * (n * up d)) (minus-zero m e h) ∙ zero-mul (n * up d))
+    zero-plus (unlike true t) (m * up e * (n * up d)) (down e * down d) (mul-pos (down-pos e) (down-pos d))
+    (ap (λ (z : ℕ). z * (n * up d)) (minus-zero m e h) ∙ zero-mul (n * up d))
 mul-plus {x = fin false m e} {y = fin true n d} h k f =
-    zero-plus (unlike false true) (m * up e * (n * up d)) (down e * down d) (mul-pos (down-pos e) (down-pos d)) (ap (λ (z : ℕ). m * up e * z) (minus-zero n d k) ∙ mul-zero (m * up e))
+    zero-plus (unlike false true) (m * up e * (n * up d)) (down e * down d) (mul-pos (down-pos e) (down-pos d))
+    (ap (λ (z : ℕ). m * up e * z) (minus-zero n d k) ∙ mul-zero (m * up e))

@@ -1,4 +1,5 @@
--- Intervals of values, signs included: `In lo hi x` says that x is finite and lo ≤ x ≤ hi. Each rule takes the ends of the operands' intervals to the ends of the result's,
+-- Intervals of values, signs included: `In lo hi x` says that x is finite and lo ≤ x ≤ hi. Each
+-- rule takes the ends of the operands' intervals to the ends of the result's,
 -- which for numerals `tt` computes (the declaration says `unfolding add` and so on). The ends asked for may be wider than those computed.
 use mathlib.Core.Path.{_≡_, ap, _∙_}
 use Prim.Native.Nat.{ℕ, _+_, _*_, _≤_, _<_}
@@ -20,14 +21,19 @@ use Rattle.float.specs.Laws.Within.{Le→within, within→Le}
 pub Le-refl : (x : Float) → T (finite x) → Le x x
 Le-refl x p = record { first = p; second = p; cross = le-refl (pl x * den x + mi x * den x) }
 
-chain : (px nx dx py ny dy pz nz dz : ℕ) → 0 < dy → px * dy + ny * dx ≤ py * dx + nx * dy → py * dz + nz * dy ≤ pz * dy + ny * dz → px * dz + nz * dx ≤ pz * dx + nx * dz
+chain : (px nx dx py ny dy pz nz dz : ℕ) → 0 < dy → px * dy + ny * dx ≤ py * dx + nx * dy → py * dz + nz * dy ≤ pz * dy + ny * dz
+    → px * dz + nz * dx ≤ pz * dx + nx * dz
 chain px nx dx py ny dy pz nz dz D h k =
     let a : (px * dy + ny * dx) * dz ≤ (py * dx + nx * dy) * dz = mul-le-mul-right dz h in
     let b : (py * dz + nz * dy) * dx ≤ (pz * dy + ny * dz) * dx = mul-le-mul-right dx k in
-    let a1 : (px * dy + ny * dx) * dz ≡ px * dz * dy + ny * dx * dz = add-mul (px * dy) (ny * dx) dz ∙ ap (λ (z : ℕ). z + ny * dx * dz) (mul-right-comm px dy dz) in
-    let a2 : (py * dx + nx * dy) * dz ≡ py * dx * dz + nx * dz * dy = add-mul (py * dx) (nx * dy) dz ∙ ap (λ (z : ℕ). py * dx * dz + z) (mul-right-comm nx dy dz) in
-    let b1 : (py * dz + nz * dy) * dx ≡ py * dx * dz + nz * dx * dy = add-mul (py * dz) (nz * dy) dx ∙ ap (λ (z : ℕ). z + nz * dy * dx) (mul-right-comm py dz dx) ∙ ap (λ (z : ℕ). py * dx * dz + z) (mul-right-comm nz dy dx) in
-    let b2 : (pz * dy + ny * dz) * dx ≡ pz * dx * dy + ny * dx * dz = add-mul (pz * dy) (ny * dz) dx ∙ ap (λ (z : ℕ). z + ny * dz * dx) (mul-right-comm pz dy dx) ∙ ap (λ (z : ℕ). pz * dx * dy + z) (mul-right-comm ny dz dx) in
+    let a1 : (px * dy + ny * dx) * dz ≡ px * dz * dy + ny * dx * dz = add-mul (px * dy) (ny * dx) dz
+    ∙ ap (λ (z : ℕ). z + ny * dx * dz) (mul-right-comm px dy dz) in
+    let a2 : (py * dx + nx * dy) * dz ≡ py * dx * dz + nx * dz * dy = add-mul (py * dx) (nx * dy) dz
+    ∙ ap (λ (z : ℕ). py * dx * dz + z) (mul-right-comm nx dy dz) in
+    let b1 : (py * dz + nz * dy) * dx ≡ py * dx * dz + nz * dx * dy = add-mul (py * dz) (nz * dy) dx
+    ∙ ap (λ (z : ℕ). z + nz * dy * dx) (mul-right-comm py dz dx) ∙ ap (λ (z : ℕ). py * dx * dz + z) (mul-right-comm nz dy dx) in
+    let b2 : (pz * dy + ny * dz) * dx ≡ pz * dx * dy + ny * dx * dz = add-mul (pz * dy) (ny * dz) dx
+    ∙ ap (λ (z : ℕ). z + ny * dz * dx) (mul-right-comm pz dy dx) ∙ ap (λ (z : ℕ). pz * dx * dy + z) (mul-right-comm ny dz dx) in
     let c1 : (px * dz + nz * dx) * dy ≡ px * dz * dy + nz * dx * dy = add-mul (px * dz) (nz * dx) dy in
     let c2 : (pz * dx + nx * dz) * dy ≡ pz * dx * dy + nx * dz * dy = add-mul (pz * dx) (nx * dz) dy in
     let s : (px * dz + nz * dx) * dy ≤ (pz * dx + nx * dz) * dy = omega arith in
@@ -35,7 +41,12 @@ chain px nx dx py ny dy pz nz dz D h k =
 
 pub Le-trans : {x y z : Float} → Le x y → Le y z → Le x z
 Le-trans {x} {y} {z} h k =
-    record { first = h .first; second = k .second; cross = chain (pl x) (mi x) (den x) (pl y) (mi y) (den y) (pl z) (mi z) (den z) (den-pos y) (h .cross) (k .cross) }
+    record {
+      first = h .first;
+      second = k .second;
+      cross = chain (pl x) (mi x) (den x) (pl y) (mi y) (den y) (pl z) (mi z) (den z) (den-pos y)
+          (h .cross) (k .cross);
+    }
 
 pub Le-total : (x y : Float) → T (finite x) → T (finite y) → Le x y ⊎ Le y x
 Le-total x y p q = go (leb l r) (leb→le l r) (nleb→lt l r)
@@ -46,7 +57,8 @@ Le-total x y p q = go (leb l r) (leb→le l r) (nleb→lt l r)
     r : ℕ
     r = pl y * den x + mi x * den y
 
-    go : (b : Bool) → (T b → pl x * den y + mi y * den x ≤ pl y * den x + mi x * den y) → (T (not b) → pl y * den x + mi x * den y < pl x * den y + mi y * den x) → Le x y ⊎ Le y x
+    go : (b : Bool) → (T b → pl x * den y + mi y * den x ≤ pl y * den x + mi x * den y)
+        → (T (not b) → pl y * den x + mi x * den y < pl x * den y + mi y * den x) → Le x y ⊎ Le y x
     go true a b = inl (record { first = p; second = q; cross = a tt })
     go false a b = inr (record { first = q; second = p; cross = le-of-lt (b tt) })
 
@@ -99,9 +111,11 @@ add-in f {a} {b} {c} {d} {x} {y} t h k = in-of (add f a c) (add f b d) (add f x 
 pub sub-in : (f : Format) {a b c d x y : Float} → T (finite (sub f a d) && finite (sub f b c)) → In a b x → In c d y → In (sub f a d) (sub f b c) (sub f x y)
 sub-in f {a} {b} {c} {d} {x} {y} t h k = in-of (sub f a d) (sub f b c) (sub f x y) t (sub-mono f (h .lower) (k .upper)) (sub-mono f (h .upper) (k .lower))
 
-pub mul-in-by : (f : Format) (y : Float) {a b x : Float} → T (finite y && plain y) → T (finite (mul f a y) && finite (mul f b y)) → In a b x → In (mul f a y) (mul f b y) (mul f x y)
+pub mul-in-by : (f : Format) (y : Float) {a b x : Float} → T (finite y && plain y) → T (finite (mul f a y) && finite (mul f b y)) → In a b x
+    → In (mul f a y) (mul f b y) (mul f x y)
 mul-in-by f y {a} {b} {x} p t h =
-    in-of (mul f a y) (mul f b y) (mul f x y) t (mul-mono-by f y (and-l (finite y) (plain y) p) (and-r (finite y) (plain y) p) (h .lower)) (mul-mono-by f y (and-l (finite y) (plain y) p) (and-r (finite y) (plain y) p) (h .upper))
+    in-of (mul f a y) (mul f b y) (mul f x y) t (mul-mono-by f y (and-l (finite y) (plain y) p) (and-r (finite y) (plain y) p) (h .lower))
+    (mul-mono-by f y (and-l (finite y) (plain y) p) (and-r (finite y) (plain y) p) (h .upper))
 
 pub in-within : {B x : Float} → T (plain B) → In (neg B) B x → Within B x
 in-within q h = Le→within q (h .upper) (h .lower)

@@ -4,7 +4,8 @@
 use mathlib.Core.Path.{_≡_, sym, ap, ap₂, _∙_, subst, subst⁻¹}
 use mathlib.Core.Logic.{_⊎_, inl, inr}
 use Prim.Native.Nat.{ℕ, zero, suc, _+_, _-_, _*_, _^_, _≤_, _<_}
-use native.Mathlib.Nat.{le-of-lt, zero-mul, one-mul, mul-pos, mul-assoc, mul-comm, mul-left-comm, add-mul, mul-sub, zero-lt-suc, lt-irrefl, eq-or-lt-of-le, le-of-mul-le-mul-right, mul-le-mul-right}
+use native.Mathlib.Nat.{le-of-lt, zero-mul, one-mul, mul-pos, mul-assoc, mul-comm, mul-left-comm}
+use native.Mathlib.Nat.{add-mul, mul-sub, zero-lt-suc, lt-irrefl, eq-or-lt-of-le, le-of-mul-le-mul-right, mul-le-mul-right}
 use native.Mathlib.Omega.{arith}
 use mathlib.Core.Bool.{Bool, true, false, not, _&&_, _||_, cond}
 use lib.Dec.{T, ltb, eqb, leb, ltb→lt, lt→ltb, nltb→le, leb→le, nleb→lt, eqb→eq}
@@ -85,7 +86,8 @@ le→Le (fin s m e) nan p q h = absurd q
 le→Le (fin s m e) (inf t) p q h = absurd q
 le→Le (fin s m e) (fin t n d) p q h = record { first = tt; second = tt; cross = go s t h }
   where
-    go : (s t : Bool) → T (below s (m * up e * down d) t (n * up d * down e) || level s (m * up e * down d) t (n * up d * down e)) → pl (fin s m e) * down d + mi (fin t n d) * down e ≤ pl (fin t n d) * down e + mi (fin s m e) * down d
+    go : (s t : Bool) → T (below s (m * up e * down d) t (n * up d * down e) || level s (m * up e * down d) t (n * up d * down e))
+        → pl (fin s m e) * down d + mi (fin t n d) * down e ≤ pl (fin t n d) * down e + mi (fin s m e) * down d
     go true true h = let k = said true true (m * up e * down d) (n * up d * down e) h in omega arith
     go true false h = omega arith
     go false true h = let k = said false true (m * up e * down d) (n * up d * down e) h in omega arith
@@ -99,7 +101,8 @@ Le→le {x = fin s m e} {y = nan} h = absurd (h .second)
 Le→le {x = fin s m e} {y = inf t} h = absurd (h .second)
 Le→le {x = fin s m e} {y = fin t n d} h = go s t (h .cross)
   where
-    go : (s t : Bool) → pl (fin s m e) * down d + mi (fin t n d) * down e ≤ pl (fin t n d) * down e + mi (fin s m e) * down d → T (below s (m * up e * down d) t (n * up d * down e) || level s (m * up e * down d) t (n * up d * down e))
+    go : (s t : Bool) → pl (fin s m e) * down d + mi (fin t n d) * down e ≤ pl (fin t n d) * down e + mi (fin s m e) * down d
+        → T (below s (m * up e * down d) t (n * up d * down e) || level s (m * up e * down d) t (n * up d * down e))
     go true true h = say true true (m * up e * down d) (n * up d * down e) (omega arith)
     go true false h = say true false (m * up e * down d) (n * up d * down e) (omega arith)
     go false true h = say false true (m * up e * down d) (n * up d * down e) (omega arith)
@@ -204,19 +207,20 @@ crossed p n c q m d D C h k l =
 pub srnd-mono : (f : Format) (p n c q m d : ℕ) → 0 < c → 0 < d → p * d + m * c ≤ q * c + n * d → T (le (srnd f p n c) (srnd f q m d))
 srnd-mono f p n c q m d C D h = go (leb n p) (leb m q) (leb→le n p) (nleb→lt n p) (leb→le m q) (nleb→lt m q)
   where
-    turned : p < n → q < m → (m - q) * c ≤ (n - p) * d
-    turned k l = differences m q d n p c (le-of-lt l) (le-of-lt k) (omega arith)
+    reversed : p < n → q < m → (m - q) * c ≤ (n - p) * d
+    reversed k l = differences m q d n p c (le-of-lt l) (le-of-lt k) (omega arith)
 
     go : (x y : Bool) → (T x → n ≤ p) → (T (not x) → p < n) → (T y → m ≤ q) → (T (not y) → q < m)
         → T (le (cond x (round f false (p - n) c) (round f true (n - p) c)) (cond y (round f false (q - m) d) (round f true (m - q) d)))
     go true true a b u v = round-mono f (p - n) c (q - m) d C D (differences p n c q m d (a tt) (u tt) h)
     go true false a b u v = absurd (crossed p n c q m d D C (a tt) (v tt) h)
     go false true a b u v =
-        subst (λ (z : Float). T (le z (round f false (q - m) d))) (sym (round-neg f false (n - p) c)) (minus-plus (round f false (n - p) c) (round f false (q - m) d) (round-plain f (n - p) c) (round-plain f (q - m) d))
+        subst (λ (z : Float). T (le z (round f false (q - m) d))) (sym (round-neg f false (n - p) c))
+        (minus-plus (round f false (n - p) c) (round f false (q - m) d) (round-plain f (n - p) c) (round-plain f (q - m) d))
     go false false a b u v =
         subst (λ (z : Float). T (le z (round f true (m - q) d))) (sym (round-neg f false (n - p) c))
         (subst (λ (z : Float). T (le (neg (round f false (n - p) c)) z)) (sym (round-neg f false (m - q) d))
-        (neg-anti (round f false (m - q) d) (round f false (n - p) c) (round-mono f (m - q) d (n - p) c D C (turned (b tt) (v tt)))))
+        (neg-anti (round f false (m - q) d) (round f false (n - p) c) (round-mono f (m - q) d (n - p) c D C (reversed (b tt) (v tt)))))
 
 -- ---- the order does not see the sign of a zero
 zero-below : (u v d p n : ℕ) → 0 < d → u ≡ 0 → v ≡ 0 → u + n * d ≤ p * d + v → n ≤ p
@@ -254,11 +258,13 @@ unfolding strip
 unstrip-Le-l nan h = h
 unstrip-Le-l (inf s) h = h
 unstrip-Le-l (fin true zero e) {y} h =
-    let k : mi y * down e ≤ pl y * down e = mul-le-mul-right (down e) (zero-below (0 * den y) (0 * den y) 1 (pl y) (mi y) (zero-lt-suc 0) (zero-mul (den y)) (zero-mul (den y)) (h .cross)) in
+    let k : mi y * down e ≤ pl y * down e = mul-le-mul-right (down e)
+    (zero-below (0 * den y) (0 * den y) 1 (pl y) (mi y) (zero-lt-suc 0) (zero-mul (den y)) (zero-mul (den y)) (h .cross)) in
     let z : 0 * up e * den y ≡ 0 = zero-l (up e) (den y) in
     record { first = tt; second = h .second; cross = omega arith }
 unstrip-Le-l (fin false zero e) {y} h =
-    let k : mi y * down e ≤ pl y * down e = mul-le-mul-right (down e) (zero-below (0 * den y) (0 * den y) 1 (pl y) (mi y) (zero-lt-suc 0) (zero-mul (den y)) (zero-mul (den y)) (h .cross)) in
+    let k : mi y * down e ≤ pl y * down e = mul-le-mul-right (down e)
+    (zero-below (0 * den y) (0 * den y) 1 (pl y) (mi y) (zero-lt-suc 0) (zero-mul (den y)) (zero-mul (den y)) (h .cross)) in
     let z : 0 * up e * den y ≡ 0 = zero-l (up e) (den y) in
     record { first = tt; second = h .second; cross = omega arith }
 unstrip-Le-l (fin s (suc m) e) h = h
@@ -268,11 +274,13 @@ unfolding strip
 unstrip-Le-r nan h = h
 unstrip-Le-r (inf s) h = h
 unstrip-Le-r {x} (fin true zero e) h =
-    let k : pl x * down e ≤ mi x * down e = mul-le-mul-right (down e) (zero-above (0 * den x) (0 * den x) 1 (pl x) (mi x) (zero-lt-suc 0) (zero-mul (den x)) (zero-mul (den x)) (h .cross)) in
+    let k : pl x * down e ≤ mi x * down e = mul-le-mul-right (down e)
+    (zero-above (0 * den x) (0 * den x) 1 (pl x) (mi x) (zero-lt-suc 0) (zero-mul (den x)) (zero-mul (den x)) (h .cross)) in
     let z : 0 * up e * den x ≡ 0 = zero-l (up e) (den x) in
     record { first = h .first; second = tt; cross = omega arith }
 unstrip-Le-r {x} (fin false zero e) h =
-    let k : pl x * down e ≤ mi x * down e = mul-le-mul-right (down e) (zero-above (0 * den x) (0 * den x) 1 (pl x) (mi x) (zero-lt-suc 0) (zero-mul (den x)) (zero-mul (den x)) (h .cross)) in
+    let k : pl x * down e ≤ mi x * down e = mul-le-mul-right (down e)
+    (zero-above (0 * den x) (0 * den x) 1 (pl x) (mi x) (zero-lt-suc 0) (zero-mul (den x)) (zero-mul (den x)) (h .cross)) in
     let z : 0 * up e * den x ≡ 0 = zero-l (up e) (den x) in
     record { first = h .first; second = tt; cross = omega arith }
 unstrip-Le-r (fin s (suc m) e) h = h
@@ -319,7 +327,8 @@ le-unstrip (fin s (suc m) e) nan h = h
 le-unstrip (fin s zero e) (inf t) h = h
 le-unstrip (fin s (suc m) e) (inf t) h = h
 le-unstrip (fin s m e) (fin t n d) h =
-    Le→le (unstrip-Le-l (fin s m e) (unstrip-Le-r (fin t n d) (le→Le (strip (fin s m e)) (strip (fin t n d)) (finite-strip (fin s m e) tt) (finite-strip (fin t n d) tt) h)))
+    Le→le (unstrip-Le-l (fin s m e) (unstrip-Le-r (fin t n d)
+    (le→Le (strip (fin s m e)) (strip (fin t n d)) (finite-strip (fin s m e) tt) (finite-strip (fin t n d) tt) h)))
 
 pub le-alike : (x x' y y' : Float) → Alike x x' → Alike y y' → T (le x y) → T (le x' y')
 le-alike x x' y y' p q h = le-unstrip x' y' (subst (λ (z : Float). T (le (strip x') z)) q (subst (λ (z : Float). T (le z (strip y))) p (le-strip x y h)))
@@ -354,7 +363,8 @@ signed-neg f v p n c C h = go (leb n p) (leb→le n p)
     go true k = round-zero f true v c C (nil (k tt)) ∙ sym (round-zero f false (p - n) c C (nil' (k tt)))
     go false k = ap (λ (z : ℕ). strip (round f true z c)) (sym is)
 
-pub sum-srnd : (f : Format) (s : Bool) (a : ℕ) (t : Bool) (b c p n : ℕ) → 0 < c → p + (cond s a 0 + cond t b 0) ≡ n + (cond s 0 a + cond t 0 b) → Alike (sum f s a t b c) (srnd f p n c)
+pub sum-srnd : (f : Format) (s : Bool) (a : ℕ) (t : Bool) (b c p n : ℕ) → 0 < c → p + (cond s a 0 + cond t b 0) ≡ n + (cond s 0 a + cond t 0 b)
+    → Alike (sum f s a t b c) (srnd f p n c)
 unfolding sum
 sum-srnd f false a false b c p n C h = signed-pos f (a + b) p n c (omega arith)
 sum-srnd f true a true b c p n C h = signed-neg f (a + b) p n c C (omega arith)
@@ -365,12 +375,14 @@ sum-srnd f false a true b c p n C h = go (ltb a b) (ltb→lt a b) (nltb→le a b
     go false k l = let u : b ≤ a = l tt in signed-pos f (a - b) p n c (omega arith)
 sum-srnd f true a false b c p n C h = go (ltb a b) (ltb b a) (ltb→lt a b) (nltb→le a b) (nltb→le b a)
   where
-    go : (x y : Bool) → (T x → a < b) → (T (not x) → b ≤ a) → (T (not y) → a ≤ b) → Alike (cond x (round f false (b - a) c) (round f y (a - b) c)) (srnd f p n c)
+    go : (x y : Bool) → (T x → a < b) → (T (not x) → b ≤ a) → (T (not y) → a ≤ b)
+        → Alike (cond x (round f false (b - a) c) (round f y (a - b) c)) (srnd f p n c)
     go true y k l m = let u : a < b = k tt in signed-pos f (b - a) p n c (omega arith)
     go false true k l m = let u : b ≤ a = l tt in signed-neg f (a - b) p n c C (omega arith)
     go false false k l m = let u : b ≤ a = l tt in let w : a ≤ b = m tt in signed-pos f (a - b) p n c (omega arith)
 
-pub add-srnd : (f : Format) (x y : Float) → T (finite x) → T (finite y) → Alike (add f x y) (srnd f (pl x * den y + pl y * den x) (mi x * den y + mi y * den x) (den x * den y))
+pub add-srnd : (f : Format) (x y : Float) → T (finite x) → T (finite y)
+    → Alike (add f x y) (srnd f (pl x * den y + pl y * den x) (mi x * den y + mi y * den x) (den x * den y))
 unfolding add
 add-srnd f nan y p q = absurd p
 add-srnd f (inf s) y p q = absurd p
@@ -381,11 +393,16 @@ add-srnd f (fin s m e) (fin t n d) p q = go s t
     C : 0 < down e * down d
     C = mul-pos (down-pos e) (down-pos d)
 
-    go : (s t : Bool) → Alike (sum f s (m * up e * down d) t (n * up d * down e) (down e * down d)) (srnd f (pl (fin s m e) * down d + pl (fin t n d) * down e) (mi (fin s m e) * down d + mi (fin t n d) * down e) (down e * down d))
-    go true true = sum-srnd f true (m * up e * down d) true (n * up d * down e) (down e * down d) (pl (fin true m e) * down d + pl (fin true n d) * down e) (mi (fin true m e) * down d + mi (fin true n d) * down e) C (omega arith)
-    go true false = sum-srnd f true (m * up e * down d) false (n * up d * down e) (down e * down d) (pl (fin true m e) * down d + pl (fin false n d) * down e) (mi (fin true m e) * down d + mi (fin false n d) * down e) C (omega arith)
-    go false true = sum-srnd f false (m * up e * down d) true (n * up d * down e) (down e * down d) (pl (fin false m e) * down d + pl (fin true n d) * down e) (mi (fin false m e) * down d + mi (fin true n d) * down e) C (omega arith)
-    go false false = sum-srnd f false (m * up e * down d) false (n * up d * down e) (down e * down d) (pl (fin false m e) * down d + pl (fin false n d) * down e) (mi (fin false m e) * down d + mi (fin false n d) * down e) C (omega arith)
+    go : (s t : Bool) → Alike (sum f s (m * up e * down d) t (n * up d * down e) (down e * down d))
+        (srnd f (pl (fin s m e) * down d + pl (fin t n d) * down e) (mi (fin s m e) * down d + mi (fin t n d) * down e) (down e * down d))
+    go true true = sum-srnd f true (m * up e * down d) true (n * up d * down e) (down e * down d)
+        (pl (fin true m e) * down d + pl (fin true n d) * down e) (mi (fin true m e) * down d + mi (fin true n d) * down e) C (omega arith)
+    go true false = sum-srnd f true (m * up e * down d) false (n * up d * down e) (down e * down d)
+        (pl (fin true m e) * down d + pl (fin false n d) * down e) (mi (fin true m e) * down d + mi (fin false n d) * down e) C (omega arith)
+    go false true = sum-srnd f false (m * up e * down d) true (n * up d * down e) (down e * down d)
+        (pl (fin false m e) * down d + pl (fin true n d) * down e) (mi (fin false m e) * down d + mi (fin true n d) * down e) C (omega arith)
+    go false false = sum-srnd f false (m * up e * down d) false (n * up d * down e) (down e * down d)
+        (pl (fin false m e) * down d + pl (fin false n d) * down e) (mi (fin false m e) * down d + mi (fin false n d) * down e) C (omega arith)
 
 -- ---- so `add` and `sub` keep the order
 grow : (p n d p' n' d' q m e q' m' e' : ℕ) → p * d' + n' * d ≤ p' * d + n * d' → q * e' + m' * e ≤ q' * e + m * e'
@@ -408,7 +425,8 @@ add-mono f {x} {x'} {y} {y'} h k =
     le-alike (srnd f (pl x * den y + pl y * den x) (mi x * den y + mi y * den x) (den x * den y)) (add f x y)
     (srnd f (pl x' * den y' + pl y' * den x') (mi x' * den y' + mi y' * den x') (den x' * den y')) (add f x' y')
     (sym (add-srnd f x y (h .first) (k .first))) (sym (add-srnd f x' y' (h .second) (k .second)))
-    (srnd-mono f (pl x * den y + pl y * den x) (mi x * den y + mi y * den x) (den x * den y) (pl x' * den y' + pl y' * den x') (mi x' * den y' + mi y' * den x') (den x' * den y')
+    (srnd-mono f (pl x * den y + pl y * den x) (mi x * den y + mi y * den x) (den x * den y) (pl x' * den y' + pl y' * den x')
+    (mi x' * den y' + mi y' * den x') (den x' * den y')
     (mul-pos (den-pos x) (den-pos y)) (mul-pos (den-pos x') (den-pos y'))
     (grow (pl x) (mi x) (den x) (pl x') (mi x') (den x') (pl y) (mi y) (den y) (pl y') (mi y') (den y') (h .cross) (k .cross)))
 
@@ -424,7 +442,8 @@ mul-srnd f (inf s) y p q r = absurd p
 mul-srnd f (fin s m e) nan p q r = absurd q
 mul-srnd f (fin s m e) (inf t) p q r = absurd q
 mul-srnd f (fin s m e) (fin true n d) p q r = absurd r
-mul-srnd f (fin true m e) (fin false n d) p q r = signed-neg f (m * up e * (n * up d)) (0 * (n * up d)) (m * up e * (n * up d)) (down e * down d) (mul-pos (down-pos e) (down-pos d)) (omega arith)
+mul-srnd f (fin true m e) (fin false n d) p q r = signed-neg f (m * up e * (n * up d)) (0 * (n * up d)) (m * up e * (n * up d)) (down e * down d)
+    (mul-pos (down-pos e) (down-pos d)) (omega arith)
 mul-srnd f (fin false m e) (fin false n d) p q r = signed-pos f (m * up e * (n * up d)) (m * up e * (n * up d)) (0 * (n * up d)) (down e * down d) (omega arith)
 
 scale : (p n d p' n' d' u v : ℕ) → p * d' + n' * d ≤ p' * d + n * d' → p * u * (d' * v) + n' * u * (d * v) ≤ p' * u * (d * v) + n * u * (d' * v)
@@ -442,11 +461,13 @@ pub mul-mono-by : (f : Format) {x x' : Float} (y : Float) → T (finite y) → T
 mul-mono-by f {x} {x'} y q r h =
     le-alike (srnd f (pl x * num y) (mi x * num y) (den x * den y)) (mul f x y) (srnd f (pl x' * num y) (mi x' * num y) (den x' * den y)) (mul f x' y)
     (sym (mul-srnd f x y (h .first) q r)) (sym (mul-srnd f x' y (h .second) q r))
-    (srnd-mono f (pl x * num y) (mi x * num y) (den x * den y) (pl x' * num y) (mi x' * num y) (den x' * den y) (mul-pos (den-pos x) (den-pos y)) (mul-pos (den-pos x') (den-pos y))
+    (srnd-mono f (pl x * num y) (mi x * num y) (den x * den y) (pl x' * num y) (mi x' * num y) (den x' * den y) (mul-pos (den-pos x) (den-pos y))
+    (mul-pos (den-pos x') (den-pos y))
     (scale (pl x) (mi x) (den x) (pl x') (mi x') (den x') (num y) (den y) (h .cross)))
 
 -- ---- a quotient by what is above zero
-pub div-srnd : (f : Format) (x y : Float) → T (finite x) → T (finite y) → T (plain y) → 0 < num y → Alike (div f x y) (srnd f (pl x * den y) (mi x * den y) (den x * num y))
+pub div-srnd : (f : Format) (x y : Float) → T (finite x) → T (finite y) → T (plain y) → 0 < num y
+    → Alike (div f x y) (srnd f (pl x * den y) (mi x * den y) (den x * num y))
 unfolding div
 div-srnd f nan y p q r z = absurd p
 div-srnd f (inf s) y p q r z = absurd p
@@ -461,10 +482,14 @@ div-srnd f (fin s m e) (fin false n d) p q r z = go s (eqb n 0) (eqb→eq n 0)
     gone : n ≡ 0 → ⊥
     gone k = lt-irrefl 0 (subst (λ (v : ℕ). 0 < v) (ap (λ (v : ℕ). v * up d) k ∙ zero-mul (up d)) z)
 
-    go : (s : Bool) (b : Bool) → (T b → n ≡ 0) → Alike (cond b (cond (eqb m 0) nan (inf (unlike s false))) (round f (unlike s false) (m * up e * down d) (n * up d * down e))) (srnd f (pl (fin s m e) * down d) (mi (fin s m e) * down d) (down e * (n * up d)))
+    go : (s : Bool) (b : Bool) → (T b → n ≡ 0)
+        → Alike (cond b (cond (eqb m 0) nan (inf (unlike s false))) (round f (unlike s false) (m * up e * down d) (n * up d * down e)))
+        (srnd f (pl (fin s m e) * down d) (mi (fin s m e) * down d) (down e * (n * up d)))
     go s true k = absurd (gone (k tt))
-    go true false k = ap (λ (v : ℕ). strip (round f true (m * up e * down d) v)) order ∙ signed-neg f (m * up e * down d) (0 * down d) (m * up e * down d) (down e * (n * up d)) (mul-pos (down-pos e) z) (omega arith)
-    go false false k = ap (λ (v : ℕ). strip (round f false (m * up e * down d) v)) order ∙ signed-pos f (m * up e * down d) (m * up e * down d) (0 * down d) (down e * (n * up d)) (omega arith)
+    go true false k = ap (λ (v : ℕ). strip (round f true (m * up e * down d) v)) order
+        ∙ signed-neg f (m * up e * down d) (0 * down d) (m * up e * down d) (down e * (n * up d)) (mul-pos (down-pos e) z) (omega arith)
+    go false false k = ap (λ (v : ℕ). strip (round f false (m * up e * down d) v)) order
+        ∙ signed-pos f (m * up e * down d) (m * up e * down d) (0 * down d) (down e * (n * up d)) (omega arith)
 
 pub div-mono-by : (f : Format) {x x' : Float} (y : Float) → T (finite y) → T (plain y) → 0 < num y → Le x x' → T (le (div f x y) (div f x' y))
 div-mono-by f {x} {x'} y q r z h =

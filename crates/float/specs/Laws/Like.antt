@@ -1,4 +1,5 @@
--- The operations respect `Like`, so they see only the numbers and not the sign of a zero; and `Opp x x'`, x' is minus x as a number, goes through `add`, `sub`, `mul`.
+-- The operations respect `Like`, so they see only the numbers and not the sign of a zero; and
+-- `Opp x x'`, x' is minus x as a number, goes through `add`, `sub`, `mul`.
 --
 use mathlib.Core.Path.{_≡_, refl, sym, ap, ap₂, _∙_}
 use Prim.Native.Nat.{ℕ, zero, suc, _+_, _-_, _*_, _≤_, _<_}
@@ -30,11 +31,14 @@ mul-strip f (fin s (suc m) e) nan = refl
 mul-strip f (fin s zero e) (inf t) = refl
 mul-strip f (fin s (suc m) e) (inf t) = refl
 mul-strip f (fin s zero e) (fin t zero d) =
-    round-zero f (unlike s t) _ _ (mul-pos (down-pos e) (down-pos d)) (zero-l (up e) (0 * up d)) ∙ sym (round-zero f (unlike false false) _ _ (zero-lt-suc 0) refl)
+    round-zero f (unlike s t) _ _ (mul-pos (down-pos e) (down-pos d)) (zero-l (up e) (0 * up d))
+    ∙ sym (round-zero f (unlike false false) _ _ (zero-lt-suc 0) refl)
 mul-strip f (fin s zero e) (fin t (suc n) d) =
-    round-zero f (unlike s t) _ _ (mul-pos (down-pos e) (down-pos d)) (zero-l (up e) (suc n * up d)) ∙ sym (round-zero f (unlike false t) _ _ (mul-pos (zero-lt-suc 0) (down-pos d)) (zero-l 1 (suc n * up d)))
+    round-zero f (unlike s t) _ _ (mul-pos (down-pos e) (down-pos d)) (zero-l (up e) (suc n * up d))
+    ∙ sym (round-zero f (unlike false t) _ _ (mul-pos (zero-lt-suc 0) (down-pos d)) (zero-l 1 (suc n * up d)))
 mul-strip f (fin s (suc m) e) (fin t zero d) =
-    round-zero f (unlike s t) _ _ (mul-pos (down-pos e) (down-pos d)) (zero-r (suc m * up e) (up d)) ∙ sym (round-zero f (unlike s false) _ _ (mul-pos (down-pos e) (zero-lt-suc 0)) (zero-r (suc m * up e) 1))
+    round-zero f (unlike s t) _ _ (mul-pos (down-pos e) (down-pos d)) (zero-r (suc m * up e) (up d))
+    ∙ sym (round-zero f (unlike s false) _ _ (mul-pos (down-pos e) (zero-lt-suc 0)) (zero-r (suc m * up e) 1))
 mul-strip f (fin s (suc m) e) (fin t (suc n) d) = refl
 
 -- ---- a sum
@@ -62,7 +66,8 @@ first-zero f s a t b c C z = go s t
         pick true h = ap (λ (n : ℕ). strip (round f t n c)) subs
         pick false h = round-zero f (s && ltb b a) (a - b) c C none ∙ sym (round-zero f t b c C (flat (h tt)))
 
-    go : (s t : Bool) → Alike (cond (Bool·beq s t) (round f s (a + b) c) (cond (ltb a b) (round f t (b - a) c) (round f (s && ltb b a) (a - b) c))) (round f t b c)
+    go : (s t : Bool) → Alike (cond (Bool·beq s t) (round f s (a + b) c) (cond (ltb a b) (round f t (b - a) c) (round f (s && ltb b a) (a - b) c)))
+        (round f t b c)
     go true true = ap (λ (n : ℕ). strip (round f true n c)) sums
     go false false = ap (λ (n : ℕ). strip (round f false n c)) sums
     go true false = apart true false
@@ -92,7 +97,8 @@ second-zero f s a t b c C z = go s t
         pick false true h k = ap strip (ap₂ (λ (r : Bool) (n : ℕ). round f r n c) (and-true s) subs)
         pick false false h k = round-zero f (s && false) (a - b) c C (subs ∙ flat (k tt)) ∙ sym (round-zero f s a c C (flat (k tt)))
 
-    go : (s t : Bool) → Alike (cond (Bool·beq s t) (round f s (a + b) c) (cond (ltb a b) (round f t (b - a) c) (round f (s && ltb b a) (a - b) c))) (round f s a c)
+    go : (s t : Bool) → Alike (cond (Bool·beq s t) (round f s (a + b) c) (cond (ltb a b) (round f t (b - a) c) (round f (s && ltb b a) (a - b) c)))
+        (round f s a c)
     go true true = ap (λ (n : ℕ). strip (round f true n c)) sums
     go false false = ap (λ (n : ℕ). strip (round f false n c)) sums
     go true false = apart true false
@@ -115,11 +121,13 @@ add-strip f (fin s zero e) (fin t zero d) =
     ∙ sym (first-zero f false _ false _ _ (zero-lt-suc 0) refl ∙ round-zero f false _ _ (zero-lt-suc 0) refl)
 add-strip f (fin s zero e) (fin t (suc n) d) =
     first-zero f s _ t _ _ (mul-pos (down-pos e) (down-pos d)) (zero-l (up e) (down d))
-    ∙ ap strip (round-same f t (suc n * up d * down e) (down e * down d) (suc n * up d * 1) (1 * down d) (mul-pos (down-pos e) (down-pos d)) (mul-pos (zero-lt-suc 0) (down-pos d)) (simp (mul-one, one-mul, mul-assoc, mul-comm, mul-left-comm)))
+    ∙ ap strip (round-same f t (suc n * up d * down e) (down e * down d) (suc n * up d * 1) (1 * down d) (mul-pos (down-pos e) (down-pos d))
+    (mul-pos (zero-lt-suc 0) (down-pos d)) (simp (mul-one, one-mul, mul-assoc, mul-comm, mul-left-comm)))
     ∙ sym (first-zero f false _ t _ _ (mul-pos (zero-lt-suc 0) (down-pos d)) (zero-l 1 (down d)))
 add-strip f (fin s (suc m) e) (fin t zero d) =
     second-zero f s _ t _ _ (mul-pos (down-pos e) (down-pos d)) (zero-l (up d) (down e))
-    ∙ ap strip (round-same f s (suc m * up e * down d) (down e * down d) (suc m * up e * 1) (down e * 1) (mul-pos (down-pos e) (down-pos d)) (mul-pos (down-pos e) (zero-lt-suc 0)) (simp (mul-one, mul-assoc, mul-comm, mul-left-comm)))
+    ∙ ap strip (round-same f s (suc m * up e * down d) (down e * down d) (suc m * up e * 1) (down e * 1) (mul-pos (down-pos e) (down-pos d))
+    (mul-pos (down-pos e) (zero-lt-suc 0)) (simp (mul-one, mul-assoc, mul-comm, mul-left-comm)))
     ∙ sym (second-zero f s _ false _ _ (mul-pos (down-pos e) (zero-lt-suc 0)) (zero-l 1 (down e)))
 add-strip f (fin s (suc m) e) (fin t (suc n) d) = refl
 
@@ -129,7 +137,7 @@ pub record Like (x y : Float) : Type 0 where
 
 -- x' is minus x, as a number
 pub record Opp (x x' : Float) : Type 0 where
-  pub turned : Alike x' (neg x)
+  pub negated : Alike x' (neg x)
 
 pub like-refl : (x : Float) → Like x x
 like-refl x = record { same = refl }
@@ -156,10 +164,10 @@ sub-like f p q = add-like f p (neg-like q)
 
 -- ---- minus goes through
 pub from-opp : {x x' : Float} → Opp x x' → Like x' (neg x)
-from-opp p = record { same = p .turned }
+from-opp p = record { same = p .negated }
 
 pub to-opp : {x x' : Float} → Like x' (neg x) → Opp x x'
-to-opp p = record { turned = p .same }
+to-opp p = record { negated = p .same }
 
 pub like-trans : {x y z : Float} → Like x y → Like y z → Like x z
 like-trans p q = record { same = p .same ∙ q .same }

@@ -1,5 +1,6 @@
 -- The middle of an interval lies in it, and where it is neither end, each half has fewer units than the whole: what a loop that halves an interval rests on.
--- For the w units between the ends, w = 0 or 2 ^ j ≤ w ≤ 2 ^ (j + 1): so hi - lo rounds to at most 2 ^ (j + 1), its half to at most 2 ^ j, and lo with that is at most hi.
+-- For the w units between the ends, w = 0 or 2 ^ j ≤ w ≤ 2 ^ (j + 1): so hi - lo rounds to at most
+-- 2 ^ (j + 1), its half to at most 2 ^ j, and lo with that is at most hi.
 use mathlib.Core.Path.{_≡_, refl, sym, ap, _∙_, subst}
 use mathlib.Core.Bool.{true, false}
 use Prim.Native.Nat.{ℕ, zero, suc, _+_, _*_, _^_, _≤_, _<_}
@@ -32,7 +33,8 @@ module _ (f : Format) (x : Float) (p n : ℕ) (h : Is f x p n 0) where
   add-units : (y : Float) (q m : ℕ) → Is f y q m 0 → Alike (add f x y) (srnd f (p + q) (n + m) (1 * 2 ^ low f))
   add-units y q m k =
       add-srnd f x y (h .real) (k .real)
-      ∙ srnd-same f (pl x * den y + pl y * den x) (mi x * den y + mi y * den x) (den x * den y) (p + q) (n + m) (1 * 2 ^ low f) (mul-pos (den-pos x) (den-pos y)) (mul-pos (lit< tt) (pow-pos (low f)))
+      ∙ srnd-same f (pl x * den y + pl y * den x) (mi x * den y + mi y * den x) (den x * den y) (p + q) (n + m) (1 * 2 ^ low f)
+      (mul-pos (den-pos x) (den-pos y)) (mul-pos (lit< tt) (pow-pos (low f)))
       (simp one-mul (simp mul-one at (sum-eq (2 ^ low f) 1 p n (den x) (pl x) (mi x) q m (den y) (pl y) (mi y) (h .value) (k .value))))
 
   sub-units : (y : Float) (q m : ℕ) → Is f y q m 0 → Alike (sub f x y) (srnd f (p + m) (n + q) (1 * 2 ^ low f))
@@ -67,7 +69,9 @@ kept-self f (fin true m e) t p =
     record {
       is = Is-alike f (round f true a u) (srnd f 0 a u) 0 a 0 (signed-neg f a 0 a u (pow-pos (low f)) (sym (zero-add a)))
           (subst (λ (z : Float). Is f z 0 a 0) (round-same f true (m * up e) (down e) a u (down-pos e) (pow-pos (low f)) w)
-          (minus-Is f (round f true (m * up e) (down e)) (m * up e) (down e) a 0 a 0 (down-pos e) (exact-self f true (fin true m e) (fits→held f (fin true m e) t tt)) (w ∙ ap (λ (z : ℕ). z * down e) (sym (mul-one a))) (sym (zero-add a))));
+          (minus-Is f (round f true (m * up e) (down e)) (m * up e) (down e) a 0 a 0 (down-pos e)
+          (exact-self f true (fin true m e) (fits→held f (fin true m e) t tt)) (w ∙ ap (λ (z : ℕ). z * down e) (sym (mul-one a)))
+          (sym (zero-add a))));
     }
 kept-self f (fin false m e) t p =
     let u = 2 ^ low f in
@@ -76,7 +80,9 @@ kept-self f (fin false m e) t p =
     record {
       is = Is-alike f (round f false a u) (srnd f a 0 u) a 0 0 (signed-pos f a a 0 u (sym (zero-add a)))
           (subst (λ (z : Float). Is f z a 0 0) (round-same f false (m * up e) (down e) a u (down-pos e) (pow-pos (low f)) w)
-          (plus-Is f (round f false (m * up e) (down e)) (m * up e) (down e) a a 0 0 (down-pos e) (exact-self f false (fin false m e) (fits→held f (fin false m e) t tt)) (w ∙ ap (λ (z : ℕ). z * down e) (sym (mul-one a))) (sym (zero-add a))));
+          (plus-Is f (round f false (m * up e) (down e)) (m * up e) (down e) a a 0 0 (down-pos e)
+          (exact-self f false (fin false m e) (fits→held f (fin false m e) t tt)) (w ∙ ap (λ (z : ℕ). z * down e) (sym (mul-one a)))
+          (sym (zero-add a))));
     }
 
 -- few digits, and no overflow
@@ -86,7 +92,8 @@ kept-few f q j h k =
     let a = q * 2 ^ j in
     record {
       is = Is-alike f (round f false a u) (srnd f a 0 u) a 0 0 (signed-pos f a a 0 u (sym (zero-add a)))
-          (plus-Is f (round f false a u) a u a a 0 0 (pow-pos (low f)) (round-exact f false a u q j (pow-pos (low f)) h k refl) (ap (λ (z : ℕ). z * u) (sym (mul-one a))) (sym (zero-add a)));
+          (plus-Is f (round f false a u) a u a a 0 0 (pow-pos (low f)) (round-exact f false a u q j (pow-pos (low f)) h k refl)
+          (ap (λ (z : ℕ). z * u) (sym (mul-one a))) (sym (zero-add a)));
     }
 
 -- ---- what is rounded stays between values of the format: z is (p - n) / q units rounded
@@ -136,7 +143,8 @@ record Scale (f : Format) (w : ℕ) : Type 0 where
   most : w ≤ F + F
 
 kept-power : (f : Format) (j : ℕ) → j < low f + suc (emax f) → Kept f (2 ^ j) 0
-kept-power f j h = subst (λ (z : ℕ). Kept f z 0) (one-mul (2 ^ j)) (kept-few f 1 j (one-lt f) (subst (λ (z : ℕ). z < 2 ^ (low f + suc (emax f))) (sym (one-mul (2 ^ j))) (pow-lt h)))
+kept-power f j h = subst (λ (z : ℕ). Kept f z 0) (one-mul (2 ^ j))
+    (kept-few f 1 j (one-lt f) (subst (λ (z : ℕ). z < 2 ^ (low f + suc (emax f))) (sym (one-mul (2 ^ j))) (pow-lt h)))
   where
     one-lt : (g : Format) → 1 < 2 ^ prec g
     one-lt binary32 = lit< tt
@@ -168,7 +176,8 @@ scale f k (suc v) r h = go (size v) refl
         power f (suc v) j (omega arith) (omega arith) l
 
 -- ---- the middle, in any format
-module _ (f : Format) (lo hi : Float) (s : T (fits f lo)) (p : T (finite lo)) (t : T (fits f hi)) (q : T (finite hi)) (o : plus-units f lo + minus-units f hi ≤ plus-units f hi + minus-units f lo) where
+module _ (f : Format) (lo hi : Float) (s : T (fits f lo)) (p : T (finite lo)) (t : T (fits f hi)) (q : T (finite hi))
+    (o : plus-units f lo + minus-units f hi ≤ plus-units f hi + minus-units f lo) where
   -- the width by its scale S, then its half, then the sum
   gap : (S : Scale f (width f lo hi)) → Between f 0 0 (S .F + S .F) 0 (sub f hi lo)
   gap S =
@@ -183,13 +192,15 @@ module _ (f : Format) (lo hi : Float) (s : T (fits f lo)) (p : T (finite lo)) (t
       (half-units f d (plus-units f d) (minus-units f d) (whole-is f d (sub-fits f hi lo) (D .real)))
       (omega arith) (omega arith)
 
-  moved : (S : Scale f (width f lo hi)) (h : Float) → T (fits f h) → Between f 0 0 (S .F) 0 h → Between f (plus-units f lo) (minus-units f lo) (plus-units f hi) (minus-units f hi) (add f lo h)
+  moved : (S : Scale f (width f lo hi)) (h : Float) → T (fits f h) → Between f 0 0 (S .F) 0 h
+      → Between f (plus-units f lo) (minus-units f lo) (plus-units f hi) (minus-units f hi) (add f lo h)
   moved S h k H =
       between f 1 (plus-units f lo + plus-units f h) (minus-units f lo + minus-units f h) (lit< tt) (kept-self f lo s p) (kept-self f hi t q) (add-fits f lo h)
       (add-units f lo (plus-units f lo) (minus-units f lo) (whole-is f lo s p) h (plus-units f h) (minus-units f h) (whole-is f h k (H .real)))
       (omega arith) (omega arith)
 
-  mid-between : Scale f (width f lo hi) → Between f (plus-units f lo) (minus-units f lo) (plus-units f hi) (minus-units f hi) (add f lo (div f (sub f hi lo) two-float))
+  mid-between : Scale f (width f lo hi) → Between f (plus-units f lo) (minus-units f lo) (plus-units f hi) (minus-units f hi)
+      (add f lo (div f (sub f hi lo) two-float))
   mid-between S = moved S (div f (sub f hi lo) two-float) (div-fits f (sub f hi lo) two-float) (half-gap S (gap S))
 
 -- ---- what a loop over an interval uses, at binary64
@@ -216,7 +227,10 @@ module _ {k : ℕ} {lo hi : Float} (s : Span k lo hi) where
       let m = lo ⊕ (hi ⊖ lo) ⊘ two-float in
       let o = Le-units binary64 lo hi (s .lo-fits) p (s .hi-fits) q .0 (s .order) in
       let B = mid-between binary64 lo hi (s .lo-fits) p (s .hi-fits) q o (scale binary64 k (width binary64 lo hi) (s .room) span-width) in
-      record { lower = Le-units binary64 lo m (s .lo-fits) p (middle-fits lo hi) (B .real) .1 (B .lower); upper = Le-units binary64 m hi (middle-fits lo hi) (B .real) (s .hi-fits) q .1 (B .upper) }
+      record {
+        lower = Le-units binary64 lo m (s .lo-fits) p (middle-fits lo hi) (B .real) .1 (B .lower);
+        upper = Le-units binary64 m hi (middle-fits lo hi) (B .real) (s .hi-fits) q .1 (B .upper);
+      }
 
   pub middle-within : Within (fin false 1 (pos k)) (middle lo hi)
   middle-within =
@@ -225,17 +239,34 @@ module _ {k : ℕ} {lo hi : Float} (s : Span k lo hi) where
 
   -- the halves can be halved again
   pub right-half : Span k (middle lo hi) hi
-  right-half = record { room = s .room; lo-fits = middle-fits lo hi; hi-fits = s .hi-fits; lo-within = middle-within; hi-within = s .hi-within; order = middle-in .upper }
+  right-half = record {
+    room = s .room;
+    lo-fits = middle-fits lo hi;
+    hi-fits = s .hi-fits;
+    lo-within = middle-within;
+    hi-within = s .hi-within;
+    order = middle-in .upper;
+  }
 
   pub left-half : Span k lo (middle lo hi)
-  left-half = record { room = s .room; lo-fits = s .lo-fits; hi-fits = middle-fits lo hi; lo-within = s .lo-within; hi-within = middle-within; order = middle-in .lower }
+  left-half = record {
+    room = s .room;
+    lo-fits = s .lo-fits;
+    hi-fits = middle-fits lo hi;
+    lo-within = s .lo-within;
+    hi-within = middle-within;
+    order = middle-in .lower;
+  }
 
   -- the order of the ends and the middle, in units
-  in-units : (plus-units binary64 lo + minus-units binary64 (middle lo hi) ≤ plus-units binary64 (middle lo hi) + minus-units binary64 lo) × (plus-units binary64 (middle lo hi) + minus-units binary64 hi ≤ plus-units binary64 hi + minus-units binary64 (middle lo hi))
+  in-units : (plus-units binary64 lo + minus-units binary64 (middle lo hi) ≤ plus-units binary64 (middle lo hi) + minus-units binary64 lo) ×
+      (plus-units binary64 (middle lo hi) + minus-units binary64 hi ≤ plus-units binary64 hi + minus-units binary64 (middle lo hi))
   in-units =
       let m = middle lo hi in
-      let r = middle-within .real in
-      (Le-units binary64 lo m (s .lo-fits) (s .lo-within .real) (middle-fits lo hi) r .0 (middle-in .lower), Le-units binary64 m hi (middle-fits lo hi) r (s .hi-fits) (s .hi-within .real) .0 (middle-in .upper))
+      let r = middle-within .real in (
+        Le-units binary64 lo m (s .lo-fits) (s .lo-within .real) (middle-fits lo hi) r .0 (middle-in .lower),
+        Le-units binary64 m hi (middle-fits lo hi) r (s .hi-fits) (s .hi-within .real) .0 (middle-in .upper),
+      )
 
   pub middle-strict : eq (middle lo hi) lo ≡ false → eq (middle lo hi) hi ≡ false → Inside lo hi (middle lo hi)
   middle-strict a b =

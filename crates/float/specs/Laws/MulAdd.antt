@@ -46,7 +46,8 @@ plus-strip f s a c nan C = refl
 plus-strip f s a c (inf u) C = refl
 plus-strip f s a c (fin u zero g) C =
     second-zero f s (a * down g) u (0 * up g * c) (c * down g) (mul-pos C (down-pos g)) (zero-l (up g) c)
-    ∙ ap strip (round-same f s (a * down g) (c * down g) (a * 1) (c * 1) (mul-pos C (down-pos g)) (mul-pos C (zero-lt-suc 0)) (simp (mul-one, mul-assoc, mul-comm)))
+    ∙ ap strip (round-same f s (a * down g) (c * down g) (a * 1) (c * 1) (mul-pos C (down-pos g)) (mul-pos C (zero-lt-suc 0))
+    (simp (mul-one, mul-assoc, mul-comm)))
     ∙ sym (second-zero f s (a * 1) false (0 * 1 * c) (c * 1) (mul-pos C (zero-lt-suc 0)) (zero-l 1 c))
 plus-strip f s a c (fin u (suc k) g) C = refl
 
@@ -60,7 +61,8 @@ plus-zero f s s' a a' c c' nan C C' p q = refl
 plus-zero f s s' a a' c c' (inf u) C C' p q = refl
 plus-zero f s s' a a' c c' (fin u k g) C C' p q =
     first-zero f s (a * down g) u (k * up g * c) (c * down g) (mul-pos C (down-pos g)) (ap (λ (n : ℕ). n * down g) p ∙ zero-mul (down g))
-    ∙ ap strip (round-same f u (k * up g * c) (c * down g) (k * up g * c') (c' * down g) (mul-pos C (down-pos g)) (mul-pos C' (down-pos g)) (same-scale k (up g) c (down g) c'))
+    ∙ ap strip (round-same f u (k * up g * c) (c * down g) (k * up g * c') (c' * down g) (mul-pos C (down-pos g)) (mul-pos C' (down-pos g))
+    (same-scale k (up g) c (down g) c'))
     ∙ sym (first-zero f s' (a' * down g) u (k * up g * c') (c' * down g) (mul-pos C' (down-pos g)) (ap (λ (n : ℕ). n * down g) q ∙ zero-mul (down g)))
 
 plusInf-strip : (s : Bool) (z : Float) → Alike (plusInf s z) (plusInf s (strip z))
@@ -80,20 +82,26 @@ by-parts-strip f nan y z = refl
 by-parts-strip f (inf s) nan z = refl
 by-parts-strip f (inf s) (inf t) z = plusInf-strip (unlike s t) z
 by-parts-strip f (inf s) (fin t zero d) z = refl
-by-parts-strip f (inf s) (fin t (suc n) d) z = cond-alike (eqb (suc n) 0) (plusInf (unlike s t) z) (plusInf (unlike s t) (strip z)) (plusInf-strip (unlike s t) z)
+by-parts-strip f (inf s) (fin t (suc n) d) z = cond-alike (eqb (suc n) 0) (plusInf (unlike s t) z) (plusInf (unlike s t) (strip z))
+    (plusInf-strip (unlike s t) z)
 by-parts-strip f (fin s zero e) nan z = refl
 by-parts-strip f (fin s (suc m) e) nan z = refl
 by-parts-strip f (fin s zero e) (inf t) z = refl
-by-parts-strip f (fin s (suc m) e) (inf t) z = cond-alike (eqb (suc m) 0) (plusInf (unlike s t) z) (plusInf (unlike s t) (strip z)) (plusInf-strip (unlike s t) z)
+by-parts-strip f (fin s (suc m) e) (inf t) z = cond-alike (eqb (suc m) 0) (plusInf (unlike s t) z) (plusInf (unlike s t) (strip z))
+    (plusInf-strip (unlike s t) z)
 by-parts-strip f (fin s zero e) (fin t zero d) z =
-    plus-zero f (unlike s t) false (0 * up e * (0 * up d)) (0 * 1 * (0 * 1)) (down e * down d) (1 * 1) z (mul-pos (down-pos e) (down-pos d)) (zero-lt-suc 0) (zero-l (up e) (0 * up d)) refl ∙ plus-strip f false (0 * 1 * (0 * 1)) (1 * 1) z (zero-lt-suc 0)
+    plus-zero f (unlike s t) false (0 * up e * (0 * up d)) (0 * 1 * (0 * 1)) (down e * down d) (1 * 1) z (mul-pos (down-pos e) (down-pos d))
+    (zero-lt-suc 0) (zero-l (up e) (0 * up d)) refl ∙ plus-strip f false (0 * 1 * (0 * 1)) (1 * 1) z (zero-lt-suc 0)
 by-parts-strip f (fin s zero e) (fin t (suc n) d) z =
-    plus-zero f (unlike s t) (unlike false t) (0 * up e * (suc n * up d)) (0 * 1 * (suc n * up d)) (down e * down d) (1 * down d) z (mul-pos (down-pos e) (down-pos d)) (mul-pos (zero-lt-suc 0) (down-pos d)) (zero-l (up e) (suc n * up d)) (zero-l 1 (suc n * up d))
+    plus-zero f (unlike s t) (unlike false t) (0 * up e * (suc n * up d)) (0 * 1 * (suc n * up d)) (down e * down d) (1 * down d) z
+    (mul-pos (down-pos e) (down-pos d)) (mul-pos (zero-lt-suc 0) (down-pos d)) (zero-l (up e) (suc n * up d)) (zero-l 1 (suc n * up d))
     ∙ plus-strip f (unlike false t) (0 * 1 * (suc n * up d)) (1 * down d) z (mul-pos (zero-lt-suc 0) (down-pos d))
 by-parts-strip f (fin s (suc m) e) (fin t zero d) z =
-    plus-zero f (unlike s t) (unlike s false) (suc m * up e * (0 * up d)) (suc m * up e * (0 * 1)) (down e * down d) (down e * 1) z (mul-pos (down-pos e) (down-pos d)) (mul-pos (down-pos e) (zero-lt-suc 0)) (zero-r (suc m * up e) (up d)) (zero-r (suc m * up e) 1)
+    plus-zero f (unlike s t) (unlike s false) (suc m * up e * (0 * up d)) (suc m * up e * (0 * 1)) (down e * down d) (down e * 1) z
+    (mul-pos (down-pos e) (down-pos d)) (mul-pos (down-pos e) (zero-lt-suc 0)) (zero-r (suc m * up e) (up d)) (zero-r (suc m * up e) 1)
     ∙ plus-strip f (unlike s false) (suc m * up e * (0 * 1)) (down e * 1) z (mul-pos (down-pos e) (zero-lt-suc 0))
-by-parts-strip f (fin s (suc m) e) (fin t (suc n) d) z = plus-strip f (unlike s t) (suc m * up e * (suc n * up d)) (down e * down d) z (mul-pos (down-pos e) (down-pos d))
+by-parts-strip f (fin s (suc m) e) (fin t (suc n) d) z = plus-strip f (unlike s t) (suc m * up e * (suc n * up d)) (down e * down d) z
+    (mul-pos (down-pos e) (down-pos d))
 
 pub by-parts-like : (f : Format) {x x' y y' z z' : Float} → Like x x' → Like y y' → Like z z' → Like (by-parts f x y z) (by-parts f x' y' z')
 by-parts-like f {x} {x'} {y} {y'} {z} {z'} p q r = record {
@@ -111,7 +119,8 @@ unfolding plus neg
 plus-neg f s s' a c nan C h = refl
 plus-neg f s s' a c (inf u) C h = refl
 plus-neg f s s' a c (fin u k g) C h =
-    ap (λ (r : Bool). strip (sum f r (a * down g) (not u) (k * up g * c) (c * down g))) h ∙ sum-neg f s (a * down g) u (k * up g * c) (c * down g) (mul-pos C (down-pos g))
+    ap (λ (r : Bool). strip (sum f r (a * down g) (not u) (k * up g * c) (c * down g))) h
+    ∙ sum-neg f s (a * down g) u (k * up g * c) (c * down g) (mul-pos C (down-pos g))
 
 plusInf-neg : (s s' : Bool) (z : Float) → s' ≡ not s → plusInf s' (neg z) ≡ neg (plusInf s z)
 unfolding plusInf neg
@@ -138,7 +147,8 @@ by-parts-neg f (inf s) (inf t) z = ap strip (plusInf-neg (unlike s t) (unlike (n
 by-parts-neg f (inf s) (fin t n d) z = cond-neg (eqb n 0) _ _ (plusInf-neg (unlike s t) (unlike (not s) t) z (unlike-l s t))
 by-parts-neg f (fin s m e) nan z = refl
 by-parts-neg f (fin s m e) (inf t) z = cond-neg (eqb m 0) _ _ (plusInf-neg (unlike s t) (unlike (not s) t) z (unlike-l s t))
-by-parts-neg f (fin s m e) (fin t n d) z = plus-neg f (unlike s t) (unlike (not s) t) (m * up e * (n * up d)) (down e * down d) z (mul-pos (down-pos e) (down-pos d)) (unlike-l s t)
+by-parts-neg f (fin s m e) (fin t n d) z = plus-neg f (unlike s t) (unlike (not s) t) (m * up e * (n * up d)) (down e * down d) z
+    (mul-pos (down-pos e) (down-pos d)) (unlike-l s t)
 
 by-parts-neg-r : (f : Format) (x y z : Float) → Alike (by-parts f x (neg y) (neg z)) (neg (by-parts f x y z))
 unfolding by-parts neg
@@ -148,7 +158,8 @@ by-parts-neg-r f (inf s) (inf t) z = ap strip (plusInf-neg (unlike s t) (unlike 
 by-parts-neg-r f (inf s) (fin t n d) z = cond-neg (eqb n 0) _ _ (plusInf-neg (unlike s t) (unlike s (not t)) z (unlike-r s t))
 by-parts-neg-r f (fin s m e) nan z = refl
 by-parts-neg-r f (fin s m e) (inf t) z = cond-neg (eqb m 0) _ _ (plusInf-neg (unlike s t) (unlike s (not t)) z (unlike-r s t))
-by-parts-neg-r f (fin s m e) (fin t n d) z = plus-neg f (unlike s t) (unlike s (not t)) (m * up e * (n * up d)) (down e * down d) z (mul-pos (down-pos e) (down-pos d)) (unlike-r s t)
+by-parts-neg-r f (fin s m e) (fin t n d) z = plus-neg f (unlike s t) (unlike s (not t)) (m * up e * (n * up d)) (down e * down d) z
+    (mul-pos (down-pos e) (down-pos d)) (unlike-r s t)
 
 -- a negated coefficient times an unchanged one, with the product negated
 pub by-parts-opp : (f : Format) {x x' y y' z z' : Float} → Opp x x' → Like y y' → Opp z z' → Opp (by-parts f x y z) (by-parts f x' y' z')
@@ -187,7 +198,8 @@ mi-is true m e = refl
 mi-is false m e = refl
 
 pub by-parts-srnd : (f : Format) (x y z : Float) → T (finite x) → T (finite y) → T (finite z)
-    → Alike (by-parts f x y z) (srnd f ((pl x * pl y + mi x * mi y) * den z + pl z * (den x * den y)) ((pl x * mi y + mi x * pl y) * den z + mi z * (den x * den y)) (den x * den y * den z))
+    → Alike (by-parts f x y z) (srnd f ((pl x * pl y + mi x * mi y) * den z + pl z * (den x * den y))
+    ((pl x * mi y + mi x * pl y) * den z + mi z * (den x * den y)) (den x * den y * den z))
 unfolding by-parts
 by-parts-srnd f nan y z p q r = absurd p
 by-parts-srnd f (inf s) y z p q r = absurd p
@@ -196,7 +208,8 @@ by-parts-srnd f (fin s m e) (inf t) z p q r = absurd q
 by-parts-srnd f (fin s m e) (fin t n d) nan p q r = absurd r
 by-parts-srnd f (fin s m e) (fin t n d) (inf u) p q r = absurd r
 by-parts-srnd f (fin s m e) (fin t n d) (fin u k g) p q r =
-    sum-srnd f (unlike s t) (m * up e * (n * up d) * down g) u (k * up g * (down e * down d)) (down e * down d * down g) P N (mul-pos (mul-pos (down-pos e) (down-pos d)) (down-pos g)) (ap₂ (λ (x y : ℕ). x + y) isP (sym isN) ∙ add-comm _ _)
+    sum-srnd f (unlike s t) (m * up e * (n * up d) * down g) u (k * up g * (down e * down d)) (down e * down d * down g) P N
+    (mul-pos (mul-pos (down-pos e) (down-pos d)) (down-pos g)) (ap₂ (λ (x y : ℕ). x + y) isP (sym isN) ∙ add-comm _ _)
   where
     X : Float
     X = fin s m e
@@ -213,16 +226,20 @@ by-parts-srnd f (fin s m e) (fin t n d) (fin u k g) p q r =
     N : ℕ
     N = (pl (fin s m e) * mi (fin t n d) + mi (fin s m e) * pl (fin t n d)) * down g + mi (fin u k g) * (down e * down d)
 
-    isP : (pl (fin s m e) * pl (fin t n d) + mi (fin s m e) * mi (fin t n d)) * down g + pl (fin u k g) * (down e * down d) ≡ cond (unlike s t) 0 (m * up e * (n * up d) * down g) + cond u 0 (k * up g * (down e * down d))
+    isP : (pl (fin s m e) * pl (fin t n d) + mi (fin s m e) * mi (fin t n d)) * down g + pl (fin u k g) * (down e * down d) ≡ cond (unlike s t) 0
+        (m * up e * (n * up d) * down g) + cond u 0 (k * up g * (down e * down d))
     isP =
         ap₂ (λ (x y : ℕ). x + y)
-        (ap₂ (λ (x y : ℕ). (x + y) * down g) (ap₂ (λ (x y : ℕ). x * y) (pl-is s m e) (pl-is t n d)) (ap₂ (λ (x y : ℕ). x * y) (mi-is s m e) (mi-is t n d)) ∙ prod-plus s t (m * up e) (n * up d) (down g))
+        (ap₂ (λ (x y : ℕ). (x + y) * down g) (ap₂ (λ (x y : ℕ). x * y) (pl-is s m e) (pl-is t n d))
+        (ap₂ (λ (x y : ℕ). x * y) (mi-is s m e) (mi-is t n d)) ∙ prod-plus s t (m * up e) (n * up d) (down g))
         (ap (λ (x : ℕ). x * (down e * down d)) (pl-is u k g) ∙ one-plus u (k * up g) (down e * down d))
 
-    isN : (pl (fin s m e) * mi (fin t n d) + mi (fin s m e) * pl (fin t n d)) * down g + mi (fin u k g) * (down e * down d) ≡ cond (unlike s t) (m * up e * (n * up d) * down g) 0 + cond u (k * up g * (down e * down d)) 0
+    isN : (pl (fin s m e) * mi (fin t n d) + mi (fin s m e) * pl (fin t n d)) * down g + mi (fin u k g) * (down e * down d) ≡ cond (unlike s t)
+        (m * up e * (n * up d) * down g) 0 + cond u (k * up g * (down e * down d)) 0
     isN =
         ap₂ (λ (x y : ℕ). x + y)
-        (ap₂ (λ (x y : ℕ). (x + y) * down g) (ap₂ (λ (x y : ℕ). x * y) (pl-is s m e) (mi-is t n d)) (ap₂ (λ (x y : ℕ). x * y) (mi-is s m e) (pl-is t n d)) ∙ prod-minus s t (m * up e) (n * up d) (down g))
+        (ap₂ (λ (x y : ℕ). (x + y) * down g) (ap₂ (λ (x y : ℕ). x * y) (pl-is s m e) (mi-is t n d))
+        (ap₂ (λ (x y : ℕ). x * y) (mi-is s m e) (pl-is t n d)) ∙ prod-minus s t (m * up e) (n * up d) (down g))
         (ap (λ (x : ℕ). x * (down e * down d)) (mi-is u k g) ∙ one-minus u (k * up g) (down e * down d))
 
 -- ---- the definition's own text

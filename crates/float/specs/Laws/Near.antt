@@ -1,8 +1,10 @@
--- Rounding to nearest in whole numbers: a value of Z * 2 ^ i units, with Z from 2 ^ (prec - 1 + t) up and below 2 ^ (prec + t), rounds to q * 2 ^ t * 2 ^ i units,
+-- Rounding to nearest in whole numbers: a value of Z * 2 ^ i units, with Z from 2 ^ (prec - 1
+-- + t) up and below 2 ^ (prec + t), rounds to q * 2 ^ t * 2 ^ i units,
 -- where q = `closest Z (2 ^ t)` is within a half of Z / 2 ^ t. For products and differences: `mul-near`, `sub-near`.
 use mathlib.Core.Path.{_≡_, sym, ap, _∙_, subst}
 use Prim.Native.Nat.{ℕ, suc, _+_, _-_, _*_, _/_, _%_, _^_, _≤_, _<_, compare, Ordering, Ordering·lt, Ordering·eq, Ordering·gt}
-use native.Mathlib.Nat.{le-trans, le-of-eq, lt-of-lt-of-le, lt-of-le-of-lt, lt-of-not-le, not-le-of-lt, mul-pos, mul-assoc, mul-comm, add-mul, lt-irrefl, le-of-mul-le-mul-right, mul-le-mul-right, mul-lt-mul-of-pos-right, mul-div-cancel, div-add-mod', mod-lt, div-lt-iff-lt-mul, zero-add}
+use native.Mathlib.Nat.{le-trans, le-of-eq, lt-of-lt-of-le, lt-of-le-of-lt, lt-of-not-le, not-le-of-lt, mul-pos, mul-assoc, mul-comm, add-mul}
+use native.Mathlib.Nat.{lt-irrefl, le-of-mul-le-mul-right, mul-le-mul-right, mul-lt-mul-of-pos-right, mul-div-cancel, div-add-mod', mod-lt, div-lt-iff-lt-mul, zero-add}
 use native.Mathlib.Omega.{arith}
 use mathlib.Core.Bool.{Bool, true, false, not, cond}
 use lib.Dec.{T, isLe, isEq, leb, eqb, leb→le, nleb→lt, eqb→eq, eqb-refl}
@@ -56,7 +58,8 @@ closest-near a b B =
 
 closest-le : (p t Z : ℕ) → Z < 2 ^ (p + t) → closest Z (2 ^ t) ≤ 2 ^ p
 closest-le p t Z h =
-    le-trans (lib.Ieee.Fits.nearest-le (Z / 2 ^ t) (compare (Z % 2 ^ t * 2) (2 ^ t))) (div-lt-iff-lt-mul (pow-pos t) .1 (subst (λ (z : ℕ). Z < z) (pow-add 2 p t) h))
+    le-trans (lib.Ieee.Fits.nearest-le (Z / 2 ^ t) (compare (Z % 2 ^ t * 2) (2 ^ t)))
+    (div-lt-iff-lt-mul (pow-pos t) .1 (subst (λ (z : ℕ). Z < z) (pow-add 2 p t) h))
 
 -- ---- the digits that are dropped
 pub size-gt : (n j : ℕ) → 2 ^ j ≤ n → j < size n
@@ -72,18 +75,20 @@ dropped p t i Z P h k =
     (size-gt (Z * 2 ^ i) (p - 1 + t + i) (le-trans (le-of-eq (pow-add 2 (p - 1 + t) i)) (mul-le-mul-right (2 ^ i) h)))
 
 swap-pow : (Z c t i : ℕ) → Z * 2 ^ i * c * 2 ^ t ≡ Z * (c * 2 ^ (t + i))
-swap-pow Z c t i = turn (2 ^ i) (2 ^ t) ∙ ap (λ (z : ℕ). Z * (c * z)) (sym (pow-add 2 t i))
+swap-pow Z c t i = rearranged (2 ^ i) (2 ^ t) ∙ ap (λ (z : ℕ). Z * (c * z)) (sym (pow-add 2 t i))
   where
-    turn : (u v : ℕ) → Z * u * c * v ≡ Z * (c * (v * u))
-    turn u v = simp (mul-assoc, mul-comm)
+    rearranged : (u v : ℕ) → Z * u * c * v ≡ Z * (c * (v * u))
+    rearranged u v = simp (mul-assoc, mul-comm)
 
-pub grid-near : (f : Format) (a c Z t i : ℕ) → 0 < c → a * 2 ^ low f ≡ Z * 2 ^ i * c → 2 ^ (prec f - 1 + t) ≤ Z → Z < 2 ^ (prec f + t) → grid f a c ≡ closest Z (2 ^ t) * 2 ^ (t + i)
+pub grid-near : (f : Format) (a c Z t i : ℕ) → 0 < c → a * 2 ^ low f ≡ Z * 2 ^ i * c → 2 ^ (prec f - 1 + t) ≤ Z → Z < 2 ^ (prec f + t)
+    → grid f a c ≡ closest Z (2 ^ t) * 2 ^ (t + i)
 grid-near f a c Z t i C e h k =
     let n = a * 2 ^ low f in
     let q : n / c ≡ Z * 2 ^ i = ap (λ (z : ℕ). z / c) e ∙ mul-div-cancel (Z * 2 ^ i) C in
     let d : drop (prec f) n c ≡ t + i = ap (λ (z : ℕ). size z - prec f) q ∙ dropped (prec f) t i Z (two-le-pos (prec f) (two f)) h k in
     ap (λ (z : ℕ). closest n (c * 2 ^ z) * 2 ^ z) d
-    ∙ ap (λ (z : ℕ). z * 2 ^ (t + i)) (closest-same n (c * 2 ^ (t + i)) Z (2 ^ t) (mul-pos C (pow-pos (t + i))) (pow-pos t) (ap (λ (z : ℕ). z * 2 ^ t) e ∙ swap-pow Z c t i))
+    ∙ ap (λ (z : ℕ). z * 2 ^ (t + i)) (closest-same n (c * 2 ^ (t + i)) Z (2 ^ t) (mul-pos C (pow-pos (t + i))) (pow-pos t)
+    (ap (λ (z : ℕ). z * 2 ^ t) e ∙ swap-pow Z c t i))
 
 -- ---- a rounded difference above zero
 -- a * u + n * w = p * w + b * u with p = n + Z gives b ≤ a
@@ -113,29 +118,38 @@ srnd-near f a b c p n Z t i C g e h k r = go (leb b a) (nleb→lt b a)
     v = spread a b (2 ^ low f) p n (2 ^ i * c) l np e' ∙ ap (λ (z : ℕ). z * (2 ^ i * c)) is ∙ sym (mul-assoc Z (2 ^ i) c)
 
     under : closest Z (2 ^ t) * 2 ^ (t + i) < overflow f
-    under = lt-of-le-of-lt (mul-le-mul-right (2 ^ (t + i)) (closest-le (prec f) t Z k)) (lt-of-le-of-lt (le-of-eq (sym (pow-add 2 (prec f) (t + i)))) (lib.Pow.pow-lt r))
+    under = lt-of-le-of-lt (mul-le-mul-right (2 ^ (t + i)) (closest-le (prec f) t Z k))
+        (lt-of-le-of-lt (le-of-eq (sym (pow-add 2 (prec f) (t + i)))) (lib.Pow.pow-lt r))
 
     val : HasValue (round f false (a - b) c) false (closest Z (2 ^ t) * 2 ^ (t + i)) (2 ^ low f)
-    val = subst (λ (z : ℕ). HasValue (round f false (a - b) c) false z (2 ^ low f)) (grid-near f (a - b) c Z t i C v h k) (round-val f (a - b) c (subst (λ (z : ℕ). z < overflow f) (sym (grid-near f (a - b) c Z t i C v h k)) under))
+    val = subst (λ (z : ℕ). HasValue (round f false (a - b) c) false z (2 ^ low f)) (grid-near f (a - b) c Z t i C v h k)
+        (round-val f (a - b) c (subst (λ (z : ℕ). z < overflow f) (sym (grid-near f (a - b) c Z t i C v h k)) under))
 
     go : (x : Bool) → (T (not x) → a < b) → Is f (cond x (round f false (a - b) c) (round f true (b - a) c)) (closest Z (2 ^ t) * 2 ^ t) 0 i
     go false y = absurd (lt-irrefl a (lt-of-lt-of-le (y tt) l))
     go true y =
-        plus-Is f (round f false (a - b) c) (closest Z (2 ^ t) * 2 ^ (t + i)) (2 ^ low f) (closest Z (2 ^ t) * 2 ^ t) (closest Z (2 ^ t) * 2 ^ t) 0 i (pow-pos (low f)) val
+        plus-Is f (round f false (a - b) c) (closest Z (2 ^ t) * 2 ^ (t + i)) (2 ^ low f) (closest Z (2 ^ t) * 2 ^ t) (closest Z (2 ^ t) * 2 ^ t) 0 i
+        (pow-pos (low f)) val
         (ap (λ (z : ℕ). z * 2 ^ low f) (ap (λ (z : ℕ). closest Z (2 ^ t) * z) (pow-add 2 t i) ∙ sym (mul-assoc (closest Z (2 ^ t)) (2 ^ t) (2 ^ i))))
         (sym (zero-add (closest Z (2 ^ t) * 2 ^ t)))
 
-pub mul-near : (f : Format) (x y : Float) (p q t i j k : ℕ) → i + j ≡ low f + k → 2 ^ (prec f - 1 + t) ≤ p * q → p * q < 2 ^ (prec f + t) → prec f + (t + k) < low f + suc (emax f)
+pub mul-near : (f : Format) (x y : Float) (p q t i j k : ℕ) → i + j ≡ low f + k → 2 ^ (prec f - 1 + t) ≤ p * q → p * q < 2 ^ (prec f + t)
+    → prec f + (t + k) < low f + suc (emax f)
     → Is f x p 0 i → Is f y q 0 j → Is f (mul f x y) (closest (p * q) (2 ^ t) * 2 ^ t) 0 k
 mul-near f x y p q t i j k e a b r h g =
-    Is-alike f (srnd f (pl x * pl y + mi x * mi y) (pl x * mi y + mi x * pl y) (den x * den y)) (mul f x y) (closest (p * q) (2 ^ t) * 2 ^ t) 0 k (sym (mul-srnd' f x y (h .real) (g .real)))
-    (srnd-near f (pl x * pl y + mi x * mi y) (pl x * mi y + mi x * pl y) (den x * den y) (p * q + 0 * 0) (p * 0 + 0 * q) (p * q) t k (mul-pos (den-pos x) (den-pos y)) (omega arith) (mul-value f x y p 0 q 0 i j k e h g) a b r)
+    Is-alike f (srnd f (pl x * pl y + mi x * mi y) (pl x * mi y + mi x * pl y) (den x * den y)) (mul f x y) (closest (p * q) (2 ^ t) * 2 ^ t) 0 k
+    (sym (mul-srnd' f x y (h .real) (g .real)))
+    (srnd-near f (pl x * pl y + mi x * mi y) (pl x * mi y + mi x * pl y) (den x * den y) (p * q + 0 * 0) (p * 0 + 0 * q) (p * q) t k
+    (mul-pos (den-pos x) (den-pos y)) (omega arith) (mul-value f x y p 0 q 0 i j k e h g) a b r)
 
-pub sub-near : (f : Format) (x y : Float) (p q Z t i : ℕ) → p ≡ q + Z → 2 ^ (prec f - 1 + t) ≤ Z → Z < 2 ^ (prec f + t) → prec f + (t + i) < low f + suc (emax f)
+pub sub-near : (f : Format) (x y : Float) (p q Z t i : ℕ) → p ≡ q + Z → 2 ^ (prec f - 1 + t) ≤ Z → Z < 2 ^ (prec f + t)
+    → prec f + (t + i) < low f + suc (emax f)
     → Is f x p 0 i → Is f y q 0 i → Is f (sub f x y) (closest Z (2 ^ t) * 2 ^ t) 0 i
 unfolding sub
 sub-near f x y p q Z t i e a b r h g =
     let g' = Is-neg f y q 0 i g in
-    Is-alike f (srnd f (pl x * den (neg y) + pl (neg y) * den x) (mi x * den (neg y) + mi (neg y) * den x) (den x * den (neg y))) (add f x (neg y)) (closest Z (2 ^ t) * 2 ^ t) 0 i (sym (add-srnd f x (neg y) (h .real) (g' .real)))
-    (srnd-near f (pl x * den (neg y) + pl (neg y) * den x) (mi x * den (neg y) + mi (neg y) * den x) (den x * den (neg y)) (p + 0) (0 + q) Z t i (mul-pos (den-pos x) (den-pos (neg y))) (omega arith)
+    Is-alike f (srnd f (pl x * den (neg y) + pl (neg y) * den x) (mi x * den (neg y) + mi (neg y) * den x) (den x * den (neg y))) (add f x (neg y))
+    (closest Z (2 ^ t) * 2 ^ t) 0 i (sym (add-srnd f x (neg y) (h .real) (g' .real)))
+    (srnd-near f (pl x * den (neg y) + pl (neg y) * den x) (mi x * den (neg y) + mi (neg y) * den x) (den x * den (neg y)) (p + 0) (0 + q) Z t i
+    (mul-pos (den-pos x) (den-pos (neg y))) (omega arith)
     (sum-eq (2 ^ low f) (2 ^ i) p 0 (den x) (pl x) (mi x) 0 q (den (neg y)) (pl (neg y)) (mi (neg y)) (h .value) (g' .value)) a b r)

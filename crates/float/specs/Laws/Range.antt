@@ -24,7 +24,11 @@ under nan m e p q h = absurd p
 under (inf s) m e p q h = absurd p
 under (fin true n d) m e p q h = absurd q
 under (fin false n d) m e p q h =
-    record { real = tt; size = plain-le (num (fin false m e) * down d) (down e) (num (fin false n d) * down e) (down d) (le→Le (fin false m e) (fin false n d) tt tt (yes-of h) .cross) }
+    record {
+      real = tt;
+      size = plain-le (num (fin false m e) * down d) (down e) (num (fin false n d) * down e) (down d)
+          (le→Le (fin false m e) (fin false n d) tt tt (yes-of h) .cross);
+    }
 
 -- |x| ≤ B
 pub abs-within : (B x : Float) → T (finite B) → T (plain B) → le (abs x) B ≡ true → Within B x
@@ -60,7 +64,8 @@ nlt→Le (fin s m e) nan p q h = absurd q
 nlt→Le (fin s m e) (inf t) p q h = absurd q
 nlt→Le (fin s m e) (fin t n d) p q h = record { first = tt; second = tt; cross = go s t h }
   where
-    go : (s t : Bool) → T (not (below s (m * up e * down d) t (n * up d * down e))) → pl (fin t n d) * down e + mi (fin s m e) * down d ≤ pl (fin s m e) * down d + mi (fin t n d) * down e
+    go : (s t : Bool) → T (not (below s (m * up e * down d) t (n * up d * down e)))
+        → pl (fin t n d) * down e + mi (fin s m e) * down d ≤ pl (fin s m e) * down d + mi (fin t n d) * down e
     go true true h = let k = not-below true true (m * up e * down d) (n * up d * down e) h in omega arith
     go true false h = let k = not-below true false (m * up e * down d) (n * up d * down e) h in omega arith
     go false true h = omega arith

@@ -1,4 +1,5 @@
--- The range reduction of `sin-cos`: for |x| ≤ 32 and k the greatest whole number not above x·I + 0.5, r = (x − k·H) − k·L has |r| ≤ 203/256 < 0.793, and |k| ≤ 20.
+-- The range reduction of `sin-cos`: for |x| ≤ 32 and k the greatest whole number not above x·I
+-- + 0.5, r = (x − k·H) − k·L has |r| ≤ 203/256 < 0.793, and |k| ≤ 20.
 -- For each k the values x that have it lie in an interval around k·H, since x·I + 0.5 grows with x; on that interval r grows with x, so its two ends bound it.
 -- All 41 intervals are tested by one computation, `table`.
 use mathlib.Core.Path.{_≡_, refl, sym, ap, _∙_, subst}
@@ -17,7 +18,7 @@ use lib.Ieee.Fits.{and-l, and-r}
 use lib.Ieee.Scale.{finite}
 use lib.Ieee.Positive.{num}
 use Rattle.float.specs.Number.{_⊕_, _⊗_, floor, floor-i64, zero-float, end-float}
-use Rattle.float.specs.Trig.{I, H, L, half, widest, turns, reduced}
+use Rattle.float.specs.Trig.{I, H, L, half, widest, quarters, reduced}
 use Rattle.float.specs.Laws.Floor.{Floor, int, floor-is}
 use Rattle.float.specs.Laws.Range.{nlt→Le}
 use Rattle.float.specs.Promises.Order.{Le}
@@ -59,7 +60,8 @@ tests k =
     let b = add binary64 KH margin in
     finite KH ∷ finite KL ∷ finite a ∷ finite b ∷ finite (mul binary64 a I) ∷ finite (mul binary64 b I) ∷ finite (quad a) ∷ finite (quad b)
     ∷ not (le (int k) (quad a)) ∷ le (int (sucℤ k)) (quad b) ∷ finite (int (sucℤ k))
-    ∷ (finite (sub binary64 a KH) && finite (sub binary64 b KH)) ∷ (finite (reduced k a) && finite (reduced k b)) ∷ le (neg R) (reduced k a) ∷ le (reduced k b) R ∷ []
+    ∷ (finite (sub binary64 a KH) && finite (sub binary64 b KH)) ∷ (finite (reduced k a) && finite (reduced k b)) ∷ le (neg R) (reduced k a) ∷ le
+    (reduced k b) R ∷ []
 
 abbrev test : ℤ → Bool
 test k = allb (tests k)
@@ -78,24 +80,29 @@ test-sound k x t p p1 p2 fl =
     let c4 = c .1 .1 .1 .1 in
     let c8 = c4 .1 .1 .1 .1 in
     let above : Le a x = elim (Le-total x a p (c .1 .1 .0)) [
-      | inl h ↦ absurd (T-not (le (int k) (quad a)) (c8 .0) (Le→le (Le-trans (fl .reached) (le→Le (quad x) (quad a) p2 (c4 .1 .1 .0) (quad-mono p1 (c4 .0) h)))))
+      | inl h ↦ absurd (T-not (le (int k) (quad a)) (c8 .0) (Le→le
+          (Le-trans (fl .reached) (le→Le (quad x) (quad a) p2 (c4 .1 .1 .0) (quad-mono p1 (c4 .0) h)))))
       | inr h ↦ h
     ] in
     let under : Le x b = elim (Le-total b x (c .1 .1 .1 .0) p) [
-      | inl h ↦ absurd (fl .last (Le-trans (le→Le (int (sucℤ k)) (quad b) (c8 .1 .1 .0) (c4 .1 .1 .1 .0) (c8 .1 .0)) (le→Le (quad b) (quad x) (c4 .1 .1 .1 .0) p2 (quad-mono (c4 .1 .0) p1 h))))
+      | inl h ↦ absurd (fl .last (Le-trans (le→Le (int (sucℤ k)) (quad b) (c8 .1 .1 .0) (c4 .1 .1 .1 .0) (c8 .1 .0))
+          (le→Le (quad b) (quad x) (c4 .1 .1 .1 .0) p2 (quad-mono (c4 .1 .0) p1 h))))
       | inr h ↦ h
     ] in
-    let first : In (sub binary64 a KH) (sub binary64 b KH) (sub binary64 x KH) = sub-in binary64 (c8 .1 .1 .1 .0) (record { lower = above; upper = under }) (in-self KH (c .0)) in
+    let first : In (sub binary64 a KH) (sub binary64 b KH) (sub binary64 x KH) = sub-in binary64 (c8 .1 .1 .1 .0)
+    (record { lower = above; upper = under }) (in-self KH (c .0)) in
     let both : In (reduced k a) (reduced k b) (reduced k x) = sub-in binary64 (c8 .1 .1 .1 .1 .0) first (in-self KL (c .1 .0)) in
     let fa = and-l (finite (reduced k a)) (finite (reduced k b)) (c8 .1 .1 .1 .1 .0) in
     let fb = and-r (finite (reduced k a)) (finite (reduced k b)) (c8 .1 .1 .1 .1 .0) in
-    Le→within tt (Le-trans (both .upper) (le→Le (reduced k b) R fb tt (c8 .1 .1 .1 .1 .1 .1 .0))) (Le-trans (le→Le (neg R) (reduced k a) (neg-finite R tt) fa (c8 .1 .1 .1 .1 .1 .0)) (both .lower))
+    Le→within tt (Le-trans (both .upper) (le→Le (reduced k b) R fb tt (c8 .1 .1 .1 .1 .1 .1 .0)))
+    (Le-trans (le→Le (neg R) (reduced k a) (neg-finite R tt) fa (c8 .1 .1 .1 .1 .1 .0)) (both .lower))
 
 -- ---- |k| ≤ 20
 -- x·I + 0.5 for |x| ≤ 32 lies between -159/8 and 167/8
 quad-in : (x : Float) → Within widest x → In (fin true 159 (negsuc 2)) (fin false 167 (negsuc 2)) (quad x)
 unfolding neg add mul le
-quad-in x h = in-wider (fin true 159 (negsuc 2)) (fin false 167 (negsuc 2)) tt (add-in binary64 tt (mul-in-by binary64 I tt tt (within-in tt tt h)) (in-self half tt))
+quad-in x h = in-wider (fin true 159 (negsuc 2)) (fin false 167 (negsuc 2)) tt
+    (add-in binary64 tt (mul-in-by binary64 I tt tt (within-in tt tt h)) (in-self half tt))
 
 few-above : (n : ℕ) (y : Float) → Le (int (pos n)) y → Le y (fin false 167 (negsuc 2)) → n ≤ 20
 few-above n y h k = let l = Le-trans h k .cross in omega arith
@@ -130,26 +137,30 @@ table-down = tt
 
 -- ---- the result
 pub quad-finite : (x : Float) → Within widest x → T (finite (quad x))
-quad-finite x h = add-within binary64 (fin false 1 (pos 6)) tt (mul-within binary64 widest tt h (numeral (fin false 1 (pos 0)) I tt)) (numeral half half tt) .real
+quad-finite x h = add-within binary64 (fin false 1 (pos 6)) tt (mul-within binary64 widest tt h (numeral (fin false 1 (pos 0)) I tt))
+    (numeral half half tt) .real
 
 pub reduce-within : (x : Float) (k : ℤ) → Within widest x → Floor (quad x) k → Within R (reduced k x)
 reduce-within x (pos n) h fl =
-    test-sound (pos n) x (upTo-sound 20 (λ n. test (pos n)) n table-up (few-above n (quad x) (fl .reached) (quad-in x h .upper))) (h .real) (mul-within binary64 widest tt h (numeral (fin false 1 (pos 0)) I tt) .real) (quad-finite x h) fl
+    test-sound (pos n) x (upTo-sound 20 (λ n. test (pos n)) n table-up (few-above n (quad x) (fl .reached) (quad-in x h .upper))) (h .real)
+    (mul-within binary64 widest tt h (numeral (fin false 1 (pos 0)) I tt) .real) (quad-finite x h) fl
 reduce-within x (negsuc n) h fl =
-    test-sound (negsuc n) x (upTo-sound 19 (λ n. test (negsuc n)) n table-down (few-below n (quad x) (fl .last) (quad-in x h .lower))) (h .real) (mul-within binary64 widest tt h (numeral (fin false 1 (pos 0)) I tt) .real) (quad-finite x h) fl
+    test-sound (negsuc n) x (upTo-sound 19 (λ n. test (negsuc n)) n table-down (few-below n (quad x) (fl .last) (quad-in x h .lower))) (h .real)
+    (mul-within binary64 widest tt h (numeral (fin false 1 (pos 0)) I tt) .real) (quad-finite x h) fl
 
 -- k itself: at most 20 in magnitude, so 64 bits hold it
-pub turns-few : (x : Float) → Within widest x → mag (turns x) ≤ 20
-turns-few x h = go (turns x) (floor-is (quad x) (quad-finite x h))
+pub quarters-few : (x : Float) → Within widest x → mag (quarters x) ≤ 20
+quarters-few x h = go (quarters x) (floor-is (quad x) (quad-finite x h))
   where
     go : (k : ℤ) → Floor (quad x) k → mag k ≤ 20
     go (pos n) fl = few-above n (quad x) (fl .reached) (quad-in x h .upper)
     go (negsuc n) fl = let l = few-below n (quad x) (fl .last) (quad-in x h .lower) in omega arith
 
-pub turns-held : (x : Float) → Within widest x → floor-i64 (quad x) ≡ turns x
+pub quarters-held : (x : Float) → Within widest x → floor-i64 (quad x) ≡ quarters x
 unfolding floor-i64
-turns-held x h =
-    ap (λ (b : Bool). cond b (cond (lt (quad x) end-float) (floor (quad x)) (pos (2 ^ 63 - 1))) (cond (lt (quad x) zero-float) (negℤ (pos (2 ^ 63))) (pos 0))) above
+quarters-held x h =
+    ap (λ (b : Bool). cond b (cond (lt (quad x) end-float) (floor (quad x)) (pos (2 ^ 63 - 1)))
+    (cond (lt (quad x) zero-float) (negℤ (pos (2 ^ 63))) (pos 0))) above
     ∙ ap (λ (b : Bool). cond b (floor (quad x)) (pos (2 ^ 63 - 1))) (under (lt (quad x) end-float) refl)
   where
     above : le (neg end-float) (quad x) ≡ true
@@ -163,7 +174,8 @@ turns-held x h =
 
     under : (b : Bool) → lt (quad x) end-float ≡ b → lt (quad x) end-float ≡ true
     under true e = e
-    under false e = absurd (never (Le-trans (nlt→Le (quad x) end-float (quad-finite x h) tt (subst (λ (b : Bool). T (not b)) (sym e) tt)) (quad-in x h .upper) .cross))
+    under false e = absurd (never (Le-trans (nlt→Le (quad x) end-float (quad-finite x h) tt (subst (λ (b : Bool). T (not b)) (sym e) tt))
+        (quad-in x h .upper) .cross))
       where
         never : num end-float * 8 + 0 * 1 ≤ 167 * 1 * 1 + 0 * 8 → ⊥
         never l = omega arith

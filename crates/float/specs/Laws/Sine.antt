@@ -25,7 +25,8 @@ over-within B s n t =
     round-within binary64 s 1 n B (leb→le 1 n (and-l a b u)) (and-l (held binary64 B) (a && b) t) (leb→le (1 * den B) (num B * n) (and-r a b u))
 
 -- a step p·z + c of a series: with |z| ≤ 1 the product is bounded as p is
-pub step-within : (B : Float) {P C p z c : Float} → T (mulTest binary64 P one-float P) → T (addTest binary64 P C B) → Within P p → Within one-float z → Within C c → Within B (p ⊗ z ⊕ c)
+pub step-within : (B : Float) {P C p z c : Float} → T (mulTest binary64 P one-float P) → T (addTest binary64 P C B) → Within P p → Within one-float z
+    → Within C c → Within B (p ⊗ z ⊕ c)
 step-within B {P} s t h k l = add-within binary64 B t (mul-within binary64 P s h k) l
 
 sine-series-within : (z : Float) → Within one-float z → Within (per 3 4) (sine-series z)

@@ -5,7 +5,8 @@ use Prim.Native.Nat.{ℕ, zero, suc, _+_, _*_, _/_, _%_, _^_, _<_}
 use native.Mathlib.Omega.{arith}
 use borrow.Author.Tests.{ne-eqb}
 use lib.Dec.{T, leb, ltb, eqb, ltb→lt, eqb-refl}
-use lib.Ieee.{Float, nan, inf, fin, Format, binary64, lt, eq, ne, isNan, up, down, below, level, fits, prec, emax, low, ones, hid, top, odd, units, round, ofFields, toBits, ofBits}
+use lib.Ieee.{Float, nan, inf, fin, Format, binary64, lt, eq, ne, isNan, up, down, below, level}
+use lib.Ieee.{fits, prec, emax, low, ones, hid, top, odd, units, round, ofFields, toBits, ofBits}
 use lib.Ieee.Bits.{is-true, ofBits-toBits}
 use lib.Ieee.Compare.{differs-from-itself}
 use lib.Ieee.Scale.{finite}
@@ -47,7 +48,8 @@ unfolding ofBits
 sign-bit x h n =
     let b : ℕ = toBits binary64 x in
     let e : ofBits binary64 b ≡ x = ofBits-toBits binary64 x h in
-    sym (fields-negative binary64 (leb (top binary64) b) (b % top binary64 / hid binary64) (b % hid binary64) (subst (λ (y : Float). T (not (isNan y))) (sym e) n))
+    sym (fields-negative binary64 (leb (top binary64) b) (b % top binary64 / hid binary64) (b % hid binary64)
+    (subst (λ (y : Float). T (not (isNan y))) (sym e) n))
     ∙ ap negative e
 
 -- ---- `<` beside `==`

@@ -127,7 +127,8 @@ level-scale s t a b k K =
 
 -- ---- two values at a scale: k is what the third value adds to the common denominator
 module _ (B k : ℕ) (K : 0 < k) where
-  total-le-two : (s t : Bool) (a b X Y : ℕ) → a * k ≡ X → b * k ≡ Y → X ≤ B → Y ≤ B → cond (level s a t b) (s || not t) (below s a t b || false) ≡ leb (at B s X) (at B t Y)
+  total-le-two : (s t : Bool) (a b X Y : ℕ) → a * k ≡ X → b * k ≡ Y → X ≤ B → Y ≤ B
+      → cond (level s a t b) (s || not t) (below s a t b || false) ≡ leb (at B s X) (at B t Y)
   total-le-two s t a b X Y p q hx hy =
       ap (λ (l : Bool). cond l (s || not t) (below s a t b || false)) (level-scale s t a b k K)
       ∙ ap (λ (l : Bool). cond (level s (a * k) t (b * k)) (s || not t) (l || false)) (below-scale s t a b k K)
@@ -341,7 +342,8 @@ is-nan nan t = refl
 is-nan (inf s) t = absurd t
 is-nan (fin s m e) t = absurd t
 
-bits-same : (s t : Bool) (m : ℕ) (e : ℤ) (n : ℕ) (d : ℤ) → s ≡ t → m * up e * down d ≡ n * up d * down e → toBits binary64 (fin s m e) ≡ toBits binary64 (fin t n d)
+bits-same : (s t : Bool) (m : ℕ) (e : ℤ) (n : ℕ) (d : ℤ) → s ≡ t → m * up e * down d ≡ n * up d * down e
+    → toBits binary64 (fin s m e) ≡ toBits binary64 (fin t n d)
 unfolding toBits
 bits-same s t m e n d p q =
     let l : ℕ = 2 ^ 1074 in

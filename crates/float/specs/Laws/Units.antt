@@ -3,7 +3,8 @@
 -- `srnd-same`: a rounded difference sees only its value. `Is-Le`, `Le-Is`: the order of such values is that of their units.
 use mathlib.Core.Path.{_≡_, refl, sym, ap, ap₂, _∙_, subst}
 use Prim.Native.Nat.{ℕ, zero, suc, _+_, _-_, _*_, _^_, _≤_, _<_}
-use native.Mathlib.Nat.{le-trans, le-of-eq, le-of-lt, lt-of-lt-of-le, zero-mul, mul-one, mul-pos, mul-assoc, mul-comm, mul-left-comm, mul-right-comm, add-mul, mul-add, mul-sub, zero-lt-suc, lt-irrefl, le-of-mul-le-mul-right, mul-le-mul-right, mul-lt-mul-of-pos-right, eq-of-mul-eq-mul-right}
+use native.Mathlib.Nat.{le-trans, le-of-eq, le-of-lt, lt-of-lt-of-le, zero-mul, mul-one, mul-pos, mul-assoc, mul-comm, mul-left-comm}
+use native.Mathlib.Nat.{mul-right-comm, add-mul, mul-add, mul-sub, zero-lt-suc, lt-irrefl, le-of-mul-le-mul-right, mul-le-mul-right, mul-lt-mul-of-pos-right, eq-of-mul-eq-mul-right}
 use native.Mathlib.Omega.{arith}
 use mathlib.Core.Bool.{Bool, true, false, not, cond}
 use lib.Dec.{T, leb, leb→le, nleb→lt}
@@ -39,12 +40,14 @@ Is-shift f x p n q m i h k =
 
 pub Is-unit : (f : Format) (x : Float) (p n i j : ℕ) → Is f x p n (i + j) → Is f x (p * 2 ^ j) (n * 2 ^ j) i
 Is-unit f x p n i j k =
-    let e : (z : ℕ) → z * 2 ^ (i + j) * den x ≡ z * 2 ^ j * 2 ^ i * den x = λ z. ap (λ (w : ℕ). w * den x) (ap (λ (w : ℕ). z * w) (pow-add 2 i j ∙ mul-comm (2 ^ i) (2 ^ j)) ∙ sym (mul-assoc z (2 ^ j) (2 ^ i))) in
+    let e : (z : ℕ) → z * 2 ^ (i + j) * den x ≡ z * 2 ^ j * 2 ^ i * den x = λ z. ap (λ (w : ℕ). w * den x)
+    (ap (λ (w : ℕ). z * w) (pow-add 2 i j ∙ mul-comm (2 ^ i) (2 ^ j)) ∙ sym (mul-assoc z (2 ^ j) (2 ^ i))) in
     record { real = k .real; value = ap (λ (w : ℕ). pl x * 2 ^ low f + w) (sym (e n)) ∙ k .value ∙ ap (λ (w : ℕ). w + mi x * 2 ^ low f) (e p) }
 
 pub Is-ununit : (f : Format) (x : Float) (p n i j : ℕ) → Is f x (p * 2 ^ j) (n * 2 ^ j) i → Is f x p n (i + j)
 Is-ununit f x p n i j k =
-    let e : (z : ℕ) → z * 2 ^ (i + j) * den x ≡ z * 2 ^ j * 2 ^ i * den x = λ z. ap (λ (w : ℕ). w * den x) (ap (λ (w : ℕ). z * w) (pow-add 2 i j ∙ mul-comm (2 ^ i) (2 ^ j)) ∙ sym (mul-assoc z (2 ^ j) (2 ^ i))) in
+    let e : (z : ℕ) → z * 2 ^ (i + j) * den x ≡ z * 2 ^ j * 2 ^ i * den x = λ z. ap (λ (w : ℕ). w * den x)
+    (ap (λ (w : ℕ). z * w) (pow-add 2 i j ∙ mul-comm (2 ^ i) (2 ^ j)) ∙ sym (mul-assoc z (2 ^ j) (2 ^ i))) in
     record { real = k .real; value = ap (λ (w : ℕ). pl x * 2 ^ low f + w) (e n) ∙ k .value ∙ ap (λ (w : ℕ). w + mi x * 2 ^ low f) (sym (e p)) }
 
 neg-parts : (x : Float) → (pl (neg x) ≡ mi x) × (mi (neg x) ≡ pl x) × (den (neg x) ≡ den x)
@@ -68,7 +71,8 @@ Is-neg f x p n i k =
 -- a / c = q * 2 ^ i units, and z is a / c
 carry : (r d a c q u w : ℕ) → 0 < c → r * c ≡ a * d → a * u ≡ q * w * c → r * u ≡ q * w * d
 carry r d a c q u w C h k =
-    eq-of-mul-eq-mul-right c C (r * u) (q * w * d) (mul-right-comm r u c ∙ ap (λ (z : ℕ). z * u) h ∙ mul-right-comm a d u ∙ ap (λ (z : ℕ). z * d) k ∙ mul-right-comm (q * w) c d)
+    eq-of-mul-eq-mul-right c C (r * u) (q * w * d) (mul-right-comm r u c ∙ ap (λ (z : ℕ). z * u) h ∙ mul-right-comm a d u ∙ ap (λ (z : ℕ). z * d) k
+    ∙ mul-right-comm (q * w) c d)
 
 pub plus-Is : (f : Format) (z : Float) (a c q p n i : ℕ) → 0 < c → HasValue z false a c → a * 2 ^ low f ≡ q * 2 ^ i * c → p ≡ n + q → Is f z p n i
 plus-Is f nan a c q p n i C h k e = absurd h
@@ -76,7 +80,8 @@ plus-Is f (inf s) a c q p n i C h k e = absurd h
 plus-Is f (fin true m g) a c q p n i C h k e = absurd (mathlib.Core.Bool.true≢false (h .0))
 plus-Is f (fin false m g) a c q p n i C h k e =
     let v : m * up g * 2 ^ low f ≡ q * 2 ^ i * down g = carry (m * up g) (down g) a c q (2 ^ low f) (2 ^ i) C (h .1) k in
-    let w : p * 2 ^ i * down g ≡ n * 2 ^ i * down g + q * 2 ^ i * down g = ap (λ (z : ℕ). z * 2 ^ i * down g) e ∙ ap (λ (z : ℕ). z * down g) (add-mul n q (2 ^ i)) ∙ add-mul (n * 2 ^ i) (q * 2 ^ i) (down g) in
+    let w : p * 2 ^ i * down g ≡ n * 2 ^ i * down g + q * 2 ^ i * down g = ap (λ (z : ℕ). z * 2 ^ i * down g) e
+    ∙ ap (λ (z : ℕ). z * down g) (add-mul n q (2 ^ i)) ∙ add-mul (n * 2 ^ i) (q * 2 ^ i) (down g) in
     record { real = tt; value = omega arith }
 
 pub minus-Is : (f : Format) (z : Float) (a c q p n i : ℕ) → 0 < c → HasValue z true a c → a * 2 ^ low f ≡ q * 2 ^ i * c → n ≡ p + q → Is f z p n i
@@ -85,7 +90,8 @@ minus-Is f (inf s) a c q p n i C h k e = absurd h
 minus-Is f (fin false m g) a c q p n i C h k e = absurd (mathlib.Core.Bool.false≢true (h .0))
 minus-Is f (fin true m g) a c q p n i C h k e =
     let v : m * up g * 2 ^ low f ≡ q * 2 ^ i * down g = carry (m * up g) (down g) a c q (2 ^ low f) (2 ^ i) C (h .1) k in
-    let w : n * 2 ^ i * down g ≡ p * 2 ^ i * down g + q * 2 ^ i * down g = ap (λ (z : ℕ). z * 2 ^ i * down g) e ∙ ap (λ (z : ℕ). z * down g) (add-mul p q (2 ^ i)) ∙ add-mul (p * 2 ^ i) (q * 2 ^ i) (down g) in
+    let w : n * 2 ^ i * down g ≡ p * 2 ^ i * down g + q * 2 ^ i * down g = ap (λ (z : ℕ). z * 2 ^ i * down g) e
+    ∙ ap (λ (z : ℕ). z * down g) (add-mul p q (2 ^ i)) ∙ add-mul (p * 2 ^ i) (q * 2 ^ i) (down g) in
     record { real = tt; value = omega arith }
 
 -- ---- where a rounded difference is exact
@@ -112,7 +118,8 @@ follow a b u p n w W h e =
     let t : n * w ≤ p * w = omega arith in
     le-of-mul-le-mul-right t W
 
-pub srnd-exact : (f : Format) (a b c p n i : ℕ) → 0 < c → Roomy f i → p < n + 2 ^ prec f → n < p + 2 ^ prec f → a * 2 ^ low f + n * 2 ^ i * c ≡ p * 2 ^ i * c + b * 2 ^ low f → Is f (srnd f a b c) p n i
+pub srnd-exact : (f : Format) (a b c p n i : ℕ) → 0 < c → Roomy f i → p < n + 2 ^ prec f → n < p + 2 ^ prec f
+    → a * 2 ^ low f + n * 2 ^ i * c ≡ p * 2 ^ i * c + b * 2 ^ low f → Is f (srnd f a b c) p n i
 srnd-exact f a b c p n i C r x y e = go (leb b a) (leb→le b a) (nleb→lt b a)
   where
     ww : 0 < 2 ^ i * c
@@ -134,12 +141,14 @@ srnd-exact f a b c p n i C r x y e = go (leb b a) (leb→le b a) (nleb→lt b a)
     go true h k =
         let l : n ≤ p = follow a b (2 ^ low f) p n (2 ^ i * c) ww (h tt) e' in
         let s : (a - b) * 2 ^ low f ≡ (p - n) * 2 ^ i * c = spread a b (2 ^ low f) p n (2 ^ i * c) (h tt) l e' ∙ sym (mul-assoc (p - n) (2 ^ i) c) in
-        plus-Is f (round f false (a - b) c) (a - b) c (p - n) p n i C (round-exact f false (a - b) c (p - n) i C (less p n l x) (fine f (p - n) i (less p n l x) r) s) s (back p n l)
+        plus-Is f (round f false (a - b) c) (a - b) c (p - n) p n i C
+        (round-exact f false (a - b) c (p - n) i C (less p n l x) (fine f (p - n) i (less p n l x) r) s) s (back p n l)
     go false h k =
         let g : a ≤ b = le-of-lt (k tt) in
         let l : p ≤ n = follow b a (2 ^ low f) n p (2 ^ i * c) ww g e'' in
         let s : (b - a) * 2 ^ low f ≡ (n - p) * 2 ^ i * c = spread b a (2 ^ low f) n p (2 ^ i * c) g l e'' ∙ sym (mul-assoc (n - p) (2 ^ i) c) in
-        minus-Is f (round f true (b - a) c) (b - a) c (n - p) p n i C (round-exact f true (b - a) c (n - p) i C (less n p l y) (fine f (n - p) i (less n p l y) r) s) s (back n p l)
+        minus-Is f (round f true (b - a) c) (b - a) c (n - p) p n i C
+        (round-exact f true (b - a) c (n - p) i C (less n p l y) (fine f (n - p) i (less n p l y) r) s) s (back n p l)
 
 -- ---- the sign of a zero does not matter
 zero-is : (p n w d a b : ℕ) → 0 < d → a ≡ 0 → b ≡ 0 → a + n * w * d ≡ p * w * d + b → n * w ≡ p * w
@@ -150,10 +159,12 @@ unfolding strip
 strip-Is f nan p n i k = k
 strip-Is f (inf s) p n i k = k
 strip-Is f (fin true zero e) p n i k =
-    let h : n * 2 ^ i ≡ p * 2 ^ i = zero-is p n (2 ^ i) (down e) (0 * 2 ^ low f) (0 * up e * 2 ^ low f) (down-pos e) (zero-mul (2 ^ low f)) (zero-l (up e) (2 ^ low f)) (k .value) in
+    let h : n * 2 ^ i ≡ p * 2 ^ i = zero-is p n (2 ^ i) (down e) (0 * 2 ^ low f) (0 * up e * 2 ^ low f) (down-pos e) (zero-mul (2 ^ low f))
+    (zero-l (up e) (2 ^ low f)) (k .value) in
     record { real = tt; value = omega arith }
 strip-Is f (fin false zero e) p n i k =
-    let h : n * 2 ^ i ≡ p * 2 ^ i = zero-is p n (2 ^ i) (down e) (0 * up e * 2 ^ low f) (0 * 2 ^ low f) (down-pos e) (zero-l (up e) (2 ^ low f)) (zero-mul (2 ^ low f)) (k .value) in
+    let h : n * 2 ^ i ≡ p * 2 ^ i = zero-is p n (2 ^ i) (down e) (0 * up e * 2 ^ low f) (0 * 2 ^ low f) (down-pos e) (zero-l (up e) (2 ^ low f))
+    (zero-mul (2 ^ low f)) (k .value) in
     record { real = tt; value = omega arith }
 strip-Is f (fin s (suc m) e) p n i k = k
 
@@ -162,12 +173,14 @@ unfolding strip
 unstrip-Is f nan p n i k = k
 unstrip-Is f (inf s) p n i k = k
 unstrip-Is f (fin true zero e) p n i k =
-    let h : n * 2 ^ i ≡ p * 2 ^ i = zero-is p n (2 ^ i) 1 (0 * 2 ^ low f) (0 * 2 ^ low f) (zero-lt-suc 0) (zero-mul (2 ^ low f)) (zero-mul (2 ^ low f)) (k .value) in
+    let h : n * 2 ^ i ≡ p * 2 ^ i = zero-is p n (2 ^ i) 1 (0 * 2 ^ low f) (0 * 2 ^ low f) (zero-lt-suc 0) (zero-mul (2 ^ low f))
+    (zero-mul (2 ^ low f)) (k .value) in
     let g : n * 2 ^ i * down e ≡ p * 2 ^ i * down e = ap (λ (z : ℕ). z * down e) h in
     let z : 0 * up e * 2 ^ low f ≡ 0 = zero-l (up e) (2 ^ low f) in
     record { real = tt; value = omega arith }
 unstrip-Is f (fin false zero e) p n i k =
-    let h : n * 2 ^ i ≡ p * 2 ^ i = zero-is p n (2 ^ i) 1 (0 * 2 ^ low f) (0 * 2 ^ low f) (zero-lt-suc 0) (zero-mul (2 ^ low f)) (zero-mul (2 ^ low f)) (k .value) in
+    let h : n * 2 ^ i ≡ p * 2 ^ i = zero-is p n (2 ^ i) 1 (0 * 2 ^ low f) (0 * 2 ^ low f) (zero-lt-suc 0) (zero-mul (2 ^ low f))
+    (zero-mul (2 ^ low f)) (k .value) in
     let g : n * 2 ^ i * down e ≡ p * 2 ^ i * down e = ap (λ (z : ℕ). z * down e) h in
     let z : 0 * up e * 2 ^ low f ≡ 0 = zero-l (up e) (2 ^ low f) in
     record { real = tt; value = omega arith }
@@ -188,32 +201,42 @@ sum-eq u w p1 n1 d1 a1 b1 p2 n2 d2 a2 b2 h k =
     let b1e : (a2 * u + n2 * w * d2) * d1 ≡ a2 * d1 * u + n2 * w * (d1 * d2) = simp (add-mul, mul-assoc, mul-comm, mul-left-comm) in
     let b2e : (p2 * w * d2 + b2 * u) * d1 ≡ p2 * w * (d1 * d2) + b2 * d1 * u = simp (add-mul, mul-assoc, mul-comm, mul-left-comm) in
     let l1 : (a1 * d2 + a2 * d1) * u ≡ a1 * d2 * u + a2 * d1 * u = add-mul (a1 * d2) (a2 * d1) u in
-    let l2 : (n1 + n2) * w * (d1 * d2) ≡ n1 * w * (d1 * d2) + n2 * w * (d1 * d2) = ap (λ (z : ℕ). z * (d1 * d2)) (add-mul n1 n2 w) ∙ add-mul (n1 * w) (n2 * w) (d1 * d2) in
-    let r1 : (p1 + p2) * w * (d1 * d2) ≡ p1 * w * (d1 * d2) + p2 * w * (d1 * d2) = ap (λ (z : ℕ). z * (d1 * d2)) (add-mul p1 p2 w) ∙ add-mul (p1 * w) (p2 * w) (d1 * d2) in
+    let l2 : (n1 + n2) * w * (d1 * d2) ≡ n1 * w * (d1 * d2) + n2 * w * (d1 * d2) = ap (λ (z : ℕ). z * (d1 * d2)) (add-mul n1 n2 w)
+    ∙ add-mul (n1 * w) (n2 * w) (d1 * d2) in
+    let r1 : (p1 + p2) * w * (d1 * d2) ≡ p1 * w * (d1 * d2) + p2 * w * (d1 * d2) = ap (λ (z : ℕ). z * (d1 * d2)) (add-mul p1 p2 w)
+    ∙ add-mul (p1 * w) (p2 * w) (d1 * d2) in
     let r2 : (b1 * d2 + b2 * d1) * u ≡ b1 * d2 * u + b2 * d1 * u = add-mul (b1 * d2) (b2 * d1) u in
     omega arith
 
-pub Is-add : (f : Format) (x y : Float) (p n q m i : ℕ) → Roomy f i → p + q < n + m + 2 ^ prec f → n + m < p + q + 2 ^ prec f → Is f x p n i → Is f y q m i → Is f (add f x y) (p + q) (n + m) i
+pub Is-add : (f : Format) (x y : Float) (p n q m i : ℕ) → Roomy f i → p + q < n + m + 2 ^ prec f → n + m < p + q + 2 ^ prec f → Is f x p n i
+    → Is f y q m i → Is f (add f x y) (p + q) (n + m) i
 Is-add f x y p n q m i r s t h k =
-    Is-alike f (srnd f (pl x * den y + pl y * den x) (mi x * den y + mi y * den x) (den x * den y)) (add f x y) (p + q) (n + m) i (sym (add-srnd f x y (h .real) (k .real)))
+    Is-alike f (srnd f (pl x * den y + pl y * den x) (mi x * den y + mi y * den x) (den x * den y)) (add f x y) (p + q) (n + m) i
+    (sym (add-srnd f x y (h .real) (k .real)))
     (srnd-exact f (pl x * den y + pl y * den x) (mi x * den y + mi y * den x) (den x * den y) (p + q) (n + m) i (mul-pos (den-pos x) (den-pos y)) r s t
     (sum-eq (2 ^ low f) (2 ^ i) p n (den x) (pl x) (mi x) q m (den y) (pl y) (mi y) (h .value) (k .value)))
 
-pub Is-sub : (f : Format) (x y : Float) (p n q m i : ℕ) → Roomy f i → p + m < n + q + 2 ^ prec f → n + q < p + m + 2 ^ prec f → Is f x p n i → Is f y q m i → Is f (sub f x y) (p + m) (n + q) i
+pub Is-sub : (f : Format) (x y : Float) (p n q m i : ℕ) → Roomy f i → p + m < n + q + 2 ^ prec f → n + q < p + m + 2 ^ prec f → Is f x p n i
+    → Is f y q m i → Is f (sub f x y) (p + m) (n + q) i
 unfolding sub
 Is-sub f x y p n q m i r s t h k = Is-add f x (neg y) p n m q i r s t h (Is-neg f y q m i k)
 
 -- ---- a product
-pub mul-srnd' : (f : Format) (x y : Float) → T (finite x) → T (finite y) → Alike (mul f x y) (srnd f (pl x * pl y + mi x * mi y) (pl x * mi y + mi x * pl y) (den x * den y))
+pub mul-srnd' : (f : Format) (x y : Float) → T (finite x) → T (finite y)
+    → Alike (mul f x y) (srnd f (pl x * pl y + mi x * mi y) (pl x * mi y + mi x * pl y) (den x * den y))
 unfolding mul
 mul-srnd' f nan y p q = absurd p
 mul-srnd' f (inf s) y p q = absurd p
 mul-srnd' f (fin s m e) nan p q = absurd q
 mul-srnd' f (fin s m e) (inf t) p q = absurd q
-mul-srnd' f (fin true m e) (fin true n d) p q = signed-pos f (m * up e * (n * up d)) (0 * 0 + m * up e * (n * up d)) (0 * (n * up d) + m * up e * 0) (down e * down d) (omega arith)
-mul-srnd' f (fin true m e) (fin false n d) p q = signed-neg f (m * up e * (n * up d)) (0 * (n * up d) + m * up e * 0) (0 * 0 + m * up e * (n * up d)) (down e * down d) (mul-pos (down-pos e) (down-pos d)) (omega arith)
-mul-srnd' f (fin false m e) (fin true n d) p q = signed-neg f (m * up e * (n * up d)) (m * up e * 0 + 0 * (n * up d)) (m * up e * (n * up d) + 0 * 0) (down e * down d) (mul-pos (down-pos e) (down-pos d)) (omega arith)
-mul-srnd' f (fin false m e) (fin false n d) p q = signed-pos f (m * up e * (n * up d)) (m * up e * (n * up d) + 0 * 0) (m * up e * 0 + 0 * (n * up d)) (down e * down d) (omega arith)
+mul-srnd' f (fin true m e) (fin true n d) p q = signed-pos f (m * up e * (n * up d)) (0 * 0 + m * up e * (n * up d)) (0 * (n * up d) + m * up e * 0)
+    (down e * down d) (omega arith)
+mul-srnd' f (fin true m e) (fin false n d) p q = signed-neg f (m * up e * (n * up d)) (0 * (n * up d) + m * up e * 0) (0 * 0 + m * up e * (n * up d))
+    (down e * down d) (mul-pos (down-pos e) (down-pos d)) (omega arith)
+mul-srnd' f (fin false m e) (fin true n d) p q = signed-neg f (m * up e * (n * up d)) (m * up e * 0 + 0 * (n * up d)) (m * up e * (n * up d) + 0 * 0)
+    (down e * down d) (mul-pos (down-pos e) (down-pos d)) (omega arith)
+mul-srnd' f (fin false m e) (fin false n d) p q = signed-pos f (m * up e * (n * up d)) (m * up e * (n * up d) + 0 * 0) (m * up e * 0 + 0 * (n * up d))
+    (down e * down d) (omega arith)
 
 -- (α - α') (β - β') = (P - N) (Q - M) from α - α' = P - N and β - β' = Q - M
 pub cross-mul : (a a' b b' P N Q M : ℕ) → a + N ≡ P + a' → b + M ≡ Q + b' → a * b + a' * b' + (P * M + N * Q) ≡ P * Q + N * M + (a * b' + a' * b)
@@ -224,7 +247,8 @@ cross-mul a a' b b' P N Q M h k =
     let e4 : N * b + N * M ≡ N * Q + N * b' = sym (mul-add N b M) ∙ ap (λ (z : ℕ). N * z) k ∙ mul-add N Q b' in
     omega arith
 
-mul-eq : (u w v z p1 n1 d1 a1 b1 p2 n2 d2 a2 b2 : ℕ) → 0 < u → w * v ≡ u * z → a1 * u + n1 * w * d1 ≡ p1 * w * d1 + b1 * u → a2 * u + n2 * v * d2 ≡ p2 * v * d2 + b2 * u
+mul-eq : (u w v z p1 n1 d1 a1 b1 p2 n2 d2 a2 b2 : ℕ) → 0 < u → w * v ≡ u * z → a1 * u + n1 * w * d1 ≡ p1 * w * d1 + b1 * u
+    → a2 * u + n2 * v * d2 ≡ p2 * v * d2 + b2 * u
     → (a1 * a2 + b1 * b2) * u + (p1 * n2 + n1 * p2) * z * (d1 * d2) ≡ (p1 * p2 + n1 * n2) * z * (d1 * d2) + (a1 * b2 + b1 * a2) * u
 mul-eq u w v z p1 n1 d1 a1 b1 p2 n2 d2 a2 b2 U e h k =
     eq-of-mul-eq-mul-right u U ((a1 * a2 + b1 * b2) * u + (p1 * n2 + n1 * p2) * z * (d1 * d2)) ((p1 * p2 + n1 * n2) * z * (d1 * d2) + (a1 * b2 + b1 * a2) * u)
@@ -243,35 +267,45 @@ mul-eq u w v z p1 n1 d1 a1 b1 p2 n2 d2 a2 b2 U e h k =
     square s t = simp (mul-assoc, mul-comm, mul-left-comm)
 
     four : (s t s' t' y : ℕ) → (s * t + s' * t') * z * y * u ≡ s * t * z * y * u + s' * t' * z * y * u
-    four s t s' t' y = ap (λ (x : ℕ). x * y * u) (add-mul (s * t) (s' * t') z) ∙ ap (λ (x : ℕ). x * u) (add-mul (s * t * z) (s' * t' * z) y) ∙ add-mul (s * t * z * y) (s' * t' * z * y) u
+    four s t s' t' y = ap (λ (x : ℕ). x * y * u) (add-mul (s * t) (s' * t') z) ∙ ap (λ (x : ℕ). x * u) (add-mul (s * t * z) (s' * t' * z) y)
+        ∙ add-mul (s * t * z * y) (s' * t' * z * y) u
 
     two : (s t s' t' : ℕ) → (s * t + s' * t') * u * u ≡ s * t * u * u + s' * t' * u * u
     two s t s' t' = ap (λ (x : ℕ). x * u) (add-mul (s * t) (s' * t') u) ∙ add-mul (s * t * u) (s' * t' * u) u
 
-    l : ((a1 * a2 + b1 * b2) * u + (p1 * n2 + n1 * p2) * z * (d1 * d2)) * u ≡ a1 * u * (a2 * u) + b1 * u * (b2 * u) + (p1 * w * d1 * (n2 * v * d2) + n1 * w * d1 * (p2 * v * d2))
+    l : ((a1 * a2 + b1 * b2) * u + (p1 * n2 + n1 * p2) * z * (d1 * d2)) * u ≡ a1 * u * (a2 * u) + b1 * u * (b2 * u) +
+        (p1 * w * d1 * (n2 * v * d2) + n1 * w * d1 * (p2 * v * d2))
     l =
         add-mul ((a1 * a2 + b1 * b2) * u) ((p1 * n2 + n1 * p2) * z * (d1 * d2)) u
-        ∙ ap₂ (λ (x y : ℕ). x + y) (two a1 a2 b1 b2 ∙ ap₂ (λ (x y : ℕ). x + y) (square a1 a2) (square b1 b2)) (four p1 n2 n1 p2 (d1 * d2) ∙ ap₂ (λ (x y : ℕ). x + y) (term p1 n2) (term n1 p2))
+        ∙ ap₂ (λ (x y : ℕ). x + y) (two a1 a2 b1 b2 ∙ ap₂ (λ (x y : ℕ). x + y) (square a1 a2) (square b1 b2))
+        (four p1 n2 n1 p2 (d1 * d2) ∙ ap₂ (λ (x y : ℕ). x + y) (term p1 n2) (term n1 p2))
 
-    r : ((p1 * p2 + n1 * n2) * z * (d1 * d2) + (a1 * b2 + b1 * a2) * u) * u ≡ p1 * w * d1 * (p2 * v * d2) + n1 * w * d1 * (n2 * v * d2) + (a1 * u * (b2 * u) + b1 * u * (a2 * u))
+    r : ((p1 * p2 + n1 * n2) * z * (d1 * d2) + (a1 * b2 + b1 * a2) * u) * u ≡ p1 * w * d1 * (p2 * v * d2) + n1 * w * d1 * (n2 * v * d2) +
+        (a1 * u * (b2 * u) + b1 * u * (a2 * u))
     r =
         add-mul ((p1 * p2 + n1 * n2) * z * (d1 * d2)) ((a1 * b2 + b1 * a2) * u) u
-        ∙ ap₂ (λ (x y : ℕ). x + y) (four p1 p2 n1 n2 (d1 * d2) ∙ ap₂ (λ (x y : ℕ). x + y) (term p1 p2) (term n1 n2)) (two a1 b2 b1 a2 ∙ ap₂ (λ (x y : ℕ). x + y) (square a1 b2) (square b1 a2))
+        ∙ ap₂ (λ (x y : ℕ). x + y) (four p1 p2 n1 n2 (d1 * d2) ∙ ap₂ (λ (x y : ℕ). x + y) (term p1 p2) (term n1 n2))
+        (two a1 b2 b1 a2 ∙ ap₂ (λ (x y : ℕ). x + y) (square a1 b2) (square b1 a2))
 
 -- the exponents add up to the product's, which is counted from the smallest value too
 pow-eq : (l i j k : ℕ) → i + j ≡ l + k → 2 ^ i * 2 ^ j ≡ 2 ^ l * 2 ^ k
 pow-eq l i j k h = sym (pow-add 2 i j) ∙ ap (λ (z : ℕ). 2 ^ z) h ∙ pow-add 2 l k
 
 pub mul-value : (f : Format) (x y : Float) (p n q m i j k : ℕ) → i + j ≡ low f + k → Is f x p n i → Is f y q m j
-    → (pl x * pl y + mi x * mi y) * 2 ^ low f + (p * m + n * q) * 2 ^ k * (den x * den y) ≡ (p * q + n * m) * 2 ^ k * (den x * den y) + (pl x * mi y + mi x * pl y) * 2 ^ low f
+    → (pl x * pl y + mi x * mi y) * 2 ^ low f + (p * m + n * q) * 2 ^ k * (den x * den y) ≡ (p * q + n * m) * 2 ^ k * (den x * den y) +
+    (pl x * mi y + mi x * pl y) * 2 ^ low f
 mul-value f x y p n q m i j k e h g =
-    mul-eq (2 ^ low f) (2 ^ i) (2 ^ j) (2 ^ k) p n (den x) (pl x) (mi x) q m (den y) (pl y) (mi y) (pow-pos (low f)) (pow-eq (low f) i j k e) (h .value) (g .value)
+    mul-eq (2 ^ low f) (2 ^ i) (2 ^ j) (2 ^ k) p n (den x) (pl x) (mi x) q m (den y) (pl y) (mi y) (pow-pos (low f)) (pow-eq (low f) i j k e)
+    (h .value) (g .value)
 
-pub Is-mul : (f : Format) (x y : Float) (p n q m i j k : ℕ) → i + j ≡ low f + k → Roomy f k → p * q + n * m < p * m + n * q + 2 ^ prec f → p * m + n * q < p * q + n * m + 2 ^ prec f
+pub Is-mul : (f : Format) (x y : Float) (p n q m i j k : ℕ) → i + j ≡ low f + k → Roomy f k → p * q + n * m < p * m + n * q + 2 ^ prec f
+    → p * m + n * q < p * q + n * m + 2 ^ prec f
     → Is f x p n i → Is f y q m j → Is f (mul f x y) (p * q + n * m) (p * m + n * q) k
 Is-mul f x y p n q m i j k e r s t h g =
-    Is-alike f (srnd f (pl x * pl y + mi x * mi y) (pl x * mi y + mi x * pl y) (den x * den y)) (mul f x y) (p * q + n * m) (p * m + n * q) k (sym (mul-srnd' f x y (h .real) (g .real)))
-    (srnd-exact f (pl x * pl y + mi x * mi y) (pl x * mi y + mi x * pl y) (den x * den y) (p * q + n * m) (p * m + n * q) k (mul-pos (den-pos x) (den-pos y)) r s t (mul-value f x y p n q m i j k e h g))
+    Is-alike f (srnd f (pl x * pl y + mi x * mi y) (pl x * mi y + mi x * pl y) (den x * den y)) (mul f x y) (p * q + n * m) (p * m + n * q) k
+    (sym (mul-srnd' f x y (h .real) (g .real)))
+    (srnd-exact f (pl x * pl y + mi x * mi y) (pl x * mi y + mi x * pl y) (den x * den y) (p * q + n * m) (p * m + n * q) k
+    (mul-pos (den-pos x) (den-pos y)) r s t (mul-value f x y p n q m i j k e h g))
 
 -- ---- a rounded difference sees only its value
 pub srnd-same : (f : Format) (p n c q m d : ℕ) → 0 < c → 0 < d → p * d + m * c ≡ q * c + n * d → Alike (srnd f p n c) (srnd f q m d)
@@ -315,7 +349,8 @@ module _ (f : Format) (x y : Float) (p n q m : ℕ) (h : Is f x p n 0) (k : Is f
   left-units = across u (den x) (den y) p n (pl x) (mi x) (flat f x p n h)
 
   right-units : pl y * den x * u + m * d ≡ q * d + mi y * den x * u
-  right-units = subst (λ (z : ℕ). pl y * den x * u + m * z ≡ q * z + mi y * den x * u) (mul-comm (den y) (den x)) (across u (den y) (den x) q m (pl y) (mi y) (flat f y q m k))
+  right-units = subst (λ (z : ℕ). pl y * den x * u + m * z ≡ q * z + mi y * den x * u) (mul-comm (den y) (den x))
+      (across u (den y) (den x) q m (pl y) (mi y) (flat f y q m k))
 
   pub Is-Le : p + m ≤ q + n → Le x y
   Is-Le l =

@@ -27,7 +27,8 @@ use Rattle.float.specs.Promises.Order.{amount, plus-units, minus-units, 
 -- ---- the counts
 -- for an exponent no less than the smallest value's
 pub amount-is : (f : Format) (m : ℕ) (e : ℤ) → down e ≤ 2 ^ low f → m * up e * 2 ^ low f ≡ amount f m e * down e
-amount-is f m (pos k) h = mul-assoc m (2 ^ k) (2 ^ low f) ∙ ap (λ (z : ℕ). m * z) (mul-comm (2 ^ k) (2 ^ low f) ∙ sym (pow-add 2 (low f) k)) ∙ sym (mul-one (m * 2 ^ (low f + k)))
+amount-is f m (pos k) h = mul-assoc m (2 ^ k) (2 ^ low f) ∙ ap (λ (z : ℕ). m * z) (mul-comm (2 ^ k) (2 ^ low f) ∙ sym (pow-add 2 (low f) k))
+    ∙ sym (mul-one (m * 2 ^ (low f + k)))
 amount-is f m (negsuc k) h =
     ap (λ (z : ℕ). z * 2 ^ low f) (mul-one m)
     ∙ ap (λ (z : ℕ). m * z) (ap (λ (z : ℕ). 2 ^ z) (sym (back (low f) (suc k) (drop-pow (suc k) (low f) h))) ∙ pow-add 2 (low f - suc k) (suc k))
@@ -98,7 +99,8 @@ within-units f k x t h =
     let b = Le-Is f (neg B) x 0 (2 ^ (low f + k)) (plus-units f x) (minus-units f x) (Is-neg f B (2 ^ (low f + k)) 0 0 (power-is f k)) w (o .1) in
     (omega arith, omega arith)
 
-pub width-within : (f : Format) (k : ℕ) (lo hi : Float) → T (fits f lo) → T (fits f hi) → Within (fin false 1 (pos k)) lo → Within (fin false 1 (pos k)) hi → width f lo hi ≤ 2 ^ suc (low f + k)
+pub width-within : (f : Format) (k : ℕ) (lo hi : Float) → T (fits f lo) → T (fits f hi) → Within (fin false 1 (pos k)) lo
+    → Within (fin false 1 (pos k)) hi → width f lo hi ≤ 2 ^ suc (low f + k)
 width-within f k lo hi s t g h =
     let a = within-units f k lo s g in
     let b = within-units f k hi t h in

@@ -1,9 +1,12 @@
 -- Bounds on the size of a result. `Within B x`: x is finite and |x| ≤ |B|. `Beyond B x`: x is finite and |B| ≤ |x|. B is mostly a numeral.
--- A rule for an operation takes bounds of the operands and any B that the format holds and that the exact bound does not pass: rounding does not cross a value of the format.
+-- A rule for an operation takes bounds of the operands and any B that the format holds and that the
+-- exact bound does not pass: rounding does not cross a value of the format.
 -- For numerals X, Y, B each test is closed, so `tt` proves it by computation.
 use mathlib.Core.Path.{_≡_, refl, sym, ap, ap₂, _∙_, subst}
 use Prim.Native.Nat.{ℕ, zero, suc, _+_, _-_, _*_, _%_, _^_, _≤_, _<_}
-use native.Mathlib.Nat.{le-trans, le-of-eq, lt-of-lt-of-le, lt-of-le-of-lt, zero-mul, mul-one, one-mul, mul-pos, mul-assoc, mul-comm, mul-left-comm, mul-right-comm, add-mul, mul-sub, zero-lt-suc, lt-irrefl, le-of-mul-le-mul-right, mul-le-mul-right, mul-le-mul, mul-lt-mul-of-pos-right, lt-of-mul-lt-mul-right, sub-add-cancel, add-le-add, le-of-lt, mod-lt}
+use native.Mathlib.Nat.{le-trans, le-of-eq, lt-of-lt-of-le, lt-of-le-of-lt, zero-mul, mul-one, one-mul, mul-pos, mul-assoc}
+use native.Mathlib.Nat.{mul-comm, mul-left-comm, mul-right-comm, add-mul, mul-sub, zero-lt-suc, lt-irrefl, le-of-mul-le-mul-right, mul-le-mul-right}
+use native.Mathlib.Nat.{mul-le-mul, mul-lt-mul-of-pos-right, lt-of-mul-lt-mul-right, sub-add-cancel, add-le-add, le-of-lt, mod-lt}
 use native.Mathlib.Omega.{arith}
 use mathlib.Core.Bool.{Bool, true, false, not, _&&_, Bool·beq, cond}
 use lib.IntN.{ℤ, pos, negsuc}
@@ -86,15 +89,23 @@ held-units f (fin s m e) t =
     let c = leb (down e) (2 ^ low f) in
     let d = ltb (m * up e) (2 ^ suc (emax f) * down e) in
     let i = shift e (low f) (leb→le (down e) (2 ^ low f) (and-l c d (and-r b (c && d) t))) in
-    let v : m * up e * 2 ^ low f ≡ m * 2 ^ (i .0) * down e = mul-assoc m (up e) (2 ^ low f) ∙ ap (λ (z : ℕ). m * z) (i .1) ∙ sym (mul-assoc m (2 ^ (i .0)) (down e)) in
-    record { β = m; j = i .0; short = ltb→lt m (2 ^ prec f) (and-l b (c && d) t); is = v; top = under (i .0) v (ltb→lt (m * up e) (2 ^ suc (emax f) * down e) (and-r c d (and-r b (c && d) t))) }
+    let v : m * up e * 2 ^ low f ≡ m * 2 ^ (i .0) * down e = mul-assoc m (up e) (2 ^ low f) ∙ ap (λ (z : ℕ). m * z) (i .1)
+    ∙ sym (mul-assoc m (2 ^ (i .0)) (down e)) in
+    record {
+      β = m;
+      j = i .0;
+      short = ltb→lt m (2 ^ prec f) (and-l b (c && d) t);
+      is = v;
+      top = under (i .0) v (ltb→lt (m * up e) (2 ^ suc (emax f) * down e) (and-r c d (and-r b (c && d) t)));
+    }
   where
     under : (j : ℕ) → m * up e * 2 ^ low f ≡ m * 2 ^ j * down e → m * up e < 2 ^ suc (emax f) * down e → m * 2 ^ j < overflow f
     under j v h =
         lt-of-mul-lt-mul-right (down e)
         (subst (λ (z : ℕ). z < overflow f * down e) v
         (lt-of-lt-of-le (mul-lt-mul-of-pos-right h (pow-pos (low f)))
-        (le-of-eq (mul-right-comm (2 ^ suc (emax f)) (down e) (2 ^ low f) ∙ ap (λ (z : ℕ). z * down e) (mul-comm (2 ^ suc (emax f)) (2 ^ low f) ∙ sym (pow-add 2 (low f) (suc (emax f))))))))
+        (le-of-eq (mul-right-comm (2 ^ suc (emax f)) (down e) (2 ^ low f)
+        ∙ ap (λ (z : ℕ). z * down e) (mul-comm (2 ^ suc (emax f)) (2 ^ low f) ∙ sym (pow-add 2 (low f) (suc (emax f))))))))
 
 pub exact-self : (f : Format) (s : Bool) (x : Float) → T (held f x) → HasValue (round f s (num x) (den x)) s (num x) (den x)
 exact-self f s x t = let h = held-units f x t in round-exact f s (num x) (den x) (h .β) (h .j) (den-pos x) (h .short) (h .top) (h .is)
@@ -129,7 +140,10 @@ plain-Le : (x y : Float) → T (plain x) → T (plain y) → Le x y → num x * 
 plain-Le x y p q h =
     let a = pl-num x p in
     let b = pl-num y q in
-    let k : num x * den y + 0 * den x ≤ num y * den x + 0 * den y = subst (λ (z : ℕ). z * den y + 0 * den x ≤ num y * den x + 0 * den y) (a .0) (subst (λ (z : ℕ). pl x * den y + z * den x ≤ num y * den x + 0 * den y) (b .1) (subst (λ (z : ℕ). pl x * den y + mi y * den x ≤ z * den x + 0 * den y) (b .0) (subst (λ (z : ℕ). pl x * den y + mi y * den x ≤ pl y * den x + z * den y) (a .1) (h .cross)))) in
+    let k : num x * den y + 0 * den x ≤ num y * den x + 0 * den y = subst (λ (z : ℕ). z * den y + 0 * den x ≤ num y * den x + 0 * den y) (a .0)
+    (subst (λ (z : ℕ). pl x * den y + z * den x ≤ num y * den x + 0 * den y) (b .1)
+    (subst (λ (z : ℕ). pl x * den y + mi y * den x ≤ z * den x + 0 * den y) (b .0)
+    (subst (λ (z : ℕ). pl x * den y + mi y * den x ≤ pl y * den x + z * den y) (a .1) (h .cross)))) in
     omega arith
 
 -- what lies below a finite value is finite, if it has no minus sign
@@ -167,7 +181,8 @@ plain-within f a c B C t h =
     let r : T (finite R) = plain-finite R S (round-plain f a c) q l in
     record {
       real = r;
-      size = swap-right (num R) (den R) (num S) (den S) (num B) (den B) (den-pos S) (plain-Le R S (round-plain f a c) (round-plain f (num B) (den B)) (le→Le R S r q l)) (value-cross S false (num B) (den B) w);
+      size = swap-right (num R) (den R) (num S) (den S) (num B) (den B) (den-pos S)
+          (plain-Le R S (round-plain f a c) (round-plain f (num B) (den B)) (le→Le R S r q l)) (value-cross S false (num B) (den B) w);
     }
 
 pub round-within : (f : Format) (s : Bool) (a c : ℕ) (B : Float) → 0 < c → T (held f B) → a * den B ≤ num B * c → Within B (round f s a c)
@@ -183,7 +198,8 @@ plain-beyond f a c B C t r h =
     let q : T (finite S) = value-finite S false (num B) (den B) w in
     record {
       real = r;
-      size = through (num B) (num S) (num R) (den B) (den S) (den R) (den-pos S) (le-of-eq (sym (value-cross S false (num B) (den B) w))) (plain-Le S R (round-plain f (num B) (den B)) (round-plain f a c) (le→Le S R q r l));
+      size = through (num B) (num S) (num R) (den B) (den S) (den R) (den-pos S) (le-of-eq (sym (value-cross S false (num B) (den B) w)))
+          (plain-Le S R (round-plain f (num B) (den B)) (round-plain f a c) (le→Le S R q r l));
     }
 
 unneg-finite : (x : Float) → T (finite (neg x)) → T (finite x)
@@ -192,20 +208,32 @@ unneg-finite nan p = p
 unneg-finite (inf s) p = p
 unneg-finite (fin s m e) p = tt
 
-pub round-beyond : (f : Format) (s : Bool) (a c : ℕ) (B : Float) → 0 < c → T (held f B) → T (finite (round f s a c)) → num B * c ≤ a * den B → Beyond B (round f s a c)
+pub round-beyond : (f : Format) (s : Bool) (a c : ℕ) (B : Float) → 0 < c → T (held f B) → T (finite (round f s a c)) → num B * c ≤ a * den B
+    → Beyond B (round f s a c)
 round-beyond f false a c B C t r h = plain-beyond f a c B C t r h
 round-beyond f true a c B C t r h =
-    subst (λ (z : Float). Beyond B z) (sym (round-neg f false a c)) (neg-beyond (plain-beyond f a c B C t (unneg-finite (round f false a c) (subst (λ (z : Float). T (finite z)) (round-neg f false a c) r)) h))
+    subst (λ (z : Float). Beyond B z) (sym (round-neg f false a c))
+    (neg-beyond (plain-beyond f a c B C t (unneg-finite (round f false a c) (subst (λ (z : Float). T (finite z)) (round-neg f false a c) r)) h))
 
 -- ---- weaker bounds, and numerals
 pub weaken : (B : Float) {X x : Float} → T (leb (num X * den B) (num B * den X)) → Within X x → Within B x
-weaken B {X} {x} t h = record { real = h .real; size = through (num x) (num X) (num B) (den x) (den X) (den B) (den-pos X) (h .size) (leb→le (num X * den B) (num B * den X) t) }
+weaken B {X} {x} t h = record {
+  real = h .real;
+  size = through (num x) (num X) (num B) (den x) (den X) (den B) (den-pos X) (h .size)
+      (leb→le (num X * den B) (num B * den X) t);
+}
 
 pub numeral : (B x : Float) → T (finite x && leb (num x * den B) (num B * den x)) → Within B x
-numeral B x t = record { real = and-l (finite x) (leb (num x * den B) (num B * den x)) t; size = leb→le (num x * den B) (num B * den x) (and-r (finite x) (leb (num x * den B) (num B * den x)) t) }
+numeral B x t = record {
+  real = and-l (finite x) (leb (num x * den B) (num B * den x)) t;
+  size = leb→le (num x * den B) (num B * den x) (and-r (finite x) (leb (num x * den B) (num B * den x)) t);
+}
 
 pub numeral-beyond : (B x : Float) → T (finite x && leb (num B * den x) (num x * den B)) → Beyond B x
-numeral-beyond B x t = record { real = and-l (finite x) (leb (num B * den x) (num x * den B)) t; size = leb→le (num B * den x) (num x * den B) (and-r (finite x) (leb (num B * den x) (num x * den B)) t) }
+numeral-beyond B x t = record {
+  real = and-l (finite x) (leb (num B * den x) (num x * den B)) t;
+  size = leb→le (num B * den x) (num x * den B) (and-r (finite x) (leb (num B * den x) (num x * den B)) t);
+}
 
 -- ---- a sum: any B that is no less than X + Y
 abbrev pub addTest : Format → Float → Float → Float → Bool
@@ -230,7 +258,8 @@ sum-within f s a t b c B C h k = pick (Bool·beq s t) (ltb a b)
 add-bound : (x p y q X P Y Q B D : ℕ) → 0 < P → 0 < Q → x * P ≤ X * p → y * Q ≤ Y * q → (X * Q + Y * P) * D ≤ B * (P * Q) → (x * q + y * p) * D ≤ B * (p * q)
 add-bound x p y q X P Y Q B D pp qq h k l =
     le-of-mul-le-mul-right
-    (le-trans (le-of-eq e1) (le-trans (mul-le-mul-right D (add-le-add h1 k1)) (le-trans (le-of-eq e2) (le-trans (mul-le-mul-right (p * q) l) (le-of-eq (mul-right-comm B (P * Q) (p * q)))))))
+    (le-trans (le-of-eq e1) (le-trans (mul-le-mul-right D (add-le-add h1 k1))
+    (le-trans (le-of-eq e2) (le-trans (mul-le-mul-right (p * q) l) (le-of-eq (mul-right-comm B (P * Q) (p * q)))))))
     (mul-pos pp qq)
   where
     h1 : x * P * (q * Q) ≤ X * p * (q * Q)
@@ -254,7 +283,8 @@ add-within f B {x = fin s m e} {y = inf r} t h k = absurd (k .real)
 add-within f B {X} {Y} {x = fin s m e} {y = fin r n d} t h k =
     let l = leb ((num X * den Y + num Y * den X) * den B) (num B * (den X * den Y)) in
     sum-within f s (m * up e * down d) r (n * up d * down e) (down e * down d) B (mul-pos (down-pos e) (down-pos d)) (and-l (held f B) l t)
-    (add-bound (m * up e) (down e) (n * up d) (down d) (num X) (den X) (num Y) (den Y) (num B) (den B) (den-pos X) (den-pos Y) (h .size) (k .size) (leb→le ((num X * den Y + num Y * den X) * den B) (num B * (den X * den Y)) (and-r (held f B) l t)))
+    (add-bound (m * up e) (down e) (n * up d) (down d) (num X) (den X) (num Y) (den Y) (num B) (den B) (den-pos X) (den-pos Y) (h .size) (k .size)
+    (leb→le ((num X * den Y + num Y * den X) * den B) (num B * (den X * den Y)) (and-r (held f B) l t)))
 
 pub sub-within : (f : Format) (B : Float) {X Y x y : Float} → T (addTest f X Y B) → Within X x → Within Y y → Within B (sub f x y)
 unfolding sub
@@ -267,7 +297,8 @@ mulTest f X Y B = held f B && leb (num X * num Y * den B) (num B * (den X * den 
 mul-bound : (x p y q X P Y Q B D : ℕ) → 0 < P → 0 < Q → x * P ≤ X * p → y * Q ≤ Y * q → X * Y * D ≤ B * (P * Q) → x * y * D ≤ B * (p * q)
 mul-bound x p y q X P Y Q B D pp qq h k l =
     le-of-mul-le-mul-right
-    (le-trans (le-of-eq e1) (le-trans (mul-le-mul-right D (mul-le-mul h k)) (le-trans (le-of-eq e2) (le-trans (mul-le-mul-right (p * q) l) (le-of-eq (mul-right-comm B (P * Q) (p * q)))))))
+    (le-trans (le-of-eq e1) (le-trans (mul-le-mul-right D (mul-le-mul h k))
+    (le-trans (le-of-eq e2) (le-trans (mul-le-mul-right (p * q) l) (le-of-eq (mul-right-comm B (P * Q) (p * q)))))))
     (mul-pos pp qq)
   where
     e1 : x * y * D * (P * Q) ≡ x * P * (y * Q) * D
@@ -285,7 +316,8 @@ mul-within f B {x = fin s m e} {y = inf r} t h k = absurd (k .real)
 mul-within f B {X} {Y} {x = fin s m e} {y = fin r n d} t h k =
     let l = leb (num X * num Y * den B) (num B * (den X * den Y)) in
     round-within f (unlike s r) (m * up e * (n * up d)) (down e * down d) B (mul-pos (down-pos e) (down-pos d)) (and-l (held f B) l t)
-    (mul-bound (m * up e) (down e) (n * up d) (down d) (num X) (den X) (num Y) (den Y) (num B) (den B) (den-pos X) (den-pos Y) (h .size) (k .size) (leb→le (num X * num Y * den B) (num B * (den X * den Y)) (and-r (held f B) l t)))
+    (mul-bound (m * up e) (down e) (n * up d) (down d) (num X) (den X) (num Y) (den Y) (num B) (den B) (den-pos X) (den-pos Y) (h .size) (k .size)
+    (leb→le (num X * num Y * den B) (num B * (den X * den Y)) (and-r (held f B) l t)))
 
 -- ---- a quotient by what is L or more in size
 abbrev pub divTest : Format → Float → Float → Float → Bool
@@ -294,7 +326,8 @@ divTest f X L B = held f B && (ltb 0 (num L) && leb (num X * den L * den B) (num
 div-bound : (x p y q X P L R B D : ℕ) → 0 < P → 0 < L → x * P ≤ X * p → L * q ≤ y * R → X * R * D ≤ B * (P * L) → x * q * D ≤ B * (p * y)
 div-bound x p y q X P L R B D pp ll h k l =
     le-of-mul-le-mul-right
-    (le-trans (le-of-eq e1) (le-trans (mul-le-mul-right D (mul-le-mul h k)) (le-trans (le-of-eq e2) (le-trans (mul-le-mul-right (p * y) l) (le-of-eq (mul-right-comm B (P * L) (p * y)))))))
+    (le-trans (le-of-eq e1) (le-trans (mul-le-mul-right D (mul-le-mul h k))
+    (le-trans (le-of-eq e2) (le-trans (mul-le-mul-right (p * y) l) (le-of-eq (mul-right-comm B (P * L) (p * y)))))))
     (mul-pos pp ll)
   where
     e1 : x * q * D * (P * L) ≡ x * P * (L * q) * D
@@ -315,7 +348,8 @@ pub not-none : (n : ℕ) (d : ℤ) → 0 < n * up d → n ≡ 0 → ⊥
 not-none n d h k = lt-irrefl 0 (subst (λ (v : ℕ). 0 < v) (ap (λ (v : ℕ). v * up d) k ∙ zero-mul (up d)) h)
 
 -- a quotient, from the exact sizes
-pub div-exact : (f : Format) (B x y : Float) → T (held f B) → T (finite x) → T (finite y) → 0 < num y → num x * den y * den B ≤ num B * (num y * den x) → Within B (div f x y)
+pub div-exact : (f : Format) (B x y : Float) → T (held f B) → T (finite x) → T (finite y) → 0 < num y
+    → num x * den y * den B ≤ num B * (num y * den x) → Within B (div f x y)
 unfolding div
 div-exact f B nan y t p q z h = absurd p
 div-exact f B (inf s) y t p q z h = absurd p
@@ -334,14 +368,16 @@ div-within f B {X} {L} {x} {y} t h k =
     let u = and-r (held f B) (a && b) t in
     let l : 0 < num L = ltb→lt 0 (num L) (and-l a b u) in
     div-exact f B x y (and-l (held f B) (a && b) t) (h .real) (k .real) (pos-of (num L) (den L) (num y) (den y) l (den-pos y) (k .size))
-    (le-trans (div-bound (num x) (den x) (num y) (den y) (num X) (den X) (num L) (den L) (num B) (den B) (den-pos X) l (h .size) (k .size) (leb→le (num X * den L * den B) (num B * (den X * num L)) (and-r a b u)))
+    (le-trans (div-bound (num x) (den x) (num y) (den y) (num X) (den X) (num L) (den L) (num B) (den B) (den-pos X) l (h .size) (k .size)
+    (leb→le (num X * den L * den B) (num B * (den X * num L)) (and-r a b u)))
     (le-of-eq (ap (λ (v : ℕ). num B * v) (mul-comm (den x) (num y)))))
 
 -- ---- a sum from below: |x| ≥ L and |y| ≤ Y give |x + y| ≥ B, for B + Y ≤ L
 abbrev pub awayTest : Format → Float → Float → Float → Bool
 awayTest f L Y B = held f B && leb ((num B * den Y + num Y * den B) * den L) (num L * (den B * den Y))
 
-sum-beyond : (f : Format) (s : Bool) (a : ℕ) (t : Bool) (b c : ℕ) (B : Float) → 0 < c → T (held f B) → T (finite (sum f s a t b c)) → num B * c + b * den B ≤ a * den B → Beyond B (sum f s a t b c)
+sum-beyond : (f : Format) (s : Bool) (a : ℕ) (t : Bool) (b c : ℕ) (B : Float) → 0 < c → T (held f B) → T (finite (sum f s a t b c))
+    → num B * c + b * den B ≤ a * den B → Beyond B (sum f s a t b c)
 unfolding sum
 sum-beyond f s a t b c B C h r k = pick (Bool·beq s t) (ltb a b) (ltb→lt a b) r
   where
@@ -349,7 +385,8 @@ sum-beyond f s a t b c B C h r k = pick (Bool·beq s t) (ltb a b) (ltb→lt a b)
     one = let e : (a + b) * den B ≡ a * den B + b * den B = add-mul a b (den B) in omega arith
 
     two : num B * c ≤ (a - b) * den B
-    two = let e : (a - b) * den B ≡ a * den B - b * den B = mul-comm (a - b) (den B) ∙ mul-sub (den B) a b ∙ ap₂ (λ (x y : ℕ). x - y) (mul-comm (den B) a) (mul-comm (den B) b) in omega arith
+    two = let e : (a - b) * den B ≡ a * den B - b * den B = mul-comm (a - b) (den B) ∙ mul-sub (den B) a b
+        ∙ ap₂ (λ (x y : ℕ). x - y) (mul-comm (den B) a) (mul-comm (den B) b) in omega arith
 
     no-way : a < b → num B * c ≤ (b - a) * den B
     no-way l =
@@ -358,7 +395,8 @@ sum-beyond f s a t b c B C h r k = pick (Bool·beq s t) (ltb a b) (ltb→lt a b)
         let w : 0 < den B = den-pos B in
         absurd (lt-irrefl 0 (omega arith))
 
-    pick : (x y : Bool) → (T y → a < b) → T (finite (cond x (round f s (a + b) c) (cond y (round f t (b - a) c) (round f (s && ltb b a) (a - b) c)))) → Beyond B (cond x (round f s (a + b) c) (cond y (round f t (b - a) c) (round f (s && ltb b a) (a - b) c)))
+    pick : (x y : Bool) → (T y → a < b) → T (finite (cond x (round f s (a + b) c) (cond y (round f t (b - a) c) (round f (s && ltb b a) (a - b) c))))
+        → Beyond B (cond x (round f s (a + b) c) (cond y (round f t (b - a) c) (round f (s && ltb b a) (a - b) c)))
     pick true y l r = round-beyond f s (a + b) c B C h r one
     pick false true l r = round-beyond f t (b - a) c B C h r (no-way (l tt))
     pick false false l r = round-beyond f (s && ltb b a) (a - b) c B C h r two
@@ -367,7 +405,8 @@ sum-beyond f s a t b c B C h r k = pick (Bool·beq s t) (ltb a b) (ltb→lt a b)
 away-bound : (x p y q L R Y Q B D : ℕ) → 0 < R → 0 < Q → L * p ≤ x * R → y * Q ≤ Y * q → (B * Q + Y * D) * R ≤ L * (D * Q) → B * (p * q) + y * p * D ≤ x * q * D
 away-bound x p y q L R Y Q B D rr qq h k l =
     le-of-mul-le-mul-right
-    (le-trans (le-of-eq e1) (le-trans (add-two (B * (p * q) * (R * Q)) k1) (le-trans (le-of-eq e2) (le-trans l1 (le-trans (le-of-eq e3) (le-trans h1 (le-of-eq e4)))))))
+    (le-trans (le-of-eq e1) (le-trans (add-two (B * (p * q) * (R * Q)) k1)
+    (le-trans (le-of-eq e2) (le-trans l1 (le-trans (le-of-eq e3) (le-trans h1 (le-of-eq e4)))))))
     (mul-pos rr qq)
   where
     k1 : y * Q * (p * D * R) ≤ Y * q * (p * D * R)
@@ -403,7 +442,8 @@ add-beyond f B {x = fin s m e} {y = inf r} t h k w = absurd (k .real)
 add-beyond f B {L} {Y} {x = fin s m e} {y = fin r n d} t h k w =
     let l = leb ((num B * den Y + num Y * den B) * den L) (num L * (den B * den Y)) in
     sum-beyond f s (m * up e * down d) r (n * up d * down e) (down e * down d) B (mul-pos (down-pos e) (down-pos d)) (and-l (held f B) l t) (w .real)
-    (away-bound (m * up e) (down e) (n * up d) (down d) (num L) (den L) (num Y) (den Y) (num B) (den B) (den-pos L) (den-pos Y) (h .size) (k .size) (leb→le ((num B * den Y + num Y * den B) * den L) (num L * (den B * den Y)) (and-r (held f B) l t)))
+    (away-bound (m * up e) (down e) (n * up d) (down d) (num L) (den L) (num Y) (den Y) (num B) (den B) (den-pos L) (den-pos Y) (h .size) (k .size)
+    (leb→le ((num B * den Y + num Y * den B) * den L) (num L * (den B * den Y)) (and-r (held f B) l t)))
 
 -- ---- from and to the order
 pub within→Le : {B x : Float} → T (finite B) → T (plain B) → Within B x → Le x B × Le (neg B) x
@@ -413,8 +453,14 @@ within→Le {B = inf s} p q h = absurd p
 within→Le {B = fin true m e} p q h = absurd q
 within→Le {B = fin false m e} {x = nan} p q h = absurd (h .real)
 within→Le {B = fin false m e} {x = inf s} p q h = absurd (h .real)
-within→Le {B = fin false m e} {x = fin true n d} p q h = (record { first = tt; second = tt; cross = let k = h .size in omega arith }, record { first = tt; second = tt; cross = let k = h .size in omega arith })
-within→Le {B = fin false m e} {x = fin false n d} p q h = (record { first = tt; second = tt; cross = let k = h .size in omega arith }, record { first = tt; second = tt; cross = let k = h .size in omega arith })
+within→Le {B = fin false m e} {x = fin true n d} p q h = (
+  record { first = tt; second = tt; cross = let k = h .size in omega arith },
+  record { first = tt; second = tt; cross = let k = h .size in omega arith },
+)
+within→Le {B = fin false m e} {x = fin false n d} p q h = (
+  record { first = tt; second = tt; cross = let k = h .size in omega arith },
+  record { first = tt; second = tt; cross = let k = h .size in omega arith },
+)
 
 pub Le→within : {B x : Float} → T (plain B) → Le x B → Le (neg B) x → Within B x
 unfolding neg
@@ -436,7 +482,8 @@ Le→beyond {B = fin false m e} {x = fin true n d} p h = record { real = tt; siz
 Le→beyond {B = fin false m e} {x = fin false n d} p h = record { real = tt; size = let l = h .cross in omega arith }
 
 pub Le→beyond-neg : {B x : Float} → T (plain B) → Le x (neg B) → Beyond B x
-Le→beyond-neg {B} {x} p h = subst (λ (z : Float). Beyond B z) (neg-neg x) (neg-beyond (Le→beyond p (subst (λ (z : Float). Le z (neg x)) (neg-neg B) (neg-Le h))))
+Le→beyond-neg {B} {x} p h = subst (λ (z : Float). Beyond B z) (neg-neg x)
+    (neg-beyond (Le→beyond p (subst (λ (z : Float). Le z (neg x)) (neg-neg B) (neg-Le h))))
 
 pub beyond→Le : {B x : Float} → T (finite B) → T (plain B) → T (plain x) → Beyond B x → Le B x
 beyond→Le {B = nan} p q r h = absurd p

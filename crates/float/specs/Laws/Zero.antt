@@ -28,11 +28,13 @@ round-of-zero s a c C e =
 module _ (s : Bool) (a : ℕ) (t : Bool) (b c : ℕ) where
   pub sum-same-sign : Bool·beq s t ≡ true → sum binary64 s a t b c ≡ round binary64 s (a + b) c
   unfolding sum
-  sum-same-sign e = ap (λ (z : Bool). cond z (round binary64 s (a + b) c) (cond (ltb a b) (round binary64 t (b - a) c) (round binary64 (s && ltb b a) (a - b) c))) e
+  sum-same-sign e = ap (λ (z : Bool). cond z (round binary64 s (a + b) c)
+      (cond (ltb a b) (round binary64 t (b - a) c) (round binary64 (s && ltb b a) (a - b) c))) e
 
   unlike-signs : Bool·beq s t ≡ false → sum binary64 s a t b c ≡ cond (ltb a b) (round binary64 t (b - a) c) (round binary64 (s && ltb b a) (a - b) c)
   unfolding sum
-  unlike-signs e = ap (λ (z : Bool). cond z (round binary64 s (a + b) c) (cond (ltb a b) (round binary64 t (b - a) c) (round binary64 (s && ltb b a) (a - b) c))) e
+  unlike-signs e = ap (λ (z : Bool). cond z (round binary64 s (a + b) c)
+      (cond (ltb a b) (round binary64 t (b - a) c) (round binary64 (s && ltb b a) (a - b) c))) e
 
   pub sum-less : Bool·beq s t ≡ false → a < b → sum binary64 s a t b c ≡ round binary64 t (b - a) c
   sum-less e h = unlike-signs e ∙ ap (λ (z : Bool). cond z (round binary64 t (b - a) c) (round binary64 (s && ltb b a) (a - b) c)) (lt-ltb a b h)

@@ -1,4 +1,5 @@
--- Words of contracts: the order of finite values and their bounds over whole numbers, an interval that can be halved, and the units between two values, by which a halving ends. Definitions only.
+-- Words of contracts: the order of finite values and their bounds over whole numbers, an interval that can be
+-- bisected, and the units between two values, by which a bisection ends. Definitions only.
 use Prim.Native.Nat.{ℕ, suc, _+_, _-_, _*_, _^_, _≤_, _<_}
 use mathlib.Core.Bool.{true, false}
 use lib.IntN.{ℤ, pos, negsuc}
@@ -33,7 +34,7 @@ pub record Within (B x : Float) : Type 0 where
   pub real : T (finite x)
   pub size : num x * den B ≤ num B * den x
 
--- An interval that can be halved: its ends are of the format and in order, and at most 2 ^ k in size, so that their difference is finite.
+-- An interval that can be bisected: its ends are of the format and in order, and at most 2 ^ k in size, so that their difference is finite.
 pub record Span (k : ℕ) (lo hi : Float) : Type 0 where
   pub room : k < 1023
   pub lo-fits : T (fits binary64 lo)

@@ -35,7 +35,8 @@ pub record Combines (neg : Bool) (X : ℕ) (other : Bool) (Y y : ℕ) (r : Float
   pub less : Bool·beq neg other ≡ false → X < Y → Finishes other (Y - X) y r
   pub none : Bool·beq neg other ≡ false → X ≡ Y → r ≡ fin false 0 (pos 0)
 
--- q is the whole number nearest to the square root of n: n lies between the squares of q - 1 / 2 and q + 1 / 2, which are q * (q - 1) and q * (q + 1) with a quarter more
+-- q is the whole number nearest to the square root of n: n lies between the squares of q - 1 / 2
+-- and q + 1 / 2, which are q * (q - 1) and q * (q + 1) with a quarter more
 pub record Roots (n q : ℕ) : Type 0 where
   pub above : q * (q - 1) < n
   pub below : n ≤ q * (q + 1)

@@ -7,20 +7,22 @@ use mathlib.Core.List.{List, _∷_, _++_, append-nil}
 use lib.ListN.{length, getD, set, take}
 use lib.Seq.{getD-take, length-take-le}
 use Rattle.polynomial.specs.Compensated.{plus, times}
-use Rattle.polynomial.specs.Polynomial.{nothing, column, first-place, coefficient, coefficients, multiply}
+use Rattle.polynomial.specs.Polynomial.{zero-pair, column, first-place, coefficient, coefficients, multiply}
 use Rattle.polynomial.specs.Laws.Lists.{getD-any, store-more}
 use Rattle.polynomial.specs.declared.compensated.Compensated.{Compensated}
 
 -- ---- one coefficient
-next-place : (a b : List Compensated) (k i count : ℕ) (sum : Compensated) → column a b k i (suc count) sum ≡ column a b k (suc i) count (plus sum (times (getD a i nothing) (getD b (k - i) nothing)))
+next-place : (a b : List Compensated) (k i count : ℕ) (sum : Compensated)
+    → column a b k i (suc count) sum ≡ column a b k (suc i) count (plus sum (times (getD a i zero-pair) (getD b (k - i) zero-pair)))
 unfolding column
 next-place a b k i count sum = refl
 
-place : (l : List Compensated) (n i : ℕ) (z : Compensated) → i < n → n ≤ length l → getD (take n l) i nothing ≡ getD l i z
-place l n i z h k = getD-take n l i nothing h ∙ getD-any l i nothing z (omega arith)
+place : (l : List Compensated) (n i : ℕ) (z : Compensated) → i < n → n ≤ length l → getD (take n l) i zero-pair ≡ getD l i z
+place l n i z h k = getD-take n l i zero-pair h ∙ getD-any l i zero-pair z (omega arith)
 
 module _ (a b : List Compensated) (n m k : ℕ) (h : n ≤ length a) (l : m ≤ length b) (i end : ℕ) (sum : Compensated) where
-  pub column-start : i ≡ first-place m k → end ≡ min (k + 1) n → sum ≡ nothing → column (take n a) (take m b) k i (end - i) sum ≡ coefficient (take n a) (take m b) k
+  pub column-start : i ≡ first-place m k → end ≡ min (k + 1) n → sum ≡ zero-pair
+      → column (take n a) (take m b) k i (end - i) sum ≡ coefficient (take n a) (take m b) k
   column-start e1 e2 e3 = simp (e1, e2, e3, length-take-le n a h, length-take-le m b l)
 
   pub column-more : (y z product next : Compensated) → i < end → i < n → k - i < m → product ≡ times (getD a i y) (getD b (k - i) z) → next ≡ plus sum product
@@ -41,7 +43,8 @@ next-coefficient : (a b : List Compensated) (k count : ℕ) → coefficients a b
 unfolding coefficients
 next-coefficient a b k count = refl
 
-pub product-start : (a b : List Compensated) (n m : ℕ) → n ≤ length a → m ≤ length b → multiply (take n a) (take m b) ≡ coefficients (take n a) (take m b) 0 (n + m - 1 - 0)
+pub product-start : (a b : List Compensated) (n m : ℕ) → n ≤ length a → m ≤ length b
+    → multiply (take n a) (take m b) ≡ coefficients (take n a) (take m b) 0 (n + m - 1 - 0)
 unfolding multiply
 product-start a b n m h k =
     let x = length-take-le n a h in

@@ -36,6 +36,7 @@ module _ (p : List Compensated) (lower upper : Float) (before : List Float) wher
   bad-parts x y = refused (tests true false (leb (length (roots p lower upper)) 509) x y refl)
 
   -- nine coefficients have at most 2 ^ 9 - 3 roots
-  pub counted : (count : ℕ) (last : List Float) → length p ≤ 9 → bounds-hold lower upper ≡ true → all-hold p ≡ true → Front (roots p lower upper) before count last
+  pub counted : (count : ℕ) (last : List Float) → length p ≤ 9 → bounds-hold lower upper ≡ true → all-hold p ≡ true
+      → Front (roots p lower upper) before count last
       → Answered p lower upper (Count count) before last
   counted count last n x y f = (rw (tests true true true x y (le-leb (length (roots p lower upper)) 509 (all-most lower upper 9 p n))) (ap Count (f .0)), f .1)

@@ -1,4 +1,5 @@
--- What the loop of `chart` keeps: the angles that are left, put into the first n places, give all of them put into what stood at the front at first; behind them stands what stood there.
+-- What the loop of `chart` keeps: the angles that are left, put into the first n places, give all of them
+-- put into what stood at the front at first; behind them stands what stood there.
 use Prim.Native.Nat.{ℕ, suc, _+_, _≤_, _<_}
 use native.Mathlib.Nat.{le-refl}
 use native.Mathlib.Numerals.{add-one}
@@ -27,7 +28,8 @@ pub record Charted (origin : Float) (found : List Float) (count : ℕ) (all from
   pub result : put-all (chart-angles origin (slice i count found)) (take n out) ≡ all
 
 module _ (origin : Float) (found : List Float) (count : ℕ) (h : count ≤ length found) where
-  pub charted-first : (out : List Float) (k : ℕ) → k + count ≤ length out → Charted origin found count (put-all (chart-angles origin (take count found)) (take k out)) out k out k 0
+  pub charted-first : (out : List Float) (k : ℕ) → k + count ≤ length out
+      → Charted origin found count (put-all (chart-angles origin (take count found)) (take k out)) out k out k 0
   charted-first out k r = record { within = omega arith; few = omega arith; room = r; same = refl; grown = le-refl k; rest = λ m h. refl; result = refl }
 
   module _ (all from : List Float) (k : ℕ) (out : List Float) (n i : ℕ) (s : Charted origin found count all from k out n i) where
@@ -35,13 +37,15 @@ module _ (origin : Float) (found : List Float) (count : ℕ) (h : count ≤ leng
     charted-room I = let a = s .few in let r = s .room in let e = s .same in omega arith
 
     module _ (d : Float) (I : i < count) where
-      angles-cons : chart-angles origin (slice i count found) ≡ wrapped-angle (origin ⊕ two-float ⊗ atan (getD found i d)) ∷ chart-angles origin (slice (suc i) count found)
+      angles-cons : chart-angles origin (slice i count found) ≡ wrapped-angle (origin ⊕ two-float ⊗ atan (getD found i d)) ∷ chart-angles origin
+          (slice (suc i) count found)
       unfolding chart-angles
       angles-cons = ap (chart-angles origin) (slice-cons i count found d I h)
 
       -- the angle v is worked out from a, and put
       pub charted-more : (two a v : Float) (m : ℕ) (after : List Float) → two ≡ two-float → a ≡ atan (getD found i d) → v ≡ wrapped-angle (origin ⊕ two ⊗ a)
-          → m ≡ length (put v (take n out)) → after ≡ put v (take n out) ++ drop m out → length after ≡ length out → Charted origin found count all from k after m (i + 1)
+          → m ≡ length (put v (take n out)) → after ≡ put v (take n out) ++ drop m out → length after ≡ length out
+          → Charted origin found count all from k after m (i + 1)
       unfolding put-all
       charted-more two a v m after t x y M E L =
           let p = put-room v n out m M in
@@ -58,7 +62,8 @@ module _ (origin : Float) (found : List Float) (count : ℕ) (h : count ≤ leng
             grown = omega arith;
             rest = λ r h. front-rest (put v (take n out)) out after m (M, E) r h ∙ s .rest r (omega arith);
             result =
-                ap₂ (λ (j : ℕ) (l : List Float). put-all (chart-angles origin (slice j count found)) l) (add-one i) (front-take (put v (take n out)) out after m (M, E) ∙ ap (λ (z : Float). put z (take n out)) w)
+                ap₂ (λ (j : ℕ) (l : List Float). put-all (chart-angles origin (slice j count found)) l) (add-one i)
+                (front-take (put v (take n out)) out after m (M, E) ∙ ap (λ (z : Float). put z (take n out)) w)
                 ∙ ap (λ (l : List Float). put-all l (take n out)) (sym angles-cons)
                 ∙ s .result;
           }

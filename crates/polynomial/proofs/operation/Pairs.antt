@@ -26,7 +26,8 @@ pairs-front r s n h = front r (pairs s) n (many n s h)
 
 module _ (s : List Float) (q : List Compensated) (n i : ℕ) (h : length s ≡ n + n) where
   pub gather-more : (d : Float) → i < n → n ≤ length q
-      → take i q ++ pairs (drop (i + i) s) ≡ take (i + 1) (set q i (record { high = getD s (i + i) d; low = getD s (i + i + 1) d })) ++ pairs (drop (i + 1 + (i + 1)) s)
+      → take i q ++ pairs (drop (i + i) s) ≡ take (i + 1) (set q i (record { high = getD s (i + i) d; low = getD s (i + i + 1) d })) ++ pairs
+      (drop (i + 1 + (i + 1)) s)
   unfolding pairs
   gather-more d I k =
       let a = i + i in

@@ -1,8 +1,11 @@
--- Where the plain value of a polynomial of at most nine tidy coefficients is far from zero beside the sum of magnitudes, the compensated value has its sign, and is not zero:
--- `plain-positive`, `plain-negative`; and `near-zero` is false of it: `plain-away`. By induction on the coefficients the two values are a small part of the sum of magnitudes apart (`known`).
+-- Where the plain value of a polynomial of at most nine tidy coefficients is far from zero beside
+-- the sum of magnitudes, the compensated value has its sign, and is not zero:
+-- `plain-positive`, `plain-negative`; and `near-zero` is false of it: `plain-away`. By induction on the
+-- coefficients the two values are a small part of the sum of magnitudes apart (`known`).
 --
 use Prim.Native.Nat.{ℕ, suc, _+_, _-_, _*_, _/_, _^_, _≤_, _<_}
-use native.Mathlib.Nat.{le-trans, le-of-eq, add-zero, mul-comm, mul-le-mul, mul-le-mul-right, mul-le-mul-left, le-of-mul-le-mul-right, mul-div-le, lt-mul-div-succ, lt-irrefl}
+use native.Mathlib.Nat.{le-trans, le-of-eq, add-zero, mul-comm, mul-le-mul, mul-le-mul-right}
+use native.Mathlib.Nat.{mul-le-mul-left, le-of-mul-le-mul-right, mul-div-le, lt-mul-div-succ, lt-irrefl}
 use native.Mathlib.Omega.{arith}
 use mathlib.Core.Path.{_≡_, refl, ap, _∙_, subst}
 use mathlib.Core.Logic.{_⊎_, inl, inr}
@@ -72,7 +75,17 @@ none x =
     record {
       h = 0;
       g = 0;
-      near = record { p = 0; n = 0; q = 0; m = 0; high-is = zero-is; plain-is = zero-is; apart = omega arith; size = omega arith; rest = close-self 0 0 zero-is };
+      near = record {
+        p = 0;
+        n = 0;
+        q = 0;
+        m = 0;
+        high-is = zero-is;
+        plain-is = zero-is;
+        apart = omega arith;
+        size = omega arith;
+        rest = close-self 0 0 zero-is;
+      };
       all = close-self 0 0 zero-is;
       is = zero-is;
       h-most = omega arith;
@@ -101,7 +114,8 @@ more c cs x j le w s k = go (k .h * w .z / W) (quotient (k .h) (w .z) W W-pos (w
     high : Close (abs (c .high)) 0 0 ((2 ^ 52 - 1) * s .D)
     high = let b = s .wide in close-to 0 0 ((2 ^ 52 - 1) * s .D) (close-self (s .k) 0 (s .abs-is)) (omega arith)
 
-    again : (q : ℕ) → q ≤ k .h → Near (plain (c ∷ cs) x) (horner (c ∷ cs) x) (30 * j + 30) (q + 1 + s .D) → Close (magnitudes (c ∷ cs) x) 0 0 ((2 ^ 52 + (3 * j + 3)) * (q + 1 + s .D))
+    again : (q : ℕ) → q ≤ k .h → Near (plain (c ∷ cs) x) (horner (c ∷ cs) x) (30 * j + 30) (q + 1 + s .D)
+        → Close (magnitudes (c ∷ cs) x) 0 0 ((2 ^ 52 + (3 * j + 3)) * (q + 1 + s .D))
         → Grown (scale cs x) (abs x) (abs (c .high)) q (s .D) (2 ^ 50 + 2 * j) (j * 2 ^ 104) (4 * (j * most)) → Known (c ∷ cs) x (suc j)
     again q l n a e =
         let e1 : 30 * j + 30 ≡ 30 * suc j = omega arith in
@@ -126,9 +140,14 @@ more c cs x j le w s k = go (k .h * w .z / W) (quotient (k .h) (w .z) W W-pos (w
     go : (q : ℕ) → (q * W ≤ k .h * w .z) × (k .h * w .z ≤ (q + 1) * W) × (q ≤ k .h) → Known (c ∷ cs) x (suc j)
     go q d =
         again q (d .2)
-        (step (plain cs x) x (horner cs x) c (w .p) (w .n) (w .z) (s .u) (s .v) (s .D) (q + 1) (30 * j) (k .h) (q + 1 + s .D) (tall q (d .2)) (omega arith) (omega arith) (omega (arith, d .1)) (w .size) (w .is) wide (s .high-is) (close-to 0 0 (q + 1 + s .D) (s .low) (omega arith)) (k .near))
-        (magnitudes-step (magnitudes cs x) (abs x) (abs (c .high)) (abs (c .low)) (w .z) (s .D) (q + 1) (3 * j) (k .h) (q + 1 + s .D) (tall q (d .2)) (omega arith) (omega arith) (omega (arith, d .1)) (w .abs-is) high (abs-close (c .low) (s .D) (s .low)) (k .all))
-        (grown (scale cs x) (abs x) (abs (c .high)) (k .g) (w .z) (s .k) q (s .D) (k .h) (2 ^ 50 + 2 * j) (j * 2 ^ 104) (4 * (j * most)) (w .small) (k .g-most) (omega (arith, few)) (s .small) (omega (arith, d .0)) (k .below) (omega arith) (omega arith) (s .narrow) (k .is) (w .abs-is) (s .abs-is))
+        (step (plain cs x) x (horner cs x) c (w .p) (w .n) (w .z) (s .u) (s .v) (s .D) (q + 1) (30 * j) (k .h) (q + 1 + s .D) (tall q (d .2))
+        (omega arith) (omega arith) (omega (arith, d .1)) (w .size) (w .is) wide (s .high-is) (close-to 0 0 (q + 1 + s .D) (s .low) (omega arith))
+        (k .near))
+        (magnitudes-step (magnitudes cs x) (abs x) (abs (c .high)) (abs (c .low)) (w .z) (s .D) (q + 1) (3 * j) (k .h) (q + 1 + s .D) (tall q (d .2))
+        (omega arith) (omega arith) (omega (arith, d .1)) (w .abs-is) high (abs-close (c .low) (s .D) (s .low)) (k .all))
+        (grown (scale cs x) (abs x) (abs (c .high)) (k .g) (w .z) (s .k) q (s .D) (k .h) (2 ^ 50 + 2 * j) (j * 2 ^ 104) (4 * (j * most)) (w .small)
+        (k .g-most) (omega (arith, few)) (s .small) (omega (arith, d .0)) (k .below) (omega arith) (omega arith) (s .narrow) (k .is) (w .abs-is)
+        (s .abs-is))
 
 known : (cs : List Compensated) (x : Float) → length cs ≤ 9 → AllTidy cs → Point x → Known cs x (length cs)
 known [] x l t w = none x
@@ -166,15 +185,15 @@ least-is = whole-is binary64 least tt tt
 
 far-off : (g r s t v w : ℕ) → 0 < v → w ≡ 2 ^ 43 * v → v * g + 0 * 0 + s * w ≤ r * w + (v * 0 + 0 * g) + t * w → g + 2 ^ 43 * s ≤ 2 ^ 43 * r + 2 ^ 43 * t
 far-off g r s t v w o e h =
-    let f : (a : ℕ) → a * w ≡ 2 ^ 43 * a * v = λ a. ap (λ (y : ℕ). a * y) e ∙ turn a v in
+    let f : (a : ℕ) → a * w ≡ 2 ^ 43 * a * v = λ a. ap (λ (y : ℕ). a * y) e ∙ rearranged a v in
     let f1 = f r in
     let f2 = f s in
     let f3 = f t in
     let k : (g + 2 ^ 43 * s) * v ≤ (2 ^ 43 * r + 2 ^ 43 * t) * v = omega arith in
     le-of-mul-le-mul-right k o
   where
-    turn : (a v : ℕ) → a * (2 ^ 43 * v) ≡ 2 ^ 43 * a * v
-    turn a v = omega arith
+    rearranged : (a v : ℕ) → a * (2 ^ 43 * v) ≡ 2 ^ 43 * a * v
+    rearranged a v = omega arith
 
 -- the margin's part of the scale, in units
 record Edge (s : Float) (g : ℕ) : Type 0 where
@@ -232,7 +251,8 @@ record Ends (p : List Compensated) (x : Float) : Type 0 where
 ends-of : (p : List Compensated) (x : Float) (j : ℕ) → j ≤ 9 → le least (scale p x) ≡ true → Known p x j → Ends p x
 unfolding evaluate
 ends-of p x j l h k =
-    let a : 2 ^ 64 + 0 ≤ k .g + 0 = Le-Is binary64 least (scale p x) (2 ^ 64) 0 (k .g) 0 least-is (k .is) (le→Le least (scale p x) tt (k .is .real) (yes-of h)) in
+    let a : 2 ^ 64 + 0 ≤ k .g + 0 = Le-Is binary64 least (scale p x) (2 ^ 64) 0 (k .g) 0 least-is (k .is)
+    (le→Le least (scale p x) tt (k .is .real) (yes-of h)) in
     let b : 2 ^ 64 ≤ k .g = le-trans a (le-of-eq (add-zero (k .g))) in
     let c : j * most ≤ 9 * most = mul-le-mul-right most l in
     let d = k .h-most in
@@ -251,31 +271,36 @@ ends-of p x j l h k =
       part = few (k .h) (k .g) j l b (k .below);
     }
 
-ends : (p : List Compensated) (x : Float) → length p ≤ 9 → AllTidy p → T (fits binary64 x) → le (abs x) one-float ≡ true → le least (scale p x) ≡ true → Ends p x
+ends : (p : List Compensated) (x : Float) → length p ≤ 9 → AllTidy p → T (fits binary64 x) → le (abs x) one-float ≡ true → le least (scale p x) ≡ true
+    → Ends p x
 ends p x l t f h k = ends-of p x (length p) l k (known p x l t (point x f h))
 
 -- how far the plain value is from zero, where it is beyond the margin
 far-above : (p : List Compensated) (x : Float) (e : Ends p x) → lt (margin ⊗ scale p x) (plain p x) ≡ true → e .m + (276 * e .h + 2) < e .q
 far-above p x e v =
     let d = e .edges in
-    let o : d .r + e .m ≤ e .q + d .d = Le-Is binary64 (margin ⊗ scale p x) (plain p x) (d .r) (d .d) (e .q) (e .m) (d .is) (e .is) (lt→Le (margin ⊗ scale p x) (plain p x) (d .is .real) (e .is .real) (yes-of v)) in
+    let o : d .r + e .m ≤ e .q + d .d = Le-Is binary64 (margin ⊗ scale p x) (plain p x) (d .r) (d .d) (e .q) (e .m) (d .is) (e .is)
+    (lt→Le (margin ⊗ scale p x) (plain p x) (d .is .real) (e .is .real) (yes-of v)) in
     beyond (e .h) (e .g) (d .r) (d .d) (e .q) (e .m) (e .part) (e .large) (d .far) o
 
 far-below : (p : List Compensated) (x : Float) (e : Ends p x) → lt (plain p x) (neg (margin ⊗ scale p x)) ≡ true → e .q + (276 * e .h + 2) < e .m
 far-below p x e v =
     let d = e .edges in
     let n = Is-neg binary64 (margin ⊗ scale p x) (d .r) (d .d) 0 (d .is) in
-    let o : e .q + d .r ≤ d .d + e .m = Le-Is binary64 (plain p x) (neg (margin ⊗ scale p x)) (e .q) (e .m) (d .d) (d .r) (e .is) n (lt→Le (plain p x) (neg (margin ⊗ scale p x)) (e .is .real) (n .real) (yes-of v)) in
+    let o : e .q + d .r ≤ d .d + e .m = Le-Is binary64 (plain p x) (neg (margin ⊗ scale p x)) (e .q) (e .m) (d .d) (d .r) (e .is) n
+    (lt→Le (plain p x) (neg (margin ⊗ scale p x)) (e .is .real) (n .real) (yes-of v)) in
     beyond (e .h) (e .g) (d .r) (d .d) (e .m) (e .q) (e .part) (e .large) (d .far) (omega arith)
 
-pub plain-positive : (p : List Compensated) (x : Float) → length p ≤ 9 → AllTidy p → T (fits binary64 x) → le (abs x) one-float ≡ true → le least (scale p x) ≡ true
+pub plain-positive : (p : List Compensated) (x : Float) → length p ≤ 9 → AllTidy p → T (fits binary64 x) → le (abs x) one-float ≡ true
+    → le least (scale p x) ≡ true
     → lt (margin ⊗ scale p x) (plain p x) ≡ true → Signed false (evaluate p x)
 plain-positive p x l t f h k v = go (ends p x l t f h k)
   where
     go : Ends p x → Signed false (evaluate p x)
     go e = let o = far-above p x e v in close-positive (e .q) (e .m) (274 * e .h + 1) (omega arith) (e .close)
 
-pub plain-negative : (p : List Compensated) (x : Float) → length p ≤ 9 → AllTidy p → T (fits binary64 x) → le (abs x) one-float ≡ true → le least (scale p x) ≡ true
+pub plain-negative : (p : List Compensated) (x : Float) → length p ≤ 9 → AllTidy p → T (fits binary64 x) → le (abs x) one-float ≡ true
+    → le least (scale p x) ≡ true
     → lt (plain p x) (neg (margin ⊗ scale p x)) ≡ true → Signed true (evaluate p x)
 plain-negative p x l t f h k v = go (ends p x l t f h k)
   where
@@ -302,8 +327,10 @@ refuted false h = refl
 pub plain-away : (p : List Compensated) (x : Float) → length p ≤ 9 → AllTidy p → T (fits binary64 x) → le (abs x) one-float ≡ true → le least (scale p x) ≡ true
     → (lt (margin ⊗ scale p x) (plain p x) ≡ true) ⊎ (lt (plain p x) (neg (margin ⊗ scale p x)) ≡ true) → near-zero p x ≡ false
 unfolding near-zero value-near
-plain-away p x l t f h k v = refuted (near-zero p x) (λ n. let e = ends p x l t f h k in go e (within-bound (evaluate p x) (roundoff ⊗ magnitudes p x) (e .q) (e .m) (e .h) (e .close) (e .bound) n) v)
+plain-away p x l t f h k v = refuted (near-zero p x) (λ n. let e = ends p x l t f h k in
+    go e (within-bound (evaluate p x) (roundoff ⊗ magnitudes p x) (e .q) (e .m) (e .h) (e .close) (e .bound) n) v)
   where
-    go : (e : Ends p x) → Small (e .q) (e .m) (276 * e .h + 2) → (lt (margin ⊗ scale p x) (plain p x) ≡ true) ⊎ (lt (plain p x) (neg (margin ⊗ scale p x)) ≡ true) → ⊥
+    go : (e : Ends p x) → Small (e .q) (e .m) (276 * e .h + 2)
+        → (lt (margin ⊗ scale p x) (plain p x) ≡ true) ⊎ (lt (plain p x) (neg (margin ⊗ scale p x)) ≡ true) → ⊥
     go e w (inl a) = let o = far-above p x e a in lt-irrefl 0 (omega arith)
     go e w (inr a) = let o = far-below p x e a in lt-irrefl 0 (omega arith)

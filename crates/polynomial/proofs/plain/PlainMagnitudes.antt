@@ -43,7 +43,8 @@ magnitudes-step y x b c z D Q a h g k small l f i ub uc uy =
     over : (2 ^ 52 + a) * h * z ≤ (2 ^ 52 + a) * Q * W
     over = let e = mul-le-mul-left (2 ^ 52 + a) f in omega arith
 
-    sum : ((2 ^ 52 + a) * Q ≤ 2 ^ 53 * g) × ((2 ^ 52 + a) * Q + 2 * g + 2 ^ 52 * D ≤ 2 ^ 53 * g) → (2 ^ 52 + a) * Q + 2 ^ 52 * D + 3 * g ≤ (2 ^ 52 + (a + 3)) * g
+    sum : ((2 ^ 52 + a) * Q ≤ 2 ^ 53 * g) × ((2 ^ 52 + a) * Q + 2 * g + 2 ^ 52 * D ≤ 2 ^ 53 * g)
+        → (2 ^ 52 + a) * Q + 2 ^ 52 * D + 3 * g ≤ (2 ^ 52 + (a + 3)) * g
         → Close (y ⊗ x ⊕ b ⊕ c) 0 0 ((2 ^ 52 + (a + 3)) * g)
     sum e d =
         let t = times-close y x ((2 ^ 52 + a) * h) z ((2 ^ 52 + a) * Q) g k over (e .0) uy i in
@@ -64,13 +65,15 @@ unfolding tiny fits mul
 roundoff-is = whole-is binary64 roundoff tt tt
 
 tiny-part : (a h t w : ℕ) → a ≤ 300 → w ≡ 2 ^ 97 * t → t * ((2 ^ 52 + a) * h) ≤ h * w
-tiny-part a h t w l e = le-trans (mul-le-mul-left t (mul-le-mul-right h (let m : 2 ^ 52 + a ≤ 2 ^ 97 = omega arith in m))) (le-of-eq (turn h t ∙ sym (ap (λ (y : ℕ). h * y) e)))
+tiny-part a h t w l e = le-trans (mul-le-mul-left t (mul-le-mul-right h (let m : 2 ^ 52 + a ≤ 2 ^ 97 = omega arith in m)))
+    (le-of-eq (rearranged h t ∙ sym (ap (λ (y : ℕ). h * y) e)))
   where
-    turn : (h t : ℕ) → t * (2 ^ 97 * h) ≡ h * (2 ^ 97 * t)
-    turn h t = omega arith
+    rearranged : (h t : ℕ) → t * (2 ^ 97 * h) ≡ h * (2 ^ 97 * t)
+    rearranged h t = omega arith
 
 pub bound-close : (y : Float) (a h : ℕ) → a ≤ 300 → Room (h + 1) → Close y 0 0 ((2 ^ 52 + a) * h) → Close (roundoff ⊗ y) 0 0 (2 * h + 1)
 bound-close y a h l k c =
     close-to 0 0 (2 * h + 1)
-    (multiplied tiny 0 (c .r) (c .s) tiny ((2 ^ 52 + a) * h) h (h + 1) k (omega arith, omega arith) (close-small y ((2 ^ 52 + a) * h) c) (tiny-part a h tiny W l tiny-is) (omega arith) roundoff-is (c .is) .size)
+    (multiplied tiny 0 (c .r) (c .s) tiny ((2 ^ 52 + a) * h) h (h + 1) k (omega arith, omega arith) (close-small y ((2 ^ 52 + a) * h) c)
+    (tiny-part a h tiny W l tiny-is) (omega arith) roundoff-is (c .is) .size)
     (omega arith)

@@ -53,7 +53,8 @@ pub record Multiplied (x y : Float) (p n q m U h : ℕ) : Type 0 where
   pub size : Close (x ⊗ y) 0 0 (U + h)
   pub error : Close (product-error x y) 0 0 (2 * h)
 
-pub multiplied : {x y : Float} (p n q m A z U h : ℕ) → Room h → Small p n A → Small q m z → A * z ≤ U * W → U ≤ 2 ^ 53 * h → Is binary64 x p n 0 → Is binary64 y q m 0 → Multiplied x y p n q m U h
+pub multiplied : {x y : Float} (p n q m A z U h : ℕ) → Room h → Small p n A → Small q m z → A * z ≤ U * W → U ≤ 2 ^ 53 * h → Is binary64 x p n 0
+    → Is binary64 y q m 0 → Multiplied x y p n q m U h
 multiplied {x = x} {y = y} p n q m A z U h k a b c d i j = go (mul-close p n q m h k o1 o2 i j)
   where
     top : U * W ≤ 2 ^ 53 * h * W
@@ -74,17 +75,26 @@ multiplied {x = x} {y = y} p n q m A z U h k a b c d i j = go (mul-close p n q m
         let u = t .under in
         let f1 : t .r ≤ t .s + (U + h) = off-zero (t .r) (t .s) (p * q + n * m) (p * m + n * q) U h W W-pos o (omega (arith, both)) in
         let f2 : t .s ≤ t .r + (U + h) = off-zero (t .s) (t .r) (p * m + n * q) (p * q + n * m) U h W W-pos (omega arith) (omega (arith, both)) in
-        record { product = t; bound = (f1, f2); size = record { r = t .r; s = t .s; is = t .is; over = omega arith; under = omega arith }; error = error-close p n q m h k o1 o2 i j }
+        record {
+          product = t;
+          bound = (f1, f2);
+          size = record { r = t .r; s = t .s; is = t .is; over = omega arith; under = omega arith };
+          error = error-close p n q m h k o1 o2 i j;
+        }
 
 -- ---- two products by one value
-near-products : (r s r' s' a b a' b' E h w : ℕ) → 0 < w → r * w + b ≤ a + s * w + h * w → a' + s' * w ≤ r' * w + b' + h * w → a + b' ≤ a' + b + E * w → r + s' ≤ r' + s + (E + 2 * h)
+near-products : (r s r' s' a b a' b' E h w : ℕ) → 0 < w → r * w + b ≤ a + s * w + h * w → a' + s' * w ≤ r' * w + b' + h * w → a + b' ≤ a' + b + E * w
+    → r + s' ≤ r' + s + (E + 2 * h)
 near-products r s r' s' a b a' b' E h w o x y c = le-of-mul-le-mul-right (let g : (r + s') * w ≤ (r' + s + (E + 2 * h)) * w = omega arith in g) o
 
-pub products-apart : {u v : Float} (p n s t q m e z E h : ℕ) → Apart p n s t e → Small q m z → e * z ≤ E * W → (a : Product u (p * q + n * m) (p * m + n * q) h) (b : Product v (s * q + t * m) (s * m + t * q) h)
+pub products-apart : {u v : Float} (p n s t q m e z E h : ℕ) → Apart p n s t e → Small q m z → e * z ≤ E * W
+    → (a : Product u (p * q + n * m) (p * m + n * q) h) (b : Product v (s * q + t * m) (s * m + t * q) h)
     → Apart (a .r) (a .s) (b .r) (b .s) (E + 2 * h)
 products-apart p n s t q m e z E h k l w a b = (
-  near-products (a .r) (a .s) (b .r) (b .s) (p * q + n * m) (p * m + n * q) (s * q + t * m) (s * m + t * q) E h W W-pos (a .over) (b .under) (omega (arith, both)),
-  near-products (b .r) (b .s) (a .r) (a .s) (s * q + t * m) (s * m + t * q) (p * q + n * m) (p * m + n * q) E h W W-pos (b .over) (a .under) (omega (arith, both)),
+  near-products (a .r) (a .s) (b .r) (b .s) (p * q + n * m) (p * m + n * q) (s * q + t * m) (s * m + t * q) E h W W-pos (a .over) (b .under)
+      (omega (arith, both)),
+  near-products (b .r) (b .s) (a .r) (a .s) (s * q + t * m) (s * m + t * q) (p * q + n * m) (p * m + n * q) E h W W-pos (b .over) (a .under)
+      (omega (arith, both)),
 )
   where
     both : ((p + t) * q + (s + n) * m ≤ (p + t) * m + (s + n) * q + e * z) × ((p + t) * m + (s + n) * q ≤ (p + t) * q + (s + n) * m + e * z)

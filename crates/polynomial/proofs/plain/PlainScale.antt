@@ -1,6 +1,7 @@
 -- One step of the sum of magnitudes, in units: the rounding of the values, which `PlainStep` counts in h units, stays a small part of it.
 use Prim.Native.Nat.{ℕ, _+_, _-_, _*_, _/_, _^_, _≤_, _<_}
-use native.Mathlib.Nat.{le-trans, le-of-eq, le-of-lt, mul-assoc, mul-comm, mul-le-mul-left, mul-le-mul-right, le-of-mul-le-mul-right, mul-div-le, lt-mul-div-succ}
+use native.Mathlib.Nat.{le-trans, le-of-eq, le-of-lt, mul-assoc, mul-comm}
+use native.Mathlib.Nat.{mul-le-mul-left, mul-le-mul-right, le-of-mul-le-mul-right, mul-div-le, lt-mul-div-succ}
 use native.Mathlib.Omega.{arith}
 use mathlib.Core.Path.{_≡_, sym}
 use lib.Dec.{T, lit<, lit≤}
@@ -68,7 +69,14 @@ scale-times s x g z y l d e i j = go (y / 2 ^ 53 + 1) (part-of y) (whole-of y)
   where
     last : (t : ℕ) → 2 ^ 53 * t ≤ y + 2 ^ 53 → (a : Product (s ⊗ x) (g * z + 0 * 0) (g * 0 + 0 * z) t) → Counted (s ⊗ x) (a .r) (a .s) → Times s x g z y
     last t p a c =
-        record { k = c .k; t = t; is = c .is; over = times-over (c .k) (a .r) (a .s) g z y t W W-pos (c .same) (a .over) e; under = times-under (c .k) (a .r) (a .s) g z y t W W-pos (c .same) (a .under) d; part = p }
+        record {
+          k = c .k;
+          t = t;
+          is = c .is;
+          over = times-over (c .k) (a .r) (a .s) g z y t W W-pos (c .same) (a .over) e;
+          under = times-under (c .k) (a .r) (a .s) g z y t W W-pos (c .same) (a .under) d;
+          part = p;
+        }
 
     go : (t : ℕ) → 2 ^ 53 * t ≤ y + 2 ^ 53 → y < 2 ^ 53 * t → Times s x g z y
     go t p q =
@@ -96,14 +104,17 @@ scale-plus s x g k l i j = go ((g + k) / 2 ^ 53 + 1) (part-of (g + k)) (whole-of
 
     go : (t : ℕ) → 2 ^ 53 * t ≤ g + k + 2 ^ 53 → g + k < 2 ^ 53 * t → Plus s x g k
     go t p q =
-        let a = close-add g 0 k 0 0 0 t (room t (omega arith) (let two = most-two in omega arith)) (omega arith) (omega arith) (close-self g 0 i) (close-self k 0 j) in
+        let a = close-add g 0 k 0 0 0 t (room t (omega arith) (let two = most-two in omega arith)) (omega arith) (omega arith) (close-self g 0 i)
+        (close-self k 0 j) in
         last t p a (counted (s ⊕ x) (a .r) (a .s) (a .is) (sum-plus s x (a .is .real) (not-negative s g i) (not-negative x k j)))
 
 -- ---- the step
 -- h becomes q + 1 + D, and g becomes n; m times each is written out
-weigh : (q D y k j t i n m K my mk mj mt mi mn : ℕ) → 2 ^ 102 * q ≤ my + m + K → 2 ^ 102 * D ≤ (2 ^ 50 + 1) * (j + (2 ^ 52 - 1)) → my ≤ mk + mt → mk + mj ≤ mn + mi → 2 ^ 50 * j ≤ mj
-    → 7 * mt ≤ y + 2 ^ 53 → 7 * mi ≤ k + j + 2 ^ 53 → y ≤ k + t → k + j ≤ n + i → 8 * t ≤ y + 8 → 8 * i ≤ k + j + 8 → m ≤ 2 ^ 51 → 2 ^ 102 * (q + 1 + D) ≤ mn + 2 * n + (K + 2 ^ 104)
-weigh q D y k j t i n m K my mk mj mt mi mn a b c d e f g h l o p r =
+in-units : (q D y k j t i n m K my mk mj mt mi mn : ℕ) → 2 ^ 102 * q ≤ my + m + K → 2 ^ 102 * D ≤ (2 ^ 50 + 1) * (j + (2 ^ 52 - 1)) → my ≤ mk + mt
+    → mk + mj ≤ mn + mi → 2 ^ 50 * j ≤ mj
+    → 7 * mt ≤ y + 2 ^ 53 → 7 * mi ≤ k + j + 2 ^ 53 → y ≤ k + t → k + j ≤ n + i → 8 * t ≤ y + 8 → 8 * i ≤ k + j + 8 → m ≤ 2 ^ 51
+    → 2 ^ 102 * (q + 1 + D) ≤ mn + 2 * n + (K + 2 ^ 104)
+in-units q D y k j t i n m K my mk mj mt mi mn a b c d e f g h l o p r =
     let z : my + mj + j ≤ mn + 2 * n + 2 ^ 55 = omega arith in
     omega arith
 
@@ -133,12 +144,13 @@ pub record Grown (s x c : Float) (q D m K b : ℕ) : Type 0 where
   pub below : 2 ^ 102 * (q + 1 + D) ≤ (m + 2) * n + (K + 2 ^ 104)
 
 -- y is g * z / W
-grown-at : (s x c : Float) (g z k q D h m K b y : ℕ) → y * W ≤ g * z → g * z ≤ (y + 1) * W → y ≤ g → z ≤ W → g ≤ b → b ≤ 36 * most → k ≤ most → q * W ≤ z * h → 2 ^ 102 * h ≤ m * g + K → 2 ^ 50 ≤ m → m ≤ 2 ^ 50 + 20
+grown-at : (s x c : Float) (g z k q D h m K b y : ℕ) → y * W ≤ g * z → g * z ≤ (y + 1) * W → y ≤ g → z ≤ W → g ≤ b → b ≤ 36 * most → k ≤ most
+    → q * W ≤ z * h → 2 ^ 102 * h ≤ m * g + K → 2 ^ 50 ≤ m → m ≤ 2 ^ 50 + 20
     → (2 ^ 52 - 1) * D ≤ k + (2 ^ 52 - 1) → Is binary64 s g 0 0 → Is binary64 x z 0 0 → Is binary64 c k 0 0 → Grown s x c q D m K b
 grown-at s x c g z k q D h m K b y d1 d2 d3 zw gb bm km qh hg m1 m2 dk i j l = first (scale-times s x g z y (omega arith) d1 d2 i j)
   where
-    settle : (t : Times s x g z y) → Plus (s ⊗ x) c (t .k) k → t .t ≤ most → Grown s x c q D m K b
-    settle t p le = record { n = p .n; is = p .is; bounded = bound; below = under }
+    concluded : (t : Times s x g z y) → Plus (s ⊗ x) c (t .k) k → t .t ≤ most → Grown s x c q D m K b
+    concluded t p le = record { n = p .n; is = p .is; bounded = bound; below = under }
       where
         bound : p .n ≤ b + 4 * most
         bound =
@@ -153,8 +165,10 @@ grown-at s x c g z k q D h m K b y d1 d2 d3 zw gb bm km qh hg m1 m2 dk i j l = f
             let e1 : m * y ≤ m * (t .k + t .t) = mul-le-mul-left m (t .under) in
             let e2 : m * (t .k + k) ≤ m * (p .n + p .t) = mul-le-mul-left m (p .under) in
             let w =
-            weigh q D y (t .k) k (t .t) (p .t) (p .n) m K (m * y) (m * t .k) (m * k) (m * t .t) (m * p .t) (m * p .n) (first-part q h z g y m K W W-pos qh d2 zw hg) (second-part k D dk) (omega (arith, e1)) (omega (arith, e2)) (mul-le-mul-right k m1)
-            (seventh m (t .t) y m2 (t .part)) (seventh m (p .t) (t .k + k) m2 (p .part)) (t .under) (p .under) (eighth (t .t) y (t .part)) (eighth (p .t) (t .k + k) (p .part)) (omega arith) in
+            in-units q D y (t .k) k (t .t) (p .t) (p .n) m K (m * y) (m * t .k) (m * k) (m * t .t) (m * p .t) (m * p .n)
+            (first-part q h z g y m K W W-pos qh d2 zw hg) (second-part k D dk) (omega (arith, e1)) (omega (arith, e2)) (mul-le-mul-right k m1)
+            (seventh m (t .t) y m2 (t .part)) (seventh m (p .t) (t .k + k) m2 (p .part)) (t .under) (p .under) (eighth (t .t) y (t .part))
+            (eighth (p .t) (t .k + k) (p .part)) (omega arith) in
             omega (arith, w)
 
     first : Times s x g z y → Grown s x c q D m K b
@@ -163,7 +177,7 @@ grown-at s x c g z k q D h m K b y d1 d2 d3 zw gb bm km qh hg m1 m2 dk i j l = f
         let p = t .part in
         let two = most-two in
         let le : t .t ≤ most = omega arith in
-        settle t (scale-plus (s ⊗ x) c (t .k) k (omega arith) (t .is) l) le
+        concluded t (scale-plus (s ⊗ x) c (t .k) k (omega arith) (t .is) l) le
 
 -- g * z / W is at most g
 pub quotient : (g z w : ℕ) → 0 < w → z ≤ w → (g * z / w * w ≤ g * z) × (g * z ≤ (g * z / w + 1) * w) × (g * z / w ≤ g)
@@ -172,6 +186,7 @@ quotient g z w o l =
     let b : g * z < w * (g * z / w + 1) = lt-mul-div-succ (g * z) o in
     (a, le-trans (le-of-lt b) (le-of-eq (mul-comm w (g * z / w + 1))), le-of-mul-le-mul-right (le-trans a (mul-le-mul-left g l)) o)
 
-pub grown : (s x c : Float) (g z k q D h m K b : ℕ) → z ≤ W → g ≤ b → b ≤ 36 * most → k ≤ most → q * W ≤ z * h → 2 ^ 102 * h ≤ m * g + K → 2 ^ 50 ≤ m → m ≤ 2 ^ 50 + 20
+pub grown : (s x c : Float) (g z k q D h m K b : ℕ) → z ≤ W → g ≤ b → b ≤ 36 * most → k ≤ most → q * W ≤ z * h → 2 ^ 102 * h ≤ m * g + K → 2 ^ 50 ≤ m
+    → m ≤ 2 ^ 50 + 20
     → (2 ^ 52 - 1) * D ≤ k + (2 ^ 52 - 1) → Is binary64 s g 0 0 → Is binary64 x z 0 0 → Is binary64 c k 0 0 → Grown s x c q D m K b
 grown s x c g z k q D h m K b zw = let a = quotient g z W W-pos zw in grown-at s x c g z k q D h m K b (g * z / W) (a .0) (a .1) (a .2) zw

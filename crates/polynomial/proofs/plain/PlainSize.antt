@@ -45,7 +45,8 @@ lift-grows m e b t f h =
     let c = down e * down (pos 52) in
     let p = round-plain binary64 a c in
     let g = plain-finite (round binary64 false a c) b p f h in
-    let w : Beyond (fin false m e) (round binary64 false a c) = round-beyond binary64 false a c (fin false m e) (mul-pos (down-pos e) (lit< tt)) (fits→held binary64 (fin false m e) t tt) g (omega arith) in
+    let w : Beyond (fin false m e) (round binary64 false a c) = round-beyond binary64 false a c (fin false m e) (mul-pos (down-pos e) (lit< tt))
+    (fits→held binary64 (fin false m e) t tt) g (omega arith) in
     Le-trans (beyond→Le tt tt p w) (le→Le (round binary64 false a c) b g f h)
 
 record Under (y b : Float) : Type 0 where
@@ -66,15 +67,18 @@ unfolding W
 lift-is = power-is binary64 52
 
 -- a product by 2 ^ 52 that is at most k, with the rounding of i + 1
-lifted : (i k r s w : ℕ) → 0 < w → i * (2 ^ 52 * w) + 0 * 0 + s * w ≤ r * w + (i * 0 + 0 * (2 ^ 52 * w)) + (i + 1) * w → r + 0 ≤ k + s → (2 ^ 52 - 1) * i ≤ k + 1
-lifted i k r s w o h l = le-of-mul-le-mul-right (let g : (2 ^ 52 - 1) * i * w ≤ (k + 1) * w = let f = native.Mathlib.Nat.mul-le-mul-right w l in omega arith in g) o
+lifted : (i k r s w : ℕ) → 0 < w → i * (2 ^ 52 * w) + 0 * 0 + s * w ≤ r * w + (i * 0 + 0 * (2 ^ 52 * w)) + (i + 1) * w → r + 0 ≤ k + s
+    → (2 ^ 52 - 1) * i ≤ k + 1
+lifted i k r s w o h l = le-of-mul-le-mul-right (let g : (2 ^ 52 - 1) * i * w ≤ (k + 1) * w = let f = native.Mathlib.Nat.mul-le-mul-right w l in
+    omega arith in g) o
 
 lifted-low : (y b : Float) (i k : ℕ) → i ≤ k → k ≤ most → Is binary64 (abs y) i 0 0 → Is binary64 b k 0 0 → T (le (abs y ⊗ lift) b) → (2 ^ 52 - 1) * i ≤ k + 1
 lifted-low y b i k l n p q h =
     go (mul-close i 0 (2 ^ 52 * W) 0 (i + 1) (room (i + 1) (omega arith) (let two = most-two in omega arith)) (omega arith) (omega arith) p lift-is)
   where
     go : Product (abs y ⊗ lift) (i * (2 ^ 52 * W) + 0 * 0) (i * 0 + 0 * (2 ^ 52 * W)) (i + 1) → (2 ^ 52 - 1) * i ≤ k + 1
-    go t = lifted i k (t .r) (t .s) W W-pos (t .under) (Le-Is binary64 (abs y ⊗ lift) b (t .r) (t .s) k 0 (t .is) q (le→Le (abs y ⊗ lift) b (t .is .real) (q .real) h))
+    go t = lifted i k (t .r) (t .s) W W-pos (t .under) (Le-Is binary64 (abs y ⊗ lift) b (t .r) (t .s) k 0 (t .is) q
+        (le→Le (abs y ⊗ lift) b (t .is .real) (q .real) h))
 
 -- u - v units, k in size; D is about k / 2 ^ 52, and no less than the residual
 pub record Sized (c : Compensated) : Type 0 where
@@ -96,18 +100,38 @@ unfolding most
 most-is = power-is binary64 500
 
 -- from the units of both parts
-sized : (c : Compensated) (u v k p n i : ℕ) → Is binary64 (c .high) u v 0 → Is binary64 (abs (c .high)) k 0 0 → Small u v k → k + 0 ≤ most + 0 → Is binary64 (c .low) p n 0 → Small p n i → (2 ^ 52 - 1) * i ≤ k + 1 → Sized c
+sized : (c : Compensated) (u v k p n i : ℕ) → Is binary64 (c .high) u v 0 → Is binary64 (abs (c .high)) k 0 0 → Small u v k → k + 0 ≤ most + 0
+    → Is binary64 (c .low) p n 0 → Small p n i → (2 ^ 52 - 1) * i ≤ k + 1 → Sized c
 sized c u v k p n i a b s l j w e =
     let d = k / (2 ^ 52 - 1) in
     let m : (2 ^ 52 - 1) * d ≤ k = mul-div-le k (2 ^ 52 - 1) in
     let o : k < (2 ^ 52 - 1) * (d + 1) = lt-mul-div-succ k (lit< tt) in
     let f : i ≤ d + 1 = omega arith in
-    record { u = u; v = v; k = k; D = d + 1; high-is = a; abs-is = b; size = s; small = omega arith; low = record { r = p; s = n; is = j; over = omega arith; under = omega arith }; wide = o; narrow = omega arith }
+    record {
+      u = u;
+      v = v;
+      k = k;
+      D = d + 1;
+      high-is = a;
+      abs-is = b;
+      size = s;
+      small = omega arith;
+      low = record {
+        r = p;
+        s = n;
+        is = j;
+        over = omega arith;
+        under = omega arith;
+      };
+      wide = o;
+      narrow = omega arith;
+    }
 
 pub tidy-sized : (c : Compensated) → Tidy c → Sized c
 tidy-sized c t = go (abs-within largest (c .high) tt tt (t .small) .real)
   where
-    last : (k : ℕ) (a : Is binary64 (abs (c .high)) k 0 0) → k + 0 ≤ most + 0 → Under (c .low) (abs (c .high)) → (i : ℕ) → Is binary64 (abs (c .low)) i 0 0 → (2 ^ 52 - 1) * i ≤ k + 1
+    last : (k : ℕ) (a : Is binary64 (abs (c .high)) k 0 0) → k + 0 ≤ most + 0 → Under (c .low) (abs (c .high)) → (i : ℕ)
+        → Is binary64 (abs (c .low)) i 0 0 → (2 ^ 52 - 1) * i ≤ k + 1
     last k a l o i b =
         let g : i + 0 ≤ k + 0 = Le-Is binary64 (abs (c .low)) (abs (c .high)) i 0 k 0 b a (o .order) in
         lifted-low (c .low) (abs (c .high)) i k (omega arith) (omega arith) b a (yes-of (t .rest))
@@ -118,7 +142,8 @@ tidy-sized c t = go (abs-within largest (c .high) tt tt (t .small) .real)
         let u = plus-units binary64 (c .high) in
         let v = minus-units binary64 (c .high) in
         let a = abs-units u v w in
-        let l : a .0 + 0 ≤ most + 0 = Le-Is binary64 (abs (c .high)) largest (a .0) 0 most 0 (a .1) most-is (le→Le (abs (c .high)) largest (a .1 .real) tt (yes-of (t .small))) in
+        let l : a .0 + 0 ≤ most + 0 = Le-Is binary64 (abs (c .high)) largest (a .0) 0 most 0 (a .1) most-is
+        (le→Le (abs (c .high)) largest (a .1 .real) tt (yes-of (t .small))) in
         let o = under (c .low) (abs (c .high)) (t .low-fits) (a .1 .real) (t .rest) in
         let y = whole-is binary64 (c .low) (t .low-fits) (o .real) in
         let p = plus-units binary64 (c .low) in

@@ -22,7 +22,8 @@ close-to q m d c h =
 
 -- what a sum asks: h is a rounding that is large enough, and w units about u - v hold the result
 abbrev pub Sum : ℕ → ℕ → ℕ → ℕ → ℕ → ℕ → ℕ → ℕ → ℕ → ℕ → Type 0
-Sum p n e q m d h u v w = (p + q + e + d ≤ n + m + 2 ^ 53 * h) × (n + m + e + d ≤ p + q + 2 ^ 53 * h) × (p + q + v + e + d + h ≤ u + (n + m) + w) × (u + (n + m) + e + d + h ≤ p + q + v + w)
+Sum p n e q m d h u v w = (p + q + e + d ≤ n + m + 2 ^ 53 * h) × (n + m + e + d ≤ p + q + 2 ^ 53 * h) × (p + q + v + e + d + h ≤ u + (n + m) + w) ×
+    (u + (n + m) + e + d + h ≤ p + q + v + w)
 
 pub add-to : {x y : Float} {p n e q m d : ℕ} (h u v w : ℕ) → Room h → Close x p n e → Close y q m d → Sum p n e q m d h u v w → Close (x ⊕ y) u v w
 add-to {p = p} {n = n} {e = e} {q = q} {m = m} {d = d} h u v w r a b s =
@@ -42,7 +43,8 @@ pub record Parts (c : Compensated) (p n e d : ℕ) : Type 0 where
 abbrev pub Small : ℕ → ℕ → ℕ → Type 0
 Small p n e = (p ≤ n + e) × (n ≤ p + e)
 
-rounded-own : {x y : Float} (p n q m A B h : ℕ) → Room h → A + B + 2 * h ≤ 2 ^ 53 * h → Small p n A → Small q m B → Is binary64 x p n 0 → Is binary64 y q m 0 → Parts (rounded x y) (p + q) (n + m) h (3 * h)
+rounded-own : {x y : Float} (p n q m A B h : ℕ) → Room h → A + B + 2 * h ≤ 2 ^ 53 * h → Small p n A → Small q m B → Is binary64 x p n 0
+    → Is binary64 y q m 0 → Parts (rounded x y) (p + q) (n + m) h (3 * h)
 rounded-own p n q m A B h r w a b i j =
     let x = close-self p n i in
     let y = close-self q m j in
@@ -50,7 +52,8 @@ rounded-own p n q m A B h r w a b i j =
     let back = sub-to h q m (2 * h) r high x (omega arith) in
     record { first = high; second = sub-to h 0 0 (3 * h) r y back (omega arith) }
 
-rounded-parts : {x y : Float} (p n A B h : ℕ) → Room h → A + B + 2 * h ≤ 2 ^ 53 * h → Small p n A → Is binary64 x p n 0 → Close y 0 0 B → Parts (rounded x y) p n (B + h) (3 * h)
+rounded-parts : {x y : Float} (p n A B h : ℕ) → Room h → A + B + 2 * h ≤ 2 ^ 53 * h → Small p n A → Is binary64 x p n 0 → Close y 0 0 B
+    → Parts (rounded x y) p n (B + h) (3 * h)
 rounded-parts p n A B h r w a i y =
     let o = y .over in
     let u = y .under in
@@ -76,7 +79,8 @@ error-own p n q m r t A B h k w a b c i j l =
     let right = sub-to h 0 0 (3 * h) k y virtual (omega arith) in
     add-to h 0 0 (7 * h) k left right (omega arith)
 
-two-sum : {x y : Float} (p n q m A B h : ℕ) → Room h → A + B + 8 * h ≤ 2 ^ 53 * h → Small p n A → Small q m B → Is binary64 x p n 0 → Is binary64 y q m 0 → TwoSum x y p n q m h
+two-sum : {x y : Float} (p n q m A B h : ℕ) → Room h → A + B + 8 * h ≤ 2 ^ 53 * h → Small p n A → Small q m B → Is binary64 x p n 0
+    → Is binary64 y q m 0 → TwoSum x y p n q m h
 two-sum {x = x} {y = y} p n q m A B h k w a b i j = go (add-to h (p + q) (n + m) h k (close-self p n i) (close-self q m j) (omega arith))
   where
     go : Close (x ⊕ y) (p + q) (n + m) h → TwoSum x y p n q m h
@@ -84,7 +88,8 @@ two-sum {x = x} {y = y} p n q m A B h k w a b i j = go (add-to h (p + q) (n + m)
 
 -- `plus`, where the first residual is at most 3 * h and the second at most h
 pub plus-parts : (a b : Compensated) (p n q m A B h : ℕ) → Room h → A + B + 20 * h ≤ 2 ^ 53 * h → Small p n A → Small q m B
-    → Is binary64 (a .high) p n 0 → Close (a .low) 0 0 (3 * h) → Is binary64 (b .high) q m 0 → Close (b .low) 0 0 h → Parts (plus a b) (p + q) (n + m) (15 * h) (3 * h)
+    → Is binary64 (a .high) p n 0 → Close (a .low) 0 0 (3 * h) → Is binary64 (b .high) q m 0 → Close (b .low) 0 0 h
+    → Parts (plus a b) (p + q) (n + m) (15 * h) (3 * h)
 unfolding plus
 plus-parts a b p n q m A B h k w sa sb i l j c = go (two-sum p n q m A B h k (omega arith) sa sb i j)
   where
@@ -98,7 +103,8 @@ plus-parts a b p n q m A B h k w sa sb i l j c = go (two-sum p n q m A B h k (om
         record { first = close-to (p + q) (n + m) (15 * h) (z .first) (omega arith); second = z .second }
 
 -- `times`, from its four products
-pub times-parts : (a b : Compensated) (p n A h : ℕ) → Room h → A + 20 * h ≤ 2 ^ 53 * h → Small p n A → Is binary64 (a .high ⊗ b .high) p n 0 → Close (product-error (a .high) (b .high)) 0 0 (2 * h)
+pub times-parts : (a b : Compensated) (p n A h : ℕ) → Room h → A + 20 * h ≤ 2 ^ 53 * h → Small p n A → Is binary64 (a .high ⊗ b .high) p n 0
+    → Close (product-error (a .high) (b .high)) 0 0 (2 * h)
     → Close (a .high ⊗ b .low) 0 0 h → Close (a .low ⊗ b .high) 0 0 (4 * h) → Close (a .low ⊗ b .low) 0 0 h → Parts (times a b) p n (12 * h) (3 * h)
 unfolding times
 times-parts a b p n A h k w s i e x y z =

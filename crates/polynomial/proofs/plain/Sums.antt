@@ -21,7 +21,8 @@ module _ (p : List Compensated) (n i : ℕ) (d : Compensated) (I : 0 < i) (h : i
   unfolding plain
   plain-more x sum e = ap (λ (s : Float). s ⊗ x ⊕ getD p (i - 1) d .high) e ∙ sym (ap (λ (l : List Compensated). plain l x) one-more)
 
-  pub scale-more : (x sum size high : Float) → sum ≡ scale (slice i n p) x → size ≡ abs x → high ≡ abs (getD p (i - 1) d .high) → sum ⊗ size ⊕ high ≡ scale (slice (i - 1) n p) x
+  pub scale-more : (x sum size high : Float) → sum ≡ scale (slice i n p) x → size ≡ abs x → high ≡ abs (getD p (i - 1) d .high)
+      → sum ⊗ size ⊕ high ≡ scale (slice (i - 1) n p) x
   unfolding scale
   scale-more x sum size high e1 e2 e3 = ap₂ _⊕_ (ap₂ _⊗_ e1 e2) e3 ∙ sym (ap (λ (l : List Compensated). scale l x) one-more)
 

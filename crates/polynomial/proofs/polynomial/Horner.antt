@@ -8,12 +8,12 @@ use lib.Seq.{slice, slice-cons, slice-empty}
 use lib.Ieee.{Float}
 use Rattle.float.specs.Number.{_⊕_, _⊗_, abs, zero-float}
 use Rattle.polynomial.specs.Compensated.{from, plus, times}
-use Rattle.polynomial.specs.Polynomial.{nothing, horner, magnitudes}
+use Rattle.polynomial.specs.Polynomial.{zero-pair, horner, magnitudes}
 use Rattle.polynomial.specs.declared.compensated.Compensated.{Compensated}
 
 module _ (p : List Compensated) (n : ℕ) (x : Float) where
   -- ---- no coefficient
-  pub horner-none : nothing ≡ horner (slice n n p) x
+  pub horner-none : zero-pair ≡ horner (slice n n p) x
   unfolding horner
   horner-none = sym (ap (λ (l : List Compensated). horner l x) (slice-empty n p))
 
@@ -34,14 +34,16 @@ module _ (p : List Compensated) (n : ℕ) (x : Float) where
     one-more : slice (i - 1) n p ≡ getD p (i - 1) d ∷ slice i n p
     one-more = let e : suc (i - 1) ≡ i = omega arith in slice-cons (i - 1) n p d (omega arith) k ∙ ap (λ (j : ℕ). getD p (i - 1) d ∷ slice j n p) e
 
-    pub horner-more : (sum point product r : Compensated) → sum ≡ horner (slice i n p) x → point ≡ from x → product ≡ times sum point → r ≡ plus product (getD p (i - 1) d) → r ≡ horner (slice (i - 1) n p) x
+    pub horner-more : (sum point product r : Compensated) → sum ≡ horner (slice i n p) x → point ≡ from x → product ≡ times sum point
+        → r ≡ plus product (getD p (i - 1) d) → r ≡ horner (slice (i - 1) n p) x
     unfolding horner
     horner-more sum point product r e1 e2 e3 e4 =
         e4
         ∙ ap (λ (y : Compensated). plus y (getD p (i - 1) d)) (e3 ∙ ap₂ times e1 e2)
         ∙ sym (ap (λ (l : List Compensated). horner l x) one-more)
 
-    pub magnitudes-more : (sum size high low : Float) → sum ≡ magnitudes (slice i n p) x → size ≡ abs x → high ≡ abs (getD p (i - 1) d .high) → low ≡ abs (getD p (i - 1) d .low)
+    pub magnitudes-more : (sum size high low : Float) → sum ≡ magnitudes (slice i n p) x → size ≡ abs x → high ≡ abs (getD p (i - 1) d .high)
+        → low ≡ abs (getD p (i - 1) d .low)
         → sum ⊗ size ⊕ high ⊕ low ≡ magnitudes (slice (i - 1) n p) x
     unfolding magnitudes
     magnitudes-more sum size high low e1 e2 e3 e4 = ap₂ _⊕_ (ap₂ _⊕_ (ap₂ _⊗_ e1 e2) e3) e4 ∙ sym (ap (λ (l : List Compensated). magnitudes l x) one-more)

@@ -19,14 +19,16 @@ derivative-start [] = refl
 derivative-start (c ∷ cs) = refl
 
 module _ (p d : List Compensated) (n i : ℕ) where
-  pub derivative-more : (z power v : Compensated) → 0 < i → i < n → n ≤ length p → n ≤ length d → power ≡ from (ofInt binary64 (pos i)) → v ≡ times (getD p i z) power
+  pub derivative-more : (z power v : Compensated) → 0 < i → i < n → n ≤ length p → n ≤ length d → power ≡ from (ofInt binary64 (pos i))
+      → v ≡ times (getD p i z) power
       → take (i - 1) d ++ powered i (slice i n p) ≡ take (i + 1 - 1) (set d (i - 1) v) ++ powered (i + 1) (slice (i + 1) n p)
   unfolding powered
   derivative-more z power v I N h k ep ev =
       let e : i - 1 + 1 ≡ i + 1 - 1 = omega arith in
       let rest = powered (i + 1) (slice (i + 1) n p) in
       let first : powered i (slice i n p) ≡ v ∷ rest =
-      ap (powered i) (slice-cons i n p z N h) ∙ ap₂ (λ (c : Compensated) (j : ℕ). c ∷ powered j (slice j n p)) (sym (ev ∙ ap (times (getD p i z)) ep)) (sym (add-one i))
+      ap (powered i) (slice-cons i n p z N h) ∙ ap₂ (λ (c : Compensated) (j : ℕ). c ∷ powered j (slice j n p)) (sym (ev ∙ ap (times (getD p i z)) ep))
+      (sym (add-one i))
       in
       ap (λ (l : List Compensated). take (i - 1) d ++ l) first ∙ store-more (i - 1) d rest v (omega arith) ∙ ap (λ (j : ℕ). take j (set d (i - 1) v) ++ rest) e
 
@@ -34,4 +36,5 @@ module _ (p d : List Compensated) (n i : ℕ) where
   unfolding powered
   derivative-end a b =
       let e : i ≡ n = omega arith in
-      ap (λ (j : ℕ). take (j - 1) d ++ powered j (slice j n p)) e ∙ ap (λ (l : List Compensated). take (n - 1) d ++ powered n l) (slice-empty n p) ∙ append-nil (take (n - 1) d)
+      ap (λ (j : ℕ). take (j - 1) d ++ powered j (slice j n p)) e ∙ ap (λ (l : List Compensated). take (n - 1) d ++ powered n l) (slice-empty n p)
+      ∙ append-nil (take (n - 1) d)

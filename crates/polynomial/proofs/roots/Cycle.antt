@@ -1,4 +1,5 @@
--- What the cycle of `roots` and `partitions` rests on beside the laws of its definitions: the lists that stand at the front of the lent places, what stands behind them, and that there is room.
+-- What the cycle of `roots` and `partitions` rests on beside the laws of its definitions: the lists that
+-- stand at the front of the lent places, what stands behind them, and that there is room.
 use Prim.Native.Nat.{ℕ, zero, suc, _+_, _-_, _*_, _^_, _≤_, _<_, zero-le, suc-le-suc}
 use native.Mathlib.Nat.{le-refl, le-trans, le-of-suc-le-suc, pow-suc, not-suc-le-zero}
 use native.Mathlib.Omega.{arith}
@@ -10,7 +11,7 @@ use lib.Seq.{length-take-le}
 use lib.Ieee.{Float}
 use Rattle.float.specs.Promises.Order.{Span}
 use Rattle.polynomial.specs.Cuts.{put}
-use Rattle.polynomial.specs.Polynomial.{nothing, nine, derivative}
+use Rattle.polynomial.specs.Polynomial.{zero-pair, nine, derivative}
 use Rattle.polynomial.specs.Roots.{partitions, quotient, roots-at}
 use Rattle.polynomial.specs.declared.compensated.Compensated.{Compensated}
 use Rattle.polynomial.specs.Laws.Cuts.{put-most}
@@ -24,11 +25,11 @@ derivative-front r p n h = front r (derivative (take n p)) (n - 1) (derivative-l
 
 -- a line's two coefficients, by the array that holds them
 pub line-of : (P : List Compensated) (m : ℕ) (d : Compensated) (lower upper : Float) → m ≡ 2 → 2 ≤ length P
-    → quotient (getD (take m P) 0 nothing) (getD (take m P) 1 nothing) lower upper ≡ quotient (getD P 0 d) (getD P 1 d) lower upper
+    → quotient (getD (take m P) 0 zero-pair) (getD (take m P) 1 zero-pair) lower upper ≡ quotient (getD P 0 d) (getD P 1 d) lower upper
 line-of [] m d lower upper e h = absurd (not-suc-le-zero h)
 line-of (a ∷ []) m d lower upper e h = absurd (not-suc-le-zero (le-of-suc-le-suc h))
 line-of (a ∷ (b ∷ l)) m d lower upper e h =
-    ap (λ (j : ℕ). quotient (getD (take j (a ∷ (b ∷ l))) 0 nothing) (getD (take j (a ∷ (b ∷ l))) 1 nothing) lower upper) e
+    ap (λ (j : ℕ). quotient (getD (take j (a ∷ (b ∷ l))) 0 zero-pair) (getD (take j (a ∷ (b ∷ l))) 1 zero-pair) lower upper) e
 
 -- ---- what `partitions` leaves: the derivative's roots stand at the front of A, where W was; with the lower bound, at that of B; with both, at that of D
 
@@ -36,10 +37,12 @@ module _ (k : ℕ) (p : List Compensated) (lower upper : Float) (s : Span 2 lowe
   abbrev R : List Float
   R = roots-at k p lower upper
 
-  pub bounded : (W : List Float) → Front R W c A → Front (put lower (take c A)) A b B → Front (put upper (take b B)) B d D → c ≤ length A → b ≤ length B → Front (partitions lower upper R) W d D
+  pub bounded : (W : List Float) → Front R W c A → Front (put lower (take c A)) A b B → Front (put upper (take b B)) B d D → c ≤ length A
+      → b ≤ length B → Front (partitions lower upper R) W d D
   bounded W f g h C L =
       let e : put upper (take b B) ≡ partitions lower upper R =
-      ap (put upper) (front-take (put lower (take c A)) A B b g ∙ ap (put lower) (front-take R W A c f)) ∙ points-put lower upper s R (roots-in lower upper s k p) (roots-strict lower upper k p) in
+      ap (put upper) (front-take (put lower (take c A)) A B b g ∙ ap (put lower) (front-take R W A c f))
+      ∙ points-put lower upper s R (roots-in lower upper s k p) (roots-strict lower upper k p) in
       let m = put-least lower A c b C (g .0) in
       let n = put-least upper B b d L (h .0) in
       front-of (partitions lower upper R) W D d (h .0 ∙ ap length e) (front-take (put upper (take b B)) B D d h ∙ e)
@@ -76,7 +79,8 @@ module _ (n : ℕ) (p : List Compensated) (lower upper : Float) (N : 2 < n) wher
       (omega arith, omega arith)
 
   -- twice as many places as there are points
-  pub points-room : (j len count : ℕ) → n ≤ j → 2 ^ j ≤ len → count ≡ length (partitions lower upper (roots-at (n - 1) (derivative (take n p)) lower upper)) → count + count ≤ len
+  pub points-room : (j len count : ℕ) → n ≤ j → 2 ^ j ≤ len → count ≡ length
+      (partitions lower upper (roots-at (n - 1) (derivative (take n p)) lower upper)) → count + count ≤ len
   points-room j len count h g e =
       let r = most in
       let s = points-short lower upper (roots-at (n - 1) (derivative (take n p)) lower upper) in

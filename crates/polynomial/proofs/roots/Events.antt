@@ -15,7 +15,7 @@ use Rattle.polynomial.specs.Roots.{touches, crosses, crossing, crossings
 use Rattle.polynomial.specs.Promises.Inside.{Ready, touched, crossed}
 use Rattle.polynomial.specs.Promises.Lists.{Fit}
 use Rattle.polynomial.specs.Laws.Cuts.{cuts-cons, cuts-perm, perm-comm, fit-append, put-most, put-longer}
-use Rattle.polynomial.specs.Laws.Halving.{bisected-in}
+use Rattle.polynomial.specs.Laws.Bisection.{bisected-in}
 use Rattle.polynomial.specs.declared.compensated.Compensated.{Compensated}
 use Rattle.polynomial.specs.declared.roots.Interval.{Interval}
 
@@ -129,9 +129,11 @@ module _ (p : List Compensated) where
       let x = cross p a b in
       let t = touch p b in
       let g = fit-append x (t ++ l) (fit-cross p a b (h .0)) (fit-append t l (fit-one (near-zero p b) b (h .0 .hi-fits)) f) in
-      ap (λ (s : List Float). run p s b r) (ap (crossed (evaluate p) (between p a b)) (put-one (near-zero p b) b l) ∙ put-one (crosses (evaluate p a) (evaluate p b)) (end p a b) (t ++ l))
+      ap (λ (s : List Float). run p s b r) (ap (crossed (evaluate p) (between p a b)) (put-one (near-zero p b) b l)
+      ∙ put-one (crosses (evaluate p a) (evaluate p b)) (end p a b) (t ++ l))
       ∙ run-cuts (x ++ (t ++ l)) b r g (h .1)
-      ∙ cuts-perm (shuffle (touches p r) (crossings p (b ∷ r)) x t l) (fit-append (touches p r ++ crossings p (b ∷ r)) (x ++ (t ++ l)) (fit-both p b r (h .1)) g)
+      ∙ cuts-perm (shuffle (touches p r) (crossings p (b ∷ r)) x t l)
+      (fit-append (touches p r ++ crossings p (b ∷ r)) (x ++ (t ++ l)) (fit-both p b r (h .1)) g)
       ∙ ap₂ (λ (y z : List Float). cuts ((y ++ z) ++ l)) (sym (touches-cons p b r)) (sym (crossings-cons p a b r))
 
   first : (x : Float) → touched p x [] ≡ cuts (touch p x)

@@ -55,7 +55,8 @@ module _ (w : List Float) (k : ℕ) (v : Float) (h : k < length w) where
   room : leb (length (grown w k v)) (length w) ≡ true
   room = let m = put-most v (take k w) in let t = length-take k w in le-leb (length (grown w k v)) (length w) (omega arith)
 
-  pub kept-count : (answer : Put) (after : List Float) (n : ℕ) → answer ≡ putAnswer w k v → after ≡ putRoom w k v → answer ≡ Count n → Front (put v (take k w)) w n after
+  pub kept-count : (answer : Put) (after : List Float) (n : ℕ) → answer ≡ putAnswer w k v → after ≡ putRoom w k v → answer ≡ Count n
+      → Front (put v (take k w)) w n after
   kept-count answer after n a b e =
       let c : answer ≡ Count (length (grown w k v)) = a ∙ simp room in
       let l : n ≡ length (grown w k v) = cc in

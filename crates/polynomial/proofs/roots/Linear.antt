@@ -16,7 +16,8 @@ module _ (a b : Compensated) (lo hi va vb : Float) (ea : va ≡ value a) (eb : v
   unfolding quotient
   is x y ex ey = ap₂ (λ (u w : Float). cond (le lo (neg u ⊘ w) && le (neg u ⊘ w) hi) ((neg u ⊘ w) ∷ []) []) (sym ea) (sym eb) ∙ simp (ex, ey)
 
-  pub one : 0 < length out → le lo (neg va ⊘ vb) ≡ true → le (neg va ⊘ vb) hi ≡ true → (1 ≡ length (quotient a b lo hi)) × (set out 0 (neg va ⊘ vb) ≡ quotient a b lo hi ++ drop 1 out)
+  pub one : 0 < length out → le lo (neg va ⊘ vb) ≡ true → le (neg va ⊘ vb) hi ≡ true
+      → (1 ≡ length (quotient a b lo hi)) × (set out 0 (neg va ⊘ vb) ≡ quotient a b lo hi ++ drop 1 out)
   one h ex ey = let e = is true true ex ey in (sym (ap length e), first out h ∙ sym (ap (λ (l : List Float). l ++ drop 1 out) e))
     where
       first : (l : List Float) → 0 < length l → set l 0 (neg va ⊘ vb) ≡ (neg va ⊘ vb) ∷ drop 1 l

@@ -17,7 +17,10 @@ module _ (p : List Compensated) (x : Float) (w : List Float) (k : ℕ) where
   pub by-sign : (sign : Float) → k ≤ length w → eq sign zero-float ≡ false → Tells sign p x → Stands sign (evaluate p x) × Front (touched p x (take k w)) w k w
   by-sign sign h z t = let d = t z in ((z ∙ sym (d .0 .1), sym (d .0 .0)), left w (near-zero p x) k (put x (take k w)) (d .1) h)
 
-  pub by-value : (v : Float) (r : ℕ) (after : List Float) → v ≡ evaluate p x → Front (cond (value-near p x v) (put x (take k w)) (take k w)) w r after → Stands v (evaluate p x) × Front (touched p x (take k w)) w r after
+  pub by-value : (v : Float) (r : ℕ) (after : List Float) → v ≡ evaluate p x → Front (cond (value-near p x v) (put x (take k w)) (take k w)) w r after
+      → Stands v (evaluate p x) × Front (touched p x (take k w)) w r after
   unfolding near-zero
-  by-value v r after e f =
-      ((ap (λ (z : Float). eq z zero-float) e, ap negative e), subst (λ (z : Float). Front (cond (value-near p x z) (put x (take k w)) (take k w)) w r after) e f)
+  by-value v r after e f = (
+    (ap (λ (z : Float). eq z zero-float) e, ap negative e),
+    subst (λ (z : Float). Front (cond (value-near p x z) (put x (take k w)) (take k w)) w r after) e f,
+  )

@@ -1,4 +1,5 @@
--- What the loop of `scan` keeps, from its first point to its last: the first k places hold the cuts so far, behind them stands what stood there at the loop's start, and a run over the points to come gives the whole.
+-- What the loop of `scan` keeps, from its first point to its last: the first k places hold the cuts so far, behind them
+-- stands what stood there at the loop's start, and a run over the points to come gives the whole.
 use Prim.Native.Nat.{ℕ, suc, _+_, _≤_, _<_}
 use native.Mathlib.Nat.{le-refl}
 use native.Mathlib.Numerals.{add-one}
@@ -19,16 +20,19 @@ use Rattle.polynomial.proofs.roots.Kept.{Front, front-of, front-take, f
 use Rattle.polynomial.proofs.roots.Events.{between, run, scanned, touched-most, touched-least, crossed-most, crossed-least}
 
 -- a crossing sees the signs of the values alone, and whether one is zero
-across : (f : Float → Float) (lo hi u v u' v' : Float) (l : List Float) → Stands u u' → Stands v v' → crossed f (record { lo = lo; hi = hi; u = u; v = v }) l ≡ crossed f (record { lo = lo; hi = hi; u = u'; v = v' }) l
+across : (f : Float → Float) (lo hi u v u' v' : Float) (l : List Float) → Stands u u' → Stands v v'
+    → crossed f (record { lo = lo; hi = hi; u = u; v = v }) l ≡ crossed f (record { lo = lo; hi = hi; u = u'; v = v' }) l
 across f lo hi u v u' v' l a b = simp (a .0, a .1, b .0, b .1)
 
-run-on : (p : List Compensated) (l : List Float) (a b : Float) (r : List Float) → run p (crossed (evaluate p) (between p a b) (touched p b l)) b r ≡ run p l a (b ∷ r)
+run-on : (p : List Compensated) (l : List Float) (a b : Float) (r : List Float)
+    → run p (crossed (evaluate p) (between p a b) (touched p b l)) b r ≡ run p l a (b ∷ r)
 unfolding run
 run-on p l a b r = refl
 
 -- ---- the loop
 
-pub record Scanned (p : List Compensated) (points : List Float) (count : ℕ) (from : List Float) (first : ℕ) (out : List Float) (lo u : Float) (k i : ℕ) : Type 0 where
+pub record Scanned (p : List Compensated) (points : List Float) (count : ℕ) (from : List Float) (first : ℕ) (out : List Float) (lo u : Float)
+    (k i : ℕ) : Type 0 where
   pub within : i ≤ count
   pub few : k < i + i
   pub same : length out ≡ length from
@@ -40,7 +44,8 @@ pub record Scanned (p : List Compensated) (points : List Float) (count : ℕ) (f
   pub result : run p (take k out) lo (slice i count points) ≡ cuts (touches p (take count points) ++ crossings p (take count points))
 
 module _ (p : List Compensated) (points : List Float) (count : ℕ) (h : count ≤ length points) where
-  pub scan-first : (room : List Float) (d u : Float) (k : ℕ) (out : List Float) → count + count ≤ length room → 0 < count → Ready (take count points) → Stands u (evaluate p (getD points 0 d))
+  pub scan-first : (room : List Float) (d u : Float) (k : ℕ) (out : List Float) → count + count ≤ length room → 0 < count → Ready (take count points)
+      → Stands u (evaluate p (getD points 0 d))
       → Front (touched p (getD points 0 d) (take 0 room)) room k out → Scanned p points count out k out (getD points 0 d) u k 1
   scan-first room d u k out w z ready e f =
       let x = getD points 0 d in
@@ -63,7 +68,8 @@ module _ (p : List Compensated) (points : List Float) (count : ℕ) (h : count �
             ∙ ap (λ (l : List Float). cuts (touches p l ++ crossings p l)) (sym s);
       }
 
-  module _ (from : List Float) (first : ℕ) (out : List Float) (lo u : Float) (k i : ℕ) (s : Scanned p points count from first out lo u k i) (c : i < count) (d : Float) where
+  module _ (from : List Float) (first : ℕ) (out : List Float) (lo u : Float) (k i : ℕ) (s : Scanned p points count from first out lo u k i)
+      (c : i < count) (d : Float) where
     at-i : slice i count points ≡ getD points i d ∷ slice (suc i) count points
     at-i = slice-cons i count points d c h
 
@@ -99,7 +105,8 @@ module _ (p : List Compensated) (points : List Float) (count : ℕ) (h : count �
       pub cross-room : k₁ < length out₁
       cross-room = let a = touched-few in let b = touched-same in let r = s .few in let q = s .room in let y = s .same in omega arith
 
-      pub scan-more : (k₂ : ℕ) (out₂ : List Float) → Front (crossed (evaluate p) (record { lo = lo; hi = getD points i d; u = u; v = v }) (take k₁ out₁)) out₁ k₂ out₂
+      pub scan-more : (k₂ : ℕ) (out₂ : List Float)
+          → Front (crossed (evaluate p) (record { lo = lo; hi = getD points i d; u = u; v = v }) (take k₁ out₁)) out₁ k₂ out₂
           → Scanned p points count from first out₂ (getD points i d) v k₂ (i + 1)
       scan-more k₂ out₂ g =
           let x = getD points i d in
@@ -141,7 +148,8 @@ module _ (p : List Compensated) (points : List Float) (count : ℕ) (h : count �
           }
 
   -- `room` was lent, and the first point looked at there
-  pub scan-last : (room from : List Float) (d : Float) (first : ℕ) (out : List Float) (lo u : Float) (k i : ℕ) → Front (touched p (getD points 0 d) (take 0 room)) room first from → Scanned p points count from first out lo u k i → count ≤ i
+  pub scan-last : (room from : List Float) (d : Float) (first : ℕ) (out : List Float) (lo u : Float) (k i : ℕ)
+      → Front (touched p (getD points 0 d) (take 0 room)) room first from → Scanned p points count from first out lo u k i → count ≤ i
       → Front (cuts (touches p (take count points) ++ crossings p (take count points))) room k out
   unfolding run
   scan-last room from d first out lo u k i f s c =
@@ -152,4 +160,5 @@ module _ (p : List Compensated) (points : List Float) (count : ℕ) (h : count �
       let e : i ≡ count = omega arith in
       let n : slice i count points ≡ [] = ap (λ (j : ℕ). slice j count points) e ∙ slice-empty count points in
       let t : take k out ≡ cuts (touches p (take count points) ++ crossings p (take count points)) = sym (ap (run p (take k out) lo) n) ∙ s .result in
-      front-of _ room out k (omega (arith, length-take k out, ap length t)) t (s .rest k (le-refl k) ∙ front-rest (touched p (getD points 0 d) []) room from first f k (s .grown))
+      front-of _ room out k (omega (arith, length-take k out, ap length t)) t
+      (s .rest k (le-refl k) ∙ front-rest (touched p (getD points 0 d) []) room from first f k (s .grown))

@@ -1,4 +1,4 @@
--- Bounds that pass the operation's test are an interval that can be halved, so that the laws of `Enclosed` hold.
+-- Bounds that pass the operation's test are an interval that can be bisected, so that the laws of `Enclosed` hold.
 use mathlib.Core.Path.{_≡_, sym, subst}
 use mathlib.Core.Bool.{true}
 use lib.Dec.{T, lit<}

@@ -3,7 +3,8 @@
 -- A list of cuts increases strictly, and a list that does is its own list of cuts.
 use mathlib.Core.Path.{_≡_, refl, sym, ap, subst, _∙_}
 use mathlib.Core.Bool.{Bool, true, false, not, cond}
-use mathlib.Core.List.{List, [], _∷_, _++_, List·Permᴰ, List·Permᴰ·nil, List·Permᴰ·cons, List·Permᴰ·swap, List·Permᴰ·trans, Permᴰ·symm, Permᴰ·middle, Permᴰ·append-nil}
+use mathlib.Core.List.{List, [], _∷_, _++_, List·Permᴰ, List·Permᴰ·nil}
+use mathlib.Core.List.{List·Permᴰ·cons, List·Permᴰ·swap, List·Permᴰ·trans, Permᴰ·symm, Permᴰ·middle, Permᴰ·append-nil}
 use lib.Dec.{T}
 use Prim.Native.Nat.{ℕ, suc, _≤_}
 use native.Mathlib.Nat.{le-refl}
@@ -315,7 +316,8 @@ put-twice v (y ∷ l) n = go (total-le v y) refl (eq y v) refl (eq v y) refl (pu
     go false a b e false c ih = simp (a, c, ih)
 
 -- a value that a list of cuts was made of is in it already
-pub absorb : (v : Float) (a b : List Float) → T (not (isNan v)) → T (fits binary64 v) → Fit a → Fit b → put v (cuts (cuts (v ∷ a) ++ b)) ≡ cuts (cuts (v ∷ a) ++ b)
+pub absorb : (v : Float) (a b : List Float) → T (not (isNan v)) → T (fits binary64 v) → Fit a → Fit b
+    → put v (cuts (cuts (v ∷ a) ++ b)) ≡ cuts (cuts (v ∷ a) ++ b)
 absorb v a b n h f g =
     let e : cuts (cuts (v ∷ a) ++ b) ≡ put v (cuts (a ++ b)) = cuts-left (v ∷ a) b (h, f) g ∙ cuts-cons v (a ++ b) in
     rw e (put-twice v (cuts (a ++ b)) n)

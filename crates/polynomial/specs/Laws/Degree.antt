@@ -1,4 +1,5 @@
--- The degree falls: a trimmed polynomial is no longer, its derivative is one coefficient shorter. So any count as large as the number of coefficients gives the same roots,
+-- The degree falls: a trimmed polynomial is no longer, its derivative is one coefficient shorter.
+-- So any count as large as the number of coefficients gives the same roots,
 -- and each way through `roots-at` is an equation without the count.
 use Prim.Native.Nat.{ℕ, zero, suc, _-_, _≤_, _<_, zero-le, suc-le-suc}
 use native.Mathlib.Nat.{le-refl, le-trans, le-of-suc-le-suc, eq-zero-or-pos, not-suc-le-zero}
@@ -11,7 +12,7 @@ use lib.ListN.{length, getD}
 use lib.Ieee.{Float}
 use Rattle.polynomial.specs.Compensated.{is-zero}
 use Rattle.polynomial.specs.Cuts.{cuts}
-use Rattle.polynomial.specs.Polynomial.{nothing, kept, trim, all-finite, powered, derivative}
+use Rattle.polynomial.specs.Polynomial.{zero-pair, kept, trim, all-finite, powered, derivative}
 use Rattle.polynomial.specs.Roots.{partitions, touches, crossings, quotient, by-count, roots-at, roots}
 use Rattle.polynomial.specs.declared.compensated.Compensated.{Compensated}
 
@@ -72,7 +73,7 @@ module _ (p : List Compensated) (lower upper : Float) where
   count-low (suc zero) a h = refl
   count-low (suc (suc m)) a h = absurd (not-suc-le-zero (le-of-suc-le-suc (le-of-suc-le-suc h)))
 
-  count-two : (a : Unit {0} → List Float) → by-count 2 p lower upper a ≡ quotient (getD p 0 nothing) (getD p 1 nothing) lower upper
+  count-two : (a : Unit {0} → List Float) → by-count 2 p lower upper a ≡ quotient (getD p 0 zero-pair) (getD p 1 zero-pair) lower upper
   unfolding by-count
   count-two a = refl
 
@@ -111,9 +112,9 @@ module _ (lower upper : Float) where
 -- ---- each way through `roots-at`: q is the trimmed polynomial, and m of its coefficients count
 
 module _ (n m : ℕ) (p q : List Compensated) (lower upper : Float) (e : q ≡ trim p) (M : counted q ≡ m) (h : length p ≤ n) where
-  turned : (k : ℕ) → n ≡ suc k → roots-at n p lower upper ≡ by-count m q lower upper (λ _. roots-at k (derivative q) lower upper)
+  one-degree : (k : ℕ) → n ≡ suc k → roots-at n p lower upper ≡ by-count m q lower upper (λ _. roots-at k (derivative q) lower upper)
   unfolding roots-at
-  turned k s =
+  one-degree k s =
       ap (λ (j : ℕ). roots-at j p lower upper) s
       ∙ ap (λ (l : List Compensated). by-count (counted l) l lower upper (λ _. roots-at k (derivative l) lower upper)) (sym e)
       ∙ ap (λ (j : ℕ). by-count j q lower upper (λ _. roots-at k (derivative q) lower upper)) M
@@ -123,13 +124,17 @@ module _ (n m : ℕ) (p q : List Compensated) (lower upper : Float) (e : q ≡ t
 
   -- a constant, or a part that is not finite
   pub none-left : m < 2 → roots-at n p lower upper ≡ []
-  none-left s = elim (eq-zero-or-pos n) [ inl z ↦ none-of-none lower upper n p (omega arith) | inr z ↦ turned (n - 1) (omega arith) ∙ count-low q lower upper m (λ _. roots-at (n - 1) (derivative q) lower upper) s ]
+  none-left s = elim (eq-zero-or-pos n) [
+    | inl z ↦ none-of-none lower upper n p (omega arith)
+    | inr z ↦ one-degree (n - 1) (omega arith)
+        ∙ count-low q lower upper m (λ _. roots-at (n - 1) (derivative q) lower upper) s
+  ]
 
   -- a line
-  pub two-left : m ≡ 2 → roots-at n p lower upper ≡ quotient (getD q 0 nothing) (getD q 1 nothing) lower upper
+  pub two-left : m ≡ 2 → roots-at n p lower upper ≡ quotient (getD q 0 zero-pair) (getD q 1 zero-pair) lower upper
   two-left s =
       let f = fewer in
-      turned (n - 1) (omega arith)
+      one-degree (n - 1) (omega arith)
       ∙ ap (λ (j : ℕ). by-count j q lower upper (λ _. roots-at (n - 1) (derivative q) lower upper)) s
       ∙ count-two q lower upper (λ _. roots-at (n - 1) (derivative q) lower upper)
 
@@ -138,6 +143,6 @@ module _ (n m : ℕ) (p q : List Compensated) (lower upper : Float) (e : q ≡ t
   more-left l s =
       let f = fewer in
       let d = derivative-length q in
-      turned (n - 1) (omega arith)
+      one-degree (n - 1) (omega arith)
       ∙ count-high q lower upper m (λ _. roots-at (n - 1) (derivative q) lower upper) s
       ∙ ap (λ (l : List Float). found q (partitions lower upper l)) (enough lower upper (n - 1) (m - 1) (derivative q) (omega arith) (omega arith))

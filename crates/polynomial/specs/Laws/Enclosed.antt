@@ -1,5 +1,6 @@
--- For bounds that can be halved, `Span 2 lower upper`: every root and every partition point is a finite float of the format between the bounds, so none is a NaN. Points and roots increase strictly,
--- so that two neighbouring points are an interval that can be halved. A polynomial of trimmed degree d ≥ 1 has at most 2 ^ (d + 1) - 3 roots.
+-- For bounds that can be bisected, `Span 2 lower upper`: every root and every partition point is a finite float
+-- of the format between the bounds, so none is a NaN. Points and roots increase strictly,
+-- so that two neighbouring points are an interval that can be bisected. A polynomial of trimmed degree d ≥ 1 has at most 2 ^ (d + 1) - 3 roots.
 use Prim.Native.Nat.{ℕ, zero, suc, _+_, _-_, _*_, _^_, _≤_, _<_, zero-le, suc-le-suc}
 use native.Mathlib.Nat.{le-refl, le-of-lt, le-trans, le-suc, le-of-suc-le-suc, pow-suc}
 use native.Mathlib.Omega.{arith}
@@ -24,13 +25,13 @@ use Rattle.float.specs.Promises.Order.{Span}
 use Rattle.polynomial.specs.Compensated.{value}
 use Rattle.polynomial.specs.Cuts.{cuts, put}
 use Rattle.polynomial.specs.Promises.Inside.{Ready}
-use Rattle.polynomial.specs.Polynomial.{nothing, evaluate, near-zero, trim, derivative}
+use Rattle.polynomial.specs.Polynomial.{zero-pair, evaluate, near-zero, trim, derivative}
 use Rattle.polynomial.specs.Roots.{partitions, touches, crosses, crossing, crossings, bisected, quotient, by-count, roots-at, roots}
 use Rattle.polynomial.specs.declared.compensated.Compensated.{Compensated}
 use Rattle.polynomial.specs.Promises.Lists.{Fit}
 use Rattle.polynomial.specs.Laws.Cuts.{cuts-cons, put-most, put-longer, Above, Strict, strict-cuts, cuts-strict, cuts-snoc, all-cuts}
 use Rattle.polynomial.specs.Laws.Degree.{trim-short, derivative-length, counted, counted-short, count-low, enough}
-use Rattle.polynomial.specs.Laws.Halving.{Between, bisected-in}
+use Rattle.polynomial.specs.Laws.Bisection.{Between, bisected-in}
 use Rattle.polynomial.specs.Promises.Lists.{All}
 use Rattle.polynomial.specs.Laws.Lists.{all-append}
 
@@ -79,7 +80,7 @@ module _ (lower upper : Float) where
   unfolding by-count
   count-strict zero p inner = tt
   count-strict (suc zero) p inner = tt
-  count-strict (suc (suc zero)) p inner = quotient-strict (getD p 0 nothing) (getD p 1 nothing) lower upper
+  count-strict (suc (suc zero)) p inner = quotient-strict (getD p 0 zero-pair) (getD p 1 zero-pair) lower upper
   count-strict (suc (suc (suc m))) p inner = let points = partitions lower upper (inner tt) in strict-cuts (touches p points ++ crossings p points)
 
   -- the roots are their own cuts
@@ -140,7 +141,8 @@ module _ (lower upper : Float) (s : Span 2 lower upper) where
 
   module _ (inner : List Float) (h : All (Between lower upper) inner) where
     pub points-in : All (Between lower upper) (partitions lower upper inner)
-    points-in = all-cuts (Between lower upper) (lower ∷ (inner ++ (upper ∷ []))) (at-lower, all-append (Between lower upper) inner (upper ∷ []) h (at-upper, tt))
+    points-in = all-cuts (Between lower upper) (lower ∷ (inner ++ (upper ∷ [])))
+        (at-lower, all-append (Between lower upper) inner (upper ∷ []) h (at-upper, tt))
 
     pub points-rising : Rising (partitions lower upper inner)
     points-rising = rising (partitions lower upper inner) points-in (strict-cuts (lower ∷ (inner ++ (upper ∷ []))))
@@ -151,7 +153,8 @@ module _ (lower upper : Float) (s : Span 2 lower upper) where
     -- the bounds put into a list of cuts
     pub points-put : Strict inner → put upper (put lower inner) ≡ partitions lower upper inner
     points-put r =
-        sym (cuts-snoc (lower ∷ inner) upper (s .lo-fits, fit-all inner h) (s .hi-fits) ∙ ap (put upper) (cuts-cons lower inner ∙ ap (put lower) (cuts-strict inner r)))
+        sym (cuts-snoc (lower ∷ inner) upper (s .lo-fits, fit-all inner h) (s .hi-fits)
+        ∙ ap (put upper) (cuts-cons lower inner ∙ ap (put lower) (cuts-strict inner r)))
 
   -- ---- roots
 
@@ -189,16 +192,18 @@ module _ (lower upper : Float) (s : Span 2 lower upper) where
       go false true f = tt
       go false false f = tt
 
-  count-in : (m : ℕ) (p : List Compensated) (inner : Unit {0} → List Float) → All (Between lower upper) (inner tt) → All (Between lower upper) (by-count m p lower upper inner)
+  count-in : (m : ℕ) (p : List Compensated) (inner : Unit {0} → List Float) → All (Between lower upper) (inner tt)
+      → All (Between lower upper) (by-count m p lower upper inner)
   unfolding by-count
   count-in zero p inner h = tt
   count-in (suc zero) p inner h = tt
-  count-in (suc (suc zero)) p inner h = quotient-in (getD p 0 nothing) (getD p 1 nothing)
+  count-in (suc (suc zero)) p inner h = quotient-in (getD p 0 zero-pair) (getD p 1 zero-pair)
   count-in (suc (suc (suc m))) p inner h =
       let points = partitions lower upper (inner tt) in
       let i = points-in (inner tt) h in
       all-cuts (Between lower upper) (touches p points ++ crossings p points)
-      (all-append (Between lower upper) (touches p points) (crossings p points) (touches-all (Between lower upper) p points i) (crossings-in p points i (points-ready (inner tt) h)))
+      (all-append (Between lower upper) (touches p points) (crossings p points) (touches-all (Between lower upper) p points i)
+      (crossings-in p points i (points-ready (inner tt) h)))
 
   pub roots-in : (n : ℕ) (p : List Compensated) → All (Between lower upper) (roots-at n p lower upper)
   unfolding roots-at
@@ -226,7 +231,8 @@ put-some v (y ∷ l) = let k = put-longer v (y ∷ l) in omega arith
 touches-short : (p : List Compensated) (l : List Float) → length (touches p l) ≤ length l
 unfolding touches
 touches-short p [] = zero-le
-touches-short p (x ∷ l) = cond-le (near-zero p x) (x ∷ touches p l) (touches p l) (suc (length l)) (suc-le-suc (touches-short p l)) (le-trans (touches-short p l) (le-suc (length l)))
+touches-short p (x ∷ l) = cond-le (near-zero p x) (x ∷ touches p l) (touches p l) (suc (length l)) (suc-le-suc (touches-short p l))
+    (le-trans (touches-short p l) (le-suc (length l)))
 
 crossings-short : (p : List Compensated) (l : List Float) → length (crossings p l) ≤ length l - 1
 unfolding crossings
@@ -234,7 +240,8 @@ crossings-short p [] = zero-le
 crossings-short p (a ∷ []) = zero-le
 crossings-short p (a ∷ (b ∷ l)) = go (crosses (evaluate p a) (evaluate p b)) (crossings-short p (b ∷ l))
   where
-    go : (c : Bool) → length (crossings p (b ∷ l)) ≤ suc (length l) - 1 → length (crossing c (λ _. bisected (evaluate p) (not (negative (evaluate p a))) a b) (crossings p (b ∷ l))) ≤ suc (suc (length l)) - 1
+    go : (c : Bool) → length (crossings p (b ∷ l)) ≤ suc (length l) - 1
+        → length (crossing c (λ _. bisected (evaluate p) (not (negative (evaluate p a))) a b) (crossings p (b ∷ l))) ≤ suc (suc (length l)) - 1
     go true k = omega arith
     go false k = omega arith
 
@@ -254,12 +261,13 @@ module _ (lower upper : Float) where
   pub points-some : (inner : List Float) → 0 < length (partitions lower upper inner)
   points-some inner = rw (cuts-cons lower (inner ++ (upper ∷ []))) (put-some lower (cuts (inner ++ (upper ∷ []))))
 
-  count-few : (m k : ℕ) (p : List Compensated) (inner : Unit {0} → List Float) → m ≤ suc k → length (inner tt) ≤ 2 ^ k - 3 → length (by-count m p lower upper inner) ≤ 2 ^ suc k - 3
+  count-few : (m k : ℕ) (p : List Compensated) (inner : Unit {0} → List Float) → m ≤ suc k → length (inner tt) ≤ 2 ^ k - 3
+      → length (by-count m p lower upper inner) ≤ 2 ^ suc k - 3
   unfolding by-count
   count-few zero k p inner h g = zero-le
   count-few (suc zero) k p inner h g = zero-le
   count-few (suc (suc zero)) k p inner h g =
-      let z = quotient-short (getD p 0 nothing) (getD p 1 nothing) lower upper in
+      let z = quotient-short (getD p 0 zero-pair) (getD p 1 zero-pair) lower upper in
       let w : 2 ^ 1 ≤ 2 ^ k = pow-mono (le-of-suc-le-suc h) in
       let e : 2 ^ suc k ≡ 2 ^ k * 2 = pow-suc 2 k in
       omega arith
@@ -306,7 +314,8 @@ module _ (lower upper : Float) where
           let t = trim-short p in
           let d = derivative-length q in
           count-few (counted q) j q inner (omega arith)
-          (subst (λ (l : List Float). length l ≤ 2 ^ j - 3) (enough lower upper j k (derivative q) (omega arith) (omega arith)) (roots-most j (derivative q) (omega arith)))
+          (subst (λ (l : List Float). length l ≤ 2 ^ j - 3) (enough lower upper j k (derivative q) (omega arith) (omega arith))
+          (roots-most j (derivative q) (omega arith)))
 
 -- ---- the same of `roots`, whose count is the number of coefficients
 

@@ -90,7 +90,8 @@ room-length r n v = go (leb (length (grown r n v)) (length r)) refl
         omega arith
     go false e = refl
 
-pub kept-push : (l r₀ r : List Float) (p : Put) (v : Float) → Fit l → T (fits binary64 v) → Kept l r₀ r p → Kept (l ++ v ∷ []) r₀ (pushRoom r p v) (pushAnswer r p v)
+pub kept-push : (l r₀ r : List Float) (p : Put) (v : Float) → Fit l → T (fits binary64 v) → Kept l r₀ r p
+    → Kept (l ++ v ∷ []) r₀ (pushRoom r p v) (pushAnswer r p v)
 kept-push l r₀ r (Count n) v f g k =
     let h = k .held n refl in record {
       answer-is = answer l r₀ r n v f g h;

@@ -7,7 +7,7 @@ use lib.ListN.{length, take, drop, replicate}
 use lib.Seq.{take-at, drop-at, length-take-le}
 use lib.Ieee.{Float, neg}
 use Rattle.float.specs.Number.{one-float}
-use Rattle.polynomial.specs.Polynomial.{nothing, nine, add, coefficients, multiply, determinant}
+use Rattle.polynomial.specs.Polynomial.{zero-pair, nine, add, coefficients, multiply, determinant}
 use Rattle.polynomial.specs.Curve.{numerator, times-each, target, norm-polynomial}
 use Rattle.polynomial.specs.declared.compensated.Compensated.{Compensated}
 use Rattle.polynomial.specs.declared.curve.Harmonic.{Harmonic}
@@ -15,11 +15,11 @@ use Rattle.polynomial.specs.declared.curve.Harmonic.{Harmonic}
 -- the coefficients, and the zeros behind them
 pub front : (r l : List Compensated) (k : ℕ) → length l ≡ k → r ≡ nine l → take k r ≡ l
 unfolding nine
-front r l k h e = ap (take k) e ∙ take-at l (replicate (9 - length l) nothing) k h
+front r l k h e = ap (take k) e ∙ take-at l (replicate (9 - length l) zero-pair) k h
 
-behind : (r l : List Compensated) (k : ℕ) → length l ≡ k → r ≡ nine l → drop k r ≡ replicate (9 - k) nothing
+behind : (r l : List Compensated) (k : ℕ) → length l ≡ k → r ≡ nine l → drop k r ≡ replicate (9 - k) zero-pair
 unfolding nine
-behind r l k h e = ap (drop k) e ∙ drop-at l (replicate (9 - length l) nothing) k h ∙ ap (λ (j : ℕ). replicate (9 - j) nothing) h
+behind r l k h e = ap (drop k) e ∙ drop-at l (replicate (9 - length l) zero-pair) k h ∙ ap (λ (j : ℕ). replicate (9 - j) zero-pair) h
 
 length-add : (a b : List Compensated) (scale : Float) → length (add a b scale) ≡ max (length a) (length b)
 unfolding add
@@ -57,14 +57,15 @@ module _ (r a b : List Compensated) (n : ℕ) where
         let l = length-multiply (take n a) (take m b) in
         front r (multiply (take n a) (take m b)) (n + m - 1) (omega arith) e
 
-    pub multiply-behind : r ≡ nine (multiply (take n a) (take m b)) → n ≤ length a → m ≤ length b → drop (n + m - 1) r ≡ replicate (9 - (n + m - 1)) nothing
+    pub multiply-behind : r ≡ nine (multiply (take n a) (take m b)) → n ≤ length a → m ≤ length b → drop (n + m - 1) r ≡ replicate (9 - (n + m - 1)) zero-pair
     multiply-behind e h k =
         let x = length-take-le n a h in
         let y = length-take-le m b k in
         let l = length-multiply (take n a) (take m b) in
         behind r (multiply (take n a) (take m b)) (n + m - 1) (omega arith) e
 
-    pub determinant-front : (c d : List Compensated) → r ≡ nine (determinant (take n a) (take m b) (take n c) (take m d)) → n ≤ length a → m ≤ length b → n ≤ length c → m ≤ length d
+    pub determinant-front : (c d : List Compensated) → r ≡ nine (determinant (take n a) (take m b) (take n c) (take m d)) → n ≤ length a
+        → m ≤ length b → n ≤ length c → m ≤ length d
         → take (n + m - 1) r ≡ determinant (take n a) (take m b) (take n c) (take m d)
     determinant-front c d e h k p q =
         let x = length-take-le n a h in

@@ -1,4 +1,5 @@
--- How many roots a squared norm has. A half of the turn has a polynomial of five coefficients, so at most 2 ^ 5 - 3 = 29 roots; the cuts of both halves are at most 58.
+-- How many roots a squared norm has. A half of the turn has a polynomial of five coefficients,
+-- so at most 2 ^ 5 - 3 = 29 roots; the cuts of both halves are at most 58.
 use Prim.Native.Nat.{_≤_}
 use native.Mathlib.Omega.{arith}
 use mathlib.Core.Path.{_≡_, refl}

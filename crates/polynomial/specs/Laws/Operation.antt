@@ -17,7 +17,7 @@ use Rattle.polynomial.specs.Operation.{pairs, bad-length, bounds-hold, p
 use Rattle.polynomial.specs.Curve.{all-hold, inner-holds}
 use Rattle.polynomial.specs.Promises.Lists.{All}
 use Rattle.polynomial.specs.Laws.Bounds.{bounds-span}
-use Rattle.polynomial.specs.Laws.Halving.{Between}
+use Rattle.polynomial.specs.Laws.Bisection.{Between}
 use Rattle.polynomial.specs.Laws.Enclosed.{Rising, all-few, all-in, all-rising}
 use Rattle.polynomial.specs.declared.compensated.Compensated.{Compensated}
 use Rattle.polynomial.specs.declared.operation.Answer.{Answer}

@@ -13,21 +13,23 @@ use Rattle.float.specs.Laws.Within.{held, within→Le, rem-within}
 use Rattle.float.specs.Laws.Interval.{In, in-self, in-wider, in-within, within-in, add-in, sub-in}
 use Rattle.float.specs.Laws.Range.{lt→Le, nlt→Le}
 use Rattle.float.specs.Laws.Extremes.{largest, held-largest}
-use Rattle.polynomial.specs.Angle.{turn, wrapped-angle}
+use Rattle.polynomial.specs.Angle.{two-pi, wrapped-angle}
 
 -- ---- the remainder of a turn lies in the turn
-turned-in : (x : Float) → T (finite x) → In zero-float turn (rem-euclid x turn)
+remainder-in : (x : Float) → T (finite x) → In zero-float two-pi (rem-euclid x two-pi)
 unfolding rem-euclid abs neg add le
-turned-in x p = go (lt (rem binary64 x turn) zero-float) (lt→Le (rem binary64 x turn) zero-float (w .real) tt) (nlt→Le (rem binary64 x turn) zero-float (w .real) tt)
+remainder-in x p = go (lt (rem binary64 x two-pi) zero-float) (lt→Le (rem binary64 x two-pi) zero-float (w .real) tt)
+    (nlt→Le (rem binary64 x two-pi) zero-float (w .real) tt)
   where
-    w : Within turn (rem binary64 x turn)
-    w = rem-within binary64 x turn tt p (zero-lt-suc 884279719003554)
+    w : Within two-pi (rem binary64 x two-pi)
+    w = rem-within binary64 x two-pi tt p (zero-lt-suc 884279719003554)
 
-    l : Le (rem binary64 x turn) turn × Le (neg turn) (rem binary64 x turn)
+    l : Le (rem binary64 x two-pi) two-pi × Le (neg two-pi) (rem binary64 x two-pi)
     l = within→Le tt tt w
 
-    go : (b : Bool) → (T b → Le (rem binary64 x turn) zero-float) → (T (not b) → Le zero-float (rem binary64 x turn)) → In zero-float turn (cond b (rem binary64 x turn ⊕ turn) (rem binary64 x turn))
-    go true h k = in-wider zero-float turn tt (add-in binary64 tt (record { lower = l .1; upper = h tt }) (in-self turn tt))
+    go : (b : Bool) → (T b → Le (rem binary64 x two-pi) zero-float) → (T (not b) → Le zero-float (rem binary64 x two-pi))
+        → In zero-float two-pi (cond b (rem binary64 x two-pi ⊕ two-pi) (rem binary64 x two-pi))
+    go true h k = in-wider zero-float two-pi tt (add-in binary64 tt (record { lower = l .1; upper = h tt }) (in-self two-pi tt))
     go false h k = record { lower = k tt; upper = l .0 }
 
 -- ---- a finite angle plus P is finite
@@ -38,8 +40,8 @@ plus-finite x t = in-wider (neg largest) largest tt (add-in binary64 tt (within-
 -- ---- the law
 pub wrapped-fits : (x : Float) → T (fits binary64 (wrapped-angle x))
 unfolding wrapped-angle
-wrapped-fits x = sub-fits binary64 (rem-euclid (x ⊕ P) turn) P
+wrapped-fits x = sub-fits binary64 (rem-euclid (x ⊕ P) two-pi) P
 
 pub wrapped-within : (x : Float) → T (held binary64 x) → Within P (wrapped-angle x)
 unfolding wrapped-angle neg sub le
-wrapped-within x t = in-within tt (in-wider (neg P) P tt (sub-in binary64 tt (turned-in (x ⊕ P) (plus-finite x t)) (in-self P tt)))
+wrapped-within x t = in-within tt (in-wider (neg P) P tt (sub-in binary64 tt (remainder-in (x ⊕ P) (plus-finite x t)) (in-self P tt)))

@@ -1,4 +1,5 @@
--- A list of cuts that grows in a lent slice: what stands there, whether or not there are places. Definitions only; `Laws.Held` has what a loop around `insert` keeps.
+-- A list of cuts that grows in a lent slice: what stands there, whether or not there are
+-- places. Definitions only; `Laws.Held` has what a loop around `insert` keeps.
 use mathlib.Core.Path.{_≡_}
 use mathlib.Core.Bool.{cond}
 use mathlib.Core.List.{List, _++_}

@@ -1,4 +1,5 @@
--- What an inner call of the root finder promises: the number of roots, or that the call is refused, and the list that then stands in the lent slice. Nothing that a public contract of an upper crate says.
+-- What an inner call of the root finder promises: the number of roots, or that the call is refused, and the list
+-- that then stands in the lent slice. Nothing that a public contract of an upper crate says.
 use mathlib.Core.Bool.{cond}
 use Prim.Native.Nat.{ℕ}
 use mathlib.Core.List.{List, []}

@@ -1,4 +1,5 @@
--- What the inner functions of the root finder ask and promise: an interval can be halved where it is a `Span 2`, two floats within ±4 in order. Nothing that a public contract says.
+-- What the inner functions of the root finder ask and promise: an interval can be bisected where it is a
+-- `Span 2`, two floats within ±4 in order. Nothing that a public contract says.
 use Prim.Native.Nat.{_<_}
 use mathlib.Core.Path.{_≡_}
 use mathlib.Core.List.{List, [], _∷_}
@@ -14,10 +15,10 @@ use Rattle.polynomial.specs.declared.compensated.Compensated.{Compensate
 use Rattle.polynomial.specs.declared.roots.Interval.{Interval}
 use Rattle.polynomial.specs.declared.polynomial.Three.{Three}
 use Rattle.polynomial.specs.declared.polynomial.Three.the-variants.{Values, Unknown}
-use Rattle.polynomial.specs.declared.halving.Turn.{Turn}
-use Rattle.polynomial.specs.declared.halving.Turn.the-variants.{Done, Upper, Lower}
-use Rattle.polynomial.specs.declared.halving.Left.{Left}
-use Rattle.polynomial.specs.declared.halving.Left.the-variants.{Result, Between}
+use Rattle.polynomial.specs.declared.bisection.Step.{Step}
+use Rattle.polynomial.specs.declared.bisection.Step.the-variants.{Done, Upper, Lower}
+use Rattle.polynomial.specs.declared.bisection.Left.{Left}
+use Rattle.polynomial.specs.declared.bisection.Left.the-variants.{Result, Between}
 
 -- each two neighbours are such an interval
 abbrev pub Ready : List Float → Type 0
@@ -42,25 +43,26 @@ abbrev pub Known : (Float → Float) → Float → Float → Float → Three →
 Known f x y z (Values u v w) = (u ≡ f x) × (v ≡ f y) × (w ≡ f z)
 Known f x y z Unknown = Unit {0}
 
--- A turn of the halving: m is the middle, v the value there, p whether the value at lo is positive. It says the result, or the half to go on in.
-unfoldable pub turned : Float → Float → Float → Float → Bool → Turn
-turned lo hi m v p = cond (eq m lo) (Done m) (cond (eq m hi) (Done m) (cond (eq v zero-float) (Done (middle m m)) (cond (Bool·beq (not (negative v)) p) Upper Lower)))
+-- A step of the bisection: m is the middle, v the value there, p whether the value at lo is positive. It says the result, or the half to go on in.
+unfoldable pub step-at : Float → Float → Float → Float → Bool → Step
+step-at lo hi m v p = cond (eq m lo) (Done m) (cond (eq m hi) (Done m)
+    (cond (eq v zero-float) (Done (middle m m)) (cond (Bool·beq (not (negative v)) p) Upper Lower)))
 
 -- the result, or what is left in the upper half, or in the lower
-abbrev pub goes-on : Turn → Left → Left → Left
+abbrev pub goes-on : Step → Left → Left → Left
 goes-on (Done x) above below = Result x
 goes-on Upper above below = above
 goes-on Lower above below = below
 
--- what a turn leaves
-unfoldable pub halved : Float → Float → Float → Float → Bool → Left
-halved lo hi m v p = goes-on (turned lo hi m v p) (Between m hi) (Between lo m)
+-- what a step leaves
+unfoldable pub narrowed-once : Float → Float → Float → Float → Bool → Left
+narrowed-once lo hi m v p = goes-on (step-at lo hi m v p) (Between m hi) (Between lo m)
 
--- from x to y is narrower than from lo to hi, and the halving of f there ends in the same result
+-- from x to y is narrower than from lo to hi, and the bisection of f there ends in the same result
 abbrev pub Narrower : (Float → Float) → Bool → Float → Float → Float → Float → Type 0
 Narrower f p lo hi x y = (width binary64 x y < width binary64 lo hi) × Span 2 x y × (bisected f p x y ≡ bisected f p lo hi)
 
--- what turns leave of the halving of f from lo to hi: its result, or a narrower interval
+-- what steps leave of the bisection of f from lo to hi: its result, or a narrower interval
 abbrev pub Leaves : (Float → Float) → Bool → Float → Float → Left → Type 0
 Leaves f p lo hi (Result x) = x ≡ bisected f p lo hi
 Leaves f p lo hi (Between x y) = Narrower f p lo hi x y

@@ -1,4 +1,5 @@
--- What plain Horner arithmetic, on the high parts alone, says of a compensated value: where the plain value is far from zero beside the coefficients' magnitudes,
+-- What plain Horner arithmetic, on the high parts alone, says of a compensated value: where
+-- the plain value is far from zero beside the coefficients' magnitudes,
 -- both have one sign, and the compensated value is not near zero. Nothing that a public contract says.
 use mathlib.Core.Path.{_≡_}
 use mathlib.Core.Bool.{Bool, true, false, cond}
@@ -54,9 +55,10 @@ abbrev pub Signed : Bool → Float → Type 0
 Signed minus v = (negative v ≡ minus) × (eq v zero-float ≡ false)
 
 -- The sign, 1 or -1, of the plain value v at a point of this size, where v is far from zero beside the scale, and 0 where it is not.
-unfoldable pub told : Float → Float → Float → Float
-told size v scale =
-    cond (le size one-float) (cond (le least scale) (cond (lt (margin ⊗ scale) v) one-float (cond (lt v (neg (margin ⊗ scale))) (neg one-float) zero-float)) zero-float) zero-float
+unfoldable pub sign-if-sure : Float → Float → Float → Float
+sign-if-sure size v scale =
+    cond (le size one-float) (cond (le least scale) (cond (lt (margin ⊗ scale) v) one-float
+    (cond (lt v (neg (margin ⊗ scale))) (neg one-float) zero-float)) zero-float) zero-float
 
 -- where r is not zero, the value at x has its sign, and is neither zero nor near zero
 abbrev pub Tells : Float → List Compensated → Float → Type 0

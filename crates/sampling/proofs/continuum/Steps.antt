@@ -7,7 +7,7 @@ use lib.Ieee.Scale.{finite}
 use Rattle.float.specs.Number.{_⊕_, _⊖_, _⊘_, abs, clamp, zero-float}
 use Rattle.float.specs.Trig.{hypot, atan2}
 use Rattle.sampling.specs.Continuum.{crossings, error, listed, roots}
-use Rattle.sampling.specs.Promises.Asked.{answer}
+use Rattle.sampling.specs.Promises.Deferred.{angles-of}
 use Rattle.sampling.specs.Promises.Polar.{polar, meets, around}
 use Rattle.sampling.specs.declared.continuum.Trig.{Trig}
 use Rattle.sampling.specs.declared.continuum.Polar.{Polar}
@@ -46,16 +46,18 @@ both-are : (t : Trig) (r f : Float) → r ≡ hypot (t .cosine) (t .sine) → f 
 unfolding polar
 both-are t r f d e = ap (λ (z : Float). both z f) d ∙ ap (λ (z : Float). both (hypot (t .cosine) (t .sine)) z) e
 
-met-apart : (t : Trig) (target r f : Float) (b : Bool) → r ≡ hypot (t .cosine) (t .sine) → f ≡ atan2 (t .sine) (t .cosine) → b ≡ meets t r target → b ≡ true → around t (both r f) target ≡ crossings t target
+met-apart : (t : Trig) (target r f : Float) (b : Bool) → r ≡ hypot (t .cosine) (t .sine) → f ≡ atan2 (t .sine) (t .cosine) → b ≡ meets t r target
+    → b ≡ true → around t (both r f) target ≡ crossings t target
 met-apart t target r f b d e m h = met t target (both r f) b (both-are t r f d e) m h
 
 missed-apart : (t : Trig) (target r : Float) (b : Bool) → r ≡ hypot (t .cosine) (t .sine) → b ≡ meets t r target → b ≡ false → Neither ≡ crossings t target
 missed-apart t target r b d m h = missed t target (both r (atan2 (t .sine) (t .cosine))) b (both-are t r (atan2 (t .sine) (t .cosine)) d refl) m h
 
 -- as a list
-pub met-roots : (t : Trig) (target r v : Float) (b : Bool) → r ≡ hypot (t .cosine) (t .sine) → v ≡ clamp (neg (t .constant ⊖ target) ⊘ r) → b ≡ meets t r target → b ≡ true → answer (t .sine) (t .cosine) v ≡ roots t target
-unfolding answer roots around
-met-roots t target r v b d e m h = ap (answer (t .sine) (t .cosine)) e ∙ ap listed (met-apart t target r (atan2 (t .sine) (t .cosine)) b d refl m h)
+pub met-roots : (t : Trig) (target r v : Float) (b : Bool) → r ≡ hypot (t .cosine) (t .sine) → v ≡ clamp (neg (t .constant ⊖ target) ⊘ r)
+    → b ≡ meets t r target → b ≡ true → angles-of (t .sine) (t .cosine) v ≡ roots t target
+unfolding angles-of roots around
+met-roots t target r v b d e m h = ap (angles-of (t .sine) (t .cosine)) e ∙ ap listed (met-apart t target r (atan2 (t .sine) (t .cosine)) b d refl m h)
 
 pub missed-roots : (t : Trig) (target r : Float) (b : Bool) → r ≡ hypot (t .cosine) (t .sine) → b ≡ meets t r target → b ≡ false → [] ≡ roots t target
 unfolding roots

@@ -68,7 +68,8 @@ module _ (r : Float) (a b w v u : List Float) where
 
 module _ (t : Folded) (lower upper m : Float) (f : T (fits binary64 lower)) (g : T (fits binary64 upper)) (em : m ≡ middle lower upper)
     (cs : List Curve) (ec : cs ≡ curves t) (bs : List Float) (eb : bs ≡ bends t)
-    (x y z : Bool) (ex : x ≡ bend-slices-hold (t .matrix .z) (t .q3) (t .range2) (t .range5)) (ey : y ≡ critical-holds (chart lower m) cs) (ez : z ≡ critical-holds (chart m upper) cs) where
+    (x y z : Bool) (ex : x ≡ bend-slices-hold (t .matrix .z) (t .q3) (t .range2) (t .range5)) (ey : y ≡ critical-holds (chart lower m) cs)
+    (ez : z ≡ critical-holds (chart m upper) cs) where
   hold : (x && (y && z)) ≡ halves-hold t lower upper
   unfolding halves-hold
   hold = rw (ex, ey, ez, ec, em)

@@ -4,8 +4,8 @@ use mathlib.Core.List.{List, [], _++_}
 use Prim.Native.Nat.{ℕ}
 use lib.ListN.{length, drop}
 use lib.Ieee.{Float}
-use Rattle.sampling.specs.SampleAngles as One
-use Rattle.sampling.specs.J1j2free as Two
+use Rattle.sampling.specs.SampleAngles as SampleAngles
+use Rattle.sampling.specs.J1j2free as J1j2free
 use Rattle.sampling.specs.Angles.{first-free, second-free, by-kind, hold, cut-count}
 use Rattle.sampling.specs.Promises.Plan.{free-plan, folded-plan, laid, free-cuts, folded-cuts, all-cuts, granted, plan, zeros, where-laid, work-after}
 use Rattle.sampling.specs.declared.job.Job.{Job}
@@ -17,10 +17,10 @@ module _ (job : Job) (p : Plan) (w after : List Float) where
   -- what `cut` ensures, with the kind by itself
   abbrev pub by : Kind → Type 0
   by k =
-      let holds = by-kind k (One.hold (first-free job)) (One.hold (second-free job)) (Two.hold (Two.folded job)) in
-      let count = by-kind k (One.cut-count (first-free job)) (One.cut-count (second-free job)) (Two.cut-count (Two.folded job)) in
-      let l = by-kind k (free-plan (first-free job)) (free-plan (second-free job)) (folded-plan (Two.folded job)) in
-      let cuts = by-kind k (free-cuts (first-free job)) (free-cuts (second-free job)) (folded-cuts (Two.folded job)) in
+      let holds = by-kind k (SampleAngles.hold (first-free job)) (SampleAngles.hold (second-free job)) (J1j2free.hold (J1j2free.folded job)) in
+      let count = by-kind k (SampleAngles.cut-count (first-free job)) (SampleAngles.cut-count (second-free job)) (J1j2free.cut-count (J1j2free.folded job)) in
+      let l = by-kind k (free-plan (first-free job)) (free-plan (second-free job)) (folded-plan (J1j2free.folded job)) in
+      let cuts = by-kind k (free-cuts (first-free job)) (free-cuts (second-free job)) (folded-cuts (J1j2free.folded job)) in
       (p ≡ granted holds count l (length w)) × (where-laid p after [] ≡ where-laid p (cuts ++ drop count w) [])
 
   pub by-cut : (k : Kind) → job .kind ≡ k → by k
@@ -34,7 +34,7 @@ either-way Short x y other e = refl
 either-way (Lists n) x y other e = e
 either-way (Halves h) x y other e = e
 
--- what `settle` leaves of what `cut` left
+-- what `clear-unlaid` leaves of what `cut` left
 pub settled : (job : Job) (p : Plan) (w x y : List Float) → p ≡ plan job (length w) → length x ≡ length w
     → where-laid p x [] ≡ where-laid p (all-cuts job ++ drop (cut-count job) w) [] → y ≡ where-laid p x (zeros (length x)) → y ≡ work-after job w
 unfolding work-after

@@ -8,8 +8,8 @@ use Rattle.float.specs.MulAdd.{mul-add}
 use Rattle.polynomial.specs.Compensated.{from, plus, times}
 use Rattle.polynomial.specs.Cuts.{cuts}
 use Rattle.polynomial.specs.Polynomial.{horner, evaluate, magnitudes, value-near, near-zero, kept, trim, all-finite, powered, derivative}
-use Rattle.polynomial.specs.Roots.{halvings, bisected, touches, crossings, quotient, by-count, roots-at, roots}
-use Rattle.polynomial.specs.Angle.{wrapped-angle, turn}
+use Rattle.polynomial.specs.Roots.{bisect-steps, bisected, touches, crossings, quotient, by-count, roots-at, roots}
+use Rattle.polynomial.specs.Angle.{wrapped-angle, two-pi}
 use Rattle.polynomial.specs.declared.compensated.Compensated.{Compensated}
 use mathlib.Core.Bool.{true, false}
 use Rattle.float.specs.Trig.{P}
@@ -32,7 +32,8 @@ coefficients (b ∷ bs) = from (ofBits binary64 b) ∷ coefficients bs
 
 -- what is found between two bounds
 found : List ℕ → ℕ → ℕ → List Float
-unfolding roots roots-at by-count quotient crossings touches bisected halvings derivative powered all-finite trim kept near-zero value-near magnitudes evaluate horner cuts times plus mul-add total-le middle abs ofBits ofInt add sub mul div neg eq le lt
+unfolding roots roots-at by-count quotient crossings touches bisected bisect-steps derivative powered all-finite trim kept near-zero value-near
+    magnitudes evaluate horner cuts times plus mul-add total-le middle abs ofBits ofInt add sub mul div neg eq le lt
 found p lower upper = roots (coefficients p) (ofBits binary64 lower) (ofBits binary64 upper)
 
 wrapped : ℕ → Float
@@ -127,7 +128,7 @@ seen-whole : (c : Center) (reference sign : Float) → le P (c .tolerance) ≡ t
 unfolding seen
 seen-whole c reference sign h = rw h
 
-first-is : interval whole (neg turn) ≡ Between (neg P) (neg P)
+first-is : interval whole (neg two-pi) ≡ Between (neg P) (neg P)
 unfolding interval minimum maximum isNan sub le
 first-is = refl
 
@@ -135,7 +136,7 @@ second-is : interval whole zero-float ≡ Between (neg P) P
 unfolding interval minimum maximum isNan sub le
 second-is = refl
 
-third-is : interval whole turn ≡ Between P P
+third-is : interval whole two-pi ≡ Between P P
 unfolding interval minimum maximum isNan sub le
 third-is = refl
 

@@ -13,8 +13,8 @@ use Rattle.sampling.specs.Limits.{limits}
 use Rattle.sampling.specs.Promises.Plan.{Moderate}
 use Rattle.sampling.specs.SampleAngles.{sample-angles}
 use Rattle.sampling.specs.Slices.{slices, among}
-use Rattle.sampling.specs.Laws.Few.{sample-angles-few}
-use Rattle.sampling.specs.Laws.FewCuts.{most-both-cuts, both-cuts-few}
+use Rattle.sampling.specs.Laws.AngleCounts.{sample-angles-few}
+use Rattle.sampling.specs.Laws.SliceCounts.{most-both-cuts, both-cuts-few}
 use Rattle.sampling.specs.Laws.Reference.{reference-number}
 use Rattle.sampling.specs.Laws.Slices.{slices-few, reference-in}
 use Rattle.sampling.specs.declared.intervals.Range.{Range}
@@ -71,5 +71,6 @@ pub reference-stands : (job : Job) (lower upper : Float) → job .kind ≡ J1j2f
     → limits (job .limited) (job .j1) ≡ Between lower upper → among (model-reference (job .j1)) (angles job) ≡ true
 unfolding angles folded
 reference-stands job lower upper k fit j e =
-    subst (λ (z : Kind). among (model-reference (job .j1)) (by-kind z (sample-angles (first-free job)) (sample-angles (second-free job)) (all-slices (folded job))) ≡ true) (sym k)
+    subst (λ (z : Kind). among (model-reference (job .j1)) (by-kind z (sample-angles (first-free job)) (sample-angles (second-free job))
+    (all-slices (folded job))) ≡ true) (sym k)
     (slices-have (folded job) lower upper e (reference-number (job .j1) fit j))

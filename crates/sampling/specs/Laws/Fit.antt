@@ -11,14 +11,14 @@ use Rattle.polynomial.specs.Angle.{wrapped-angle}
 use Rattle.polynomial.specs.Cuts.{cuts}
 use Rattle.polynomial.specs.Promises.Lists.{Fits, Fit}
 use Rattle.polynomial.specs.Laws.Cuts.{fit-append, fit-cuts}
-use Rattle.sampling.specs.Samples.{turns, windings, all-windings, interval-values, interval-cuts, inset, between, all-between, samples, three-samples}
+use Rattle.sampling.specs.Samples.{copies, windings, all-windings, interval-values, interval-cuts, inset, between, all-between, samples, three-samples}
 use Rattle.sampling.specs.SampleAngles.{roots, intervals, first-cuts, second-cuts, third-cuts, sample-angles}
 use Rattle.sampling.specs.Slices.{mids, slices}
 use Rattle.sampling.specs.Limits.{centered, limits-of, limits}
 use Rattle.sampling.specs.J1j2free.{model-reference, folded, curves, bends, half-cuts, first-half, second-half, on-interval, all-slices}
 use Rattle.sampling.specs.Angles.{first-free, second-free, by-kind, angles}
 use Rattle.sampling.specs.Promises.Halves.{half-values}
-use Rattle.sampling.specs.Laws.J1j2free.{picked, turns-fit, half-fit, half-cuts-are}
+use Rattle.sampling.specs.Laws.J1j2free.{picked, copies-fit, half-fit, half-cuts-are}
 use Rattle.sampling.specs.declared.constraints.Center.{Center}
 use Rattle.sampling.specs.declared.intervals.Range.{Range}
 use Rattle.sampling.specs.declared.intervals.Range.the-variants.{Nothing, Between}
@@ -37,7 +37,7 @@ middle-fits a b = add-fits binary64 a _
 
 windings-fit : (lower upper root : Float) → Fit (windings lower upper root)
 unfolding windings
-windings-fit lower upper root = picked (finite root) (turns lower upper root) (turns-fit lower upper root)
+windings-fit lower upper root = picked (finite root) (copies lower upper root) (copies-fit lower upper root)
 
 all-windings-fit : (lower upper : Float) (l : List Float) → Fit (all-windings lower upper l)
 unfolding all-windings

@@ -110,4 +110,5 @@ module _ {a b : List Float} {r : Float} {i j : ℕ} {u : Bool} {x y z : Float} (
 
   -- w is the least, and a NaN
   pub done : (w : Float) → T (isNan w) → T (total-le w x) → T (total-le w y) → T (total-le w z) → sort (A ++ (B ++ E)) ≡ []
-  done w n p q s = all-empty w A B E (numbers-drop i (weave a) (H .woven-a .numbers)) (numbers-drop j (weave b) (H .woven-b .numbers)) nE n (order refl hx p) (order refl hy q) (order refl (H .at-z) s)
+  done w n p q s = all-empty w A B E (numbers-drop i (weave a) (H .woven-a .numbers)) (numbers-drop j (weave b) (H .woven-b .numbers)) nE n
+      (order refl hx p) (order refl hy q) (order refl (H .at-z) s)

@@ -7,7 +7,7 @@ use lib.Ieee.{Float, binary64, neg, le, fits}
 use lib.Ieee.Fits.{add-fits}
 use Rattle.float.specs.Number.{_⊕_, _⊗_, zero-float, one-float, two-float}
 use Rattle.float.specs.Trig.{atan}
-use Rattle.polynomial.specs.Angle.{turn}
+use Rattle.polynomial.specs.Angle.{two-pi}
 use Rattle.polynomial.specs.Cuts.{cuts}
 use Rattle.polynomial.specs.Curve.{inner-holds}
 use Rattle.polynomial.specs.Roots.{roots}
@@ -15,7 +15,7 @@ use Rattle.polynomial.specs.Promises.Lists.{Fit}
 use Rattle.polynomial.specs.Laws.Cuts.{fit-append, cuts-left}
 use Rattle.polynomial.specs.declared.compensated.Compensated.{Compensated}
 use Rattle.polynomial.specs.declared.curve.Curve.{Curve}
-use Rattle.sampling.specs.Samples.{inside, turns, all-turns}
+use Rattle.sampling.specs.Samples.{inside, copies, all-copies}
 use Rattle.sampling.specs.CriticalSlices.{chart, angles, chart-roots, calls, critical}
 use Rattle.sampling.specs.J1j2free.{curves, bends, critical-slices, half-cuts}
 use Rattle.sampling.specs.Promises.Halves.{half-values}
@@ -52,17 +52,18 @@ inside-fit : (lower upper angle : Float) → T (fits binary64 angle) → Fit (in
 unfolding inside
 inside-fit lower upper angle f = picked (le lower angle && le angle upper) (angle ∷ []) (f, tt)
 
-pub turns-fit : (lower upper angle : Float) → Fit (turns lower upper angle)
-unfolding turns
-turns-fit lower upper angle =
-    let at : Float → List Float = λ w. inside lower upper (angle ⊕ w ⊗ turn) in
-    let fit : (w : Float) → Fit (at w) = λ w. inside-fit lower upper (angle ⊕ w ⊗ turn) (add-fits binary64 angle (w ⊗ turn)) in
-    fit-append (at (neg one-float) ++ at zero-float) (at one-float) (fit-append (at (neg one-float)) (at zero-float) (fit (neg one-float)) (fit zero-float)) (fit one-float)
+pub copies-fit : (lower upper angle : Float) → Fit (copies lower upper angle)
+unfolding copies
+copies-fit lower upper angle =
+    let at : Float → List Float = λ w. inside lower upper (angle ⊕ w ⊗ two-pi) in
+    let fit : (w : Float) → Fit (at w) = λ w. inside-fit lower upper (angle ⊕ w ⊗ two-pi) (add-fits binary64 angle (w ⊗ two-pi)) in
+    fit-append (at (neg one-float) ++ at zero-float) (at one-float)
+    (fit-append (at (neg one-float)) (at zero-float) (fit (neg one-float)) (fit zero-float)) (fit one-float)
 
-all-turns-fit : (lower upper : Float) (l : List Float) → Fit (all-turns lower upper l)
-unfolding all-turns
-all-turns-fit lower upper [] = tt
-all-turns-fit lower upper (a ∷ l) = fit-append (turns lower upper a) (all-turns lower upper l) (turns-fit lower upper a) (all-turns-fit lower upper l)
+all-copies-fit : (lower upper : Float) (l : List Float) → Fit (all-copies lower upper l)
+unfolding all-copies
+all-copies-fit lower upper [] = tt
+all-copies-fit lower upper (a ∷ l) = fit-append (copies lower upper a) (all-copies lower upper l) (copies-fit lower upper a) (all-copies-fit lower upper l)
 
 -- ---- one list
 
@@ -71,8 +72,10 @@ module _ (t : Folded) (lower upper : Float) (f : T (fits binary64 lower)) (g : T
   ends-fit = fit-append (lower ∷ [] ++ upper ∷ []) (critical (chart lower upper) (curves t)) (f, (g, tt)) (critical-fit (chart lower upper) (curves t))
 
   pub half-fit : Fit (half-values (curves t) (bends t) lower upper)
-  half-fit = fit-append ((lower ∷ [] ++ upper ∷ []) ++ critical (chart lower upper) (curves t)) (all-turns lower upper (bends t)) ends-fit (all-turns-fit lower upper (bends t))
+  half-fit = fit-append ((lower ∷ [] ++ upper ∷ []) ++ critical (chart lower upper) (curves t)) (all-copies lower upper (bends t)) ends-fit
+      (all-copies-fit lower upper (bends t))
 
   pub half-cuts-are : half-cuts t lower upper ≡ cuts (half-values (curves t) (bends t) lower upper)
   unfolding half-cuts critical-slices
-  half-cuts-are = cuts-left ((lower ∷ [] ++ upper ∷ []) ++ critical (chart lower upper) (curves t)) (all-turns lower upper (bends t)) ends-fit (all-turns-fit lower upper (bends t))
+  half-cuts-are = cuts-left ((lower ∷ [] ++ upper ∷ []) ++ critical (chart lower upper) (curves t)) (all-copies lower upper (bends t)) ends-fit
+      (all-copies-fit lower upper (bends t))

@@ -50,30 +50,37 @@ unfolding isNan
 no-head X t = absurd t
 
 module _ (a b e : List Float) (sa : Sorted a) (sb : Sorted b) (se : Sorted e) where
-  pub take-first : T (not (isNan (head a))) → T (total-le (head a) (head b)) → T (total-le (head a) (head e)) → sort (a ++ (b ++ e)) ≡ head a ∷ sort (drop 1 a ++ (b ++ e))
+  pub take-first : T (not (isNan (head a))) → T (total-le (head a) (head b)) → T (total-le (head a) (head e))
+      → sort (a ++ (b ++ e)) ≡ head a ∷ sort (drop 1 a ++ (b ++ e))
   take-first = go a sa
     where
-      go : (a : List Float) → Sorted a → T (not (isNan (head a))) → T (total-le (head a) (head b)) → T (total-le (head a) (head e)) → sort (a ++ (b ++ e)) ≡ head a ∷ sort (drop 1 a ++ (b ++ e))
+      go : (a : List Float) → Sorted a → T (not (isNan (head a))) → T (total-le (head a) (head b)) → T (total-le (head a) (head e))
+          → sort (a ++ (b ++ e)) ≡ head a ∷ sort (drop 1 a ++ (b ++ e))
       go [] sa n p q = no-head _ n
       go (x ∷ a) sa n p q =
           sort-least x (a ++ (b ++ e)) (least-append x a (b ++ e) (least-from x a sa) (least-append x b e (least-head x b sb p) (least-head x e se q)))
 
-  pub take-second : Fit a → Fit b → Fit e → T (not (isNan (head b))) → T (total-le (head b) (head a)) → T (total-le (head b) (head e)) → sort (a ++ (b ++ e)) ≡ head b ∷ sort (a ++ (drop 1 b ++ e))
+  pub take-second : Fit a → Fit b → Fit e → T (not (isNan (head b))) → T (total-le (head b) (head a)) → T (total-le (head b) (head e))
+      → sort (a ++ (b ++ e)) ≡ head b ∷ sort (a ++ (drop 1 b ++ e))
   take-second fa fb fe = go b sb fb
     where
-      go : (b : List Float) → Sorted b → Fit b → T (not (isNan (head b))) → T (total-le (head b) (head a)) → T (total-le (head b) (head e)) → sort (a ++ (b ++ e)) ≡ head b ∷ sort (a ++ (drop 1 b ++ e))
+      go : (b : List Float) → Sorted b → Fit b → T (not (isNan (head b))) → T (total-le (head b) (head a)) → T (total-le (head b) (head e))
+          → sort (a ++ (b ++ e)) ≡ head b ∷ sort (a ++ (drop 1 b ++ e))
       go [] sb fb n p q = no-head _ n
       go (y ∷ b) sb fb n p q =
           sort-perm (Permᴰ·middle y a (b ++ e)) (fit-append a (y ∷ b ++ e) fa (fb .0, fit-append b e (fb .1) fe))
           ∙ sort-least y (a ++ (b ++ e)) (least-append y a (b ++ e) (least-head y a sa p) (least-append y b e (least-from y b sb) (least-head y e se q)))
 
-  pub take-third : Fit a → Fit b → Fit e → T (not (isNan (head e))) → T (total-le (head e) (head a)) → T (total-le (head e) (head b)) → sort (a ++ (b ++ e)) ≡ head e ∷ sort (a ++ (b ++ drop 1 e))
+  pub take-third : Fit a → Fit b → Fit e → T (not (isNan (head e))) → T (total-le (head e) (head a)) → T (total-le (head e) (head b))
+      → sort (a ++ (b ++ e)) ≡ head e ∷ sort (a ++ (b ++ drop 1 e))
   take-third fa fb fe = go e se fe
     where
-      go : (e : List Float) → Sorted e → Fit e → T (not (isNan (head e))) → T (total-le (head e) (head a)) → T (total-le (head e) (head b)) → sort (a ++ (b ++ e)) ≡ head e ∷ sort (a ++ (b ++ drop 1 e))
+      go : (e : List Float) → Sorted e → Fit e → T (not (isNan (head e))) → T (total-le (head e) (head a)) → T (total-le (head e) (head b))
+          → sort (a ++ (b ++ e)) ≡ head e ∷ sort (a ++ (b ++ drop 1 e))
       go [] se fe n p q = no-head _ n
       go (z ∷ e) se fe n p q =
-          sort-perm (List·Permᴰ·trans (Permᴰ·append-left a (Permᴰ·middle z b e)) (Permᴰ·middle z a (b ++ e))) (fit-append a (b ++ z ∷ e) fa (fit-append b (z ∷ e) fb fe))
+          sort-perm (List·Permᴰ·trans (Permᴰ·append-left a (Permᴰ·middle z b e)) (Permᴰ·middle z a (b ++ e)))
+          (fit-append a (b ++ z ∷ e) fa (fit-append b (z ∷ e) fb fe))
           ∙ sort-least z (a ++ (b ++ e)) (least-append z a (b ++ e) (least-head z a sa p) (least-append z b e (least-head z b sb q) (least-from z e se)))
 
 -- a NaN comes last, so where the least head is a NaN no list has a number left
@@ -87,7 +94,8 @@ empty : (l : List Float) → Numbers l → T (isNan (head l)) → l ≡ []
 empty [] n h = refl
 empty (x ∷ l) n h = absurd (T-not (isNan x) (n .0) h)
 
-pub all-empty : (x : Float) (a b e : List Float) → Numbers a → Numbers b → Numbers e → T (isNan x) → T (total-le x (head a)) → T (total-le x (head b)) → T (total-le x (head e))
+pub all-empty : (x : Float) (a b e : List Float) → Numbers a → Numbers b → Numbers e → T (isNan x) → T (total-le x (head a)) → T (total-le x (head b))
+    → T (total-le x (head e))
     → sort (a ++ (b ++ e)) ≡ []
 unfolding sort
 all-empty x a b e na nb ne n p q r =

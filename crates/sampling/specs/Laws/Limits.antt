@@ -15,7 +15,7 @@ use Rattle.float.specs.Promises.Order.{Within}
 use Rattle.float.specs.Laws.Within.{held, fits→held, numeral, add-within, sub-within, mul-within, Le→within}
 use Rattle.float.specs.Laws.Interval.{In, Le-refl, Le-trans}
 use Rattle.float.specs.Laws.Range.{nlt→Le}
-use Rattle.polynomial.specs.Angle.{turn, wrapped-angle}
+use Rattle.polynomial.specs.Angle.{two-pi, wrapped-angle}
 use Rattle.polynomial.specs.Laws.Wrapped.{wrapped-within}
 use Rattle.sampling.specs.Constraints.{arc, compute-center}
 use Rattle.sampling.specs.Limits.{centered, limits-of, limits}
@@ -44,22 +44,22 @@ half-within h = Le→within tt (h .upper) (Le-trans (le→Le (neg P) zero-float 
 pub record Ends (lo hi : Float) : Type 0 where
   pub lower-fits : T (fits binary64 lo)
   pub upper-fits : T (fits binary64 hi)
-  pub lower-within : Within turn lo
-  pub upper-within : Within turn hi
+  pub lower-within : Within two-pi lo
+  pub upper-within : Within two-pi hi
   pub order : Le lo hi
 
 around-ends : (c h : Float) → Within P c → In zero-float P h → Ends (c ⊖ h) (c ⊕ h)
 unfolding sub le
 around-ends c h w k =
-    let lower : Within turn (c ⊖ h) = sub-within binary64 turn tt w (half-within k) in
-    let upper : Within turn (c ⊕ h) = add-within binary64 turn tt w (half-within k) in
-    let turned : Le (neg h) h = Le-trans (neg-Le (k .lower)) (Le-trans (le→Le (neg zero-float) zero-float tt tt tt) (k .lower)) in
+    let lower : Within two-pi (c ⊖ h) = sub-within binary64 two-pi tt w (half-within k) in
+    let upper : Within two-pi (c ⊕ h) = add-within binary64 two-pi tt w (half-within k) in
+    let opposite : Le (neg h) h = Le-trans (neg-Le (k .lower)) (Le-trans (le→Le (neg zero-float) zero-float tt tt tt) (k .lower)) in
     record {
       lower-fits = sub-fits binary64 c h;
       upper-fits = add-fits binary64 c h;
       lower-within = lower;
       upper-within = upper;
-      order = le→Le (c ⊖ h) (c ⊕ h) (lower .real) (upper .real) (add-mono binary64 (Le-refl c (w .real)) turned);
+      order = le→Le (c ⊖ h) (c ⊕ h) (lower .real) (upper .real) (add-mono binary64 (Le-refl c (w .real)) opposite);
     }
 
 -- ---- the centre
@@ -69,10 +69,12 @@ unit-sign (inl e) = rw e (numeral one-float one-float tt)
 unit-sign (inr e) = rw e (numeral one-float (neg one-float) tt)
 
 -- the model angle, before it is wrapped
-model-held : (c sign offset : Float) → T (fits binary64 c) → T (finite c) → Within one-float sign → Within turn offset → T (held binary64 (wrapped-angle c ⊗ sign ⊖ offset))
+model-held : (c sign offset : Float) → T (fits binary64 c) → T (finite c) → Within one-float sign → Within two-pi offset
+    → T (held binary64 (wrapped-angle c ⊗ sign ⊖ offset))
 model-held c sign offset t f s o =
     let x = wrapped-angle c ⊗ sign in
-    fits→held binary64 (x ⊖ offset) (sub-fits binary64 x offset) (sub-within binary64 (fin false 10 (pos 0)) tt (mul-within binary64 P tt (wrapped-within c (fits→held binary64 c t f)) s) o .real)
+    fits→held binary64 (x ⊖ offset) (sub-fits binary64 x offset)
+    (sub-within binary64 (fin false 10 (pos 0)) tt (mul-within binary64 P tt (wrapped-within c (fits→held binary64 c t f)) s) o .real)
 
 -- ---- what an answer tells
 record Taken (number below real : Bool) (x y lo hi : Float) : Type 0 where
@@ -110,7 +112,8 @@ centered-fits true j t = compute-fits (j .from) (j .to)
 centered-fits false j t = t
 
 -- ---- the law
-limits-of-ends : (c : Center) (sign offset lo hi : Float) → Fits c → Within one-float sign → Within turn offset → limits-of c sign offset ≡ Between lo hi → Ends lo hi
+limits-of-ends : (c : Center) (sign offset lo hi : Float) → Fits c → Within one-float sign → Within two-pi offset
+    → limits-of c sign offset ≡ Between lo hi → Ends lo hi
 unfolding limits-of
 limits-of-ends c sign offset lo hi t s o e =
     let m = wrapped-angle (c .center) ⊗ sign ⊖ offset in
@@ -119,7 +122,8 @@ limits-of-ends c sign offset lo hi t s o e =
     let g = model-held (c .center) sign offset t (k .finite-is) s o in
     rw (k .lower, k .upper) (around-ends (wrapped-angle m) h (wrapped-within m g) (half-in (c .tolerance) (k .number-is) (k .plus)))
 
-pub limits-ends : (limited : Bool) (j : Joint) (lo hi : Float) → T (fits binary64 (j .reference)) → (j .sign ≡ one-float) ⊎ (j .sign ≡ neg one-float) → Within turn (j .offset)
+pub limits-ends : (limited : Bool) (j : Joint) (lo hi : Float) → T (fits binary64 (j .reference)) → (j .sign ≡ one-float) ⊎ (j .sign ≡ neg one-float)
+    → Within two-pi (j .offset)
     → limits limited j ≡ Between lo hi → Ends lo hi
 unfolding limits
 limits-ends limited j lo hi t s o e = limits-of-ends (centered limited j) (j .sign) (j .offset) lo hi (centered-fits limited j t) (unit-sign s) o e

@@ -176,6 +176,7 @@ marked false true b = refl
 marked false false b = refl
 
 pub bend-marks-hold-nested : (q4 : Ray) (m : Marks)
-    → bend-marks-hold q4 m ≡ cond (m .limited) (bend-at-holds q4 (m .reference) && (bend-at-holds q4 (m .center) && bend-range-holds q4 (m .range))) (bend-at-holds q4 (m .reference))
+    → bend-marks-hold q4 m ≡ cond (m .limited) (bend-at-holds q4 (m .reference) && (bend-at-holds q4 (m .center) && bend-range-holds q4 (m .range)))
+    (bend-at-holds q4 (m .reference))
 unfolding bend-marks-hold
 bend-marks-hold-nested q4 m = marked (bend-at-holds q4 (m .reference)) (m .limited) (bend-at-holds q4 (m .center) && bend-range-holds q4 (m .range))

@@ -1,4 +1,5 @@
--- Laws of a job's plan, for upper crates: where it is laid, the angles that are read off work are the job's, and they depend on its front alone; how many samples three lists give; a step is the next of them.
+-- Laws of a job's plan, for upper crates: where it is laid, the angles that are read off work are the job's, and
+-- they depend on its front alone; how many samples three lists give; a step is the next of them.
 use mathlib.Core.Path.{_≡_, refl, sym, ap, ap₂, subst, _∙_}
 use mathlib.Core.Bool.{Bool, true, false, not, cond, false≢true}
 use mathlib.Core.List.{List, [], _∷_, _++_, append-assoc}
@@ -16,17 +17,18 @@ use Rattle.float.specs.Number.{_⊖_, _⊘_, middle, two-float}
 use Rattle.float.specs.Laws.Tests.{finite-number}
 use Rattle.sampling.specs.Samples.{all-between, samples, sample-count, three-samples}
 use Rattle.sampling.specs.Slices.{slices}
-use Rattle.sampling.specs.SampleAngles as One
-use Rattle.sampling.specs.J1j2free as Two
+use Rattle.sampling.specs.SampleAngles as SampleAngles
+use Rattle.sampling.specs.J1j2free as J1j2free
 use Rattle.sampling.specs.Angles.{first-free, second-free, by-kind, angles, cut-count, hold}
 use Rattle.sampling.specs.Promises.Stream.{distinct, start, next, Woven, Steps}
-use Rattle.sampling.specs.Promises.Plan.{Moderate, lists-of, halves-of, free-plan, folded-plan, laid, free-cuts, folded-cuts, all-cuts, granted, plan, by-plan, filled, zeros, where-laid, work-after, all-samples, to-come, Ready, sample-step, step, Gives}
+use Rattle.sampling.specs.Promises.Plan.{Moderate, lists-of, halves-of, free-plan, folded-plan, laid, free-cuts, folded-cuts, all-cuts, granted, plan}
+use Rattle.sampling.specs.Promises.Plan.{by-plan, filled, zeros, where-laid, work-after, all-samples, to-come, Ready, sample-step, step, Gives}
 use Rattle.sampling.specs.Laws.Samples.{samples-length}
 use Rattle.sampling.specs.Laws.J1j2free.{half-fit, half-cuts-are}
 use Rattle.sampling.specs.Laws.Limits.{Ends, limits-ends}
 use Rattle.sampling.specs.Laws.Reference.{reference-fits, reference-number}
 use Rattle.sampling.specs.Laws.Slices.{halves-slices}
-use Rattle.sampling.specs.Laws.SmallCuts.{halves-woven}
+use Rattle.sampling.specs.Laws.SliceBounds.{halves-woven}
 use Rattle.sampling.specs.Laws.Step.{next-steps}
 use Rattle.sampling.specs.declared.intervals.Range.{Range}
 use Rattle.sampling.specs.declared.intervals.Range.the-variants.{Nothing, Between}
@@ -124,16 +126,16 @@ three-drawn holds a b c w =
 
 -- both halves' cuts can be streamed, and what the stream has is the slices
 record Streams (t : Folded) (lower upper : Float) : Type 0 where
-  first : Woven (Two.first-half t lower upper)
-  second : Woven (Two.second-half t lower upper)
+  first : Woven (J1j2free.first-half t lower upper)
+  second : Woven (J1j2free.second-half t lower upper)
   number : T (not (isNan (t .reference)))
   fit : T (fits binary64 (t .reference))
-  same : distinct (Two.first-half t lower upper) (Two.second-half t lower upper) (t .reference) start
-      ≡ slices (t .reference) lower upper (Two.first-half t lower upper) (Two.second-half t lower upper)
+  same : distinct (J1j2free.first-half t lower upper) (J1j2free.second-half t lower upper) (t .reference) start
+      ≡ slices (t .reference) lower upper (J1j2free.first-half t lower upper) (J1j2free.second-half t lower upper)
 
 -- the limits were pushed into the halves
 streams : (t : Folded) (lower upper : Float) → Ends lower upper → T (fits binary64 (t .reference)) → T (not (isNan (t .reference))) → Streams t lower upper
-unfolding middle Two.first-half Two.second-half
+unfolding middle J1j2free.first-half J1j2free.second-half
 streams t lower upper e fit real =
     let m = middle lower upper in
     let fm : T (fits binary64 m) = add-fits binary64 lower ((upper ⊖ lower) ⊘ two-float) in
@@ -147,19 +149,20 @@ streams t lower upper e fit real =
       fit = fit;
       same =
           rw (p, q)
-          (halves-slices (t .reference) lower upper m _ _ _ _ refl refl fit (finite-number lower (e .lower-within .real)) (finite-number upper (e .upper-within .real))
+          (halves-slices (t .reference) lower upper m _ _ _ _ refl refl fit (finite-number lower (e .lower-within .real))
+          (finite-number upper (e .upper-within .real))
           (half-fit t lower m (e .lower-fits) fm)
           (half-fit t m upper fm (e .upper-fits)));
     }
 
 two-drawn : (holds : Bool) (t : Folded) (lower upper : Float) (w : List Float) → Streams t lower upper
-    → Drawn holds (length (Two.first-half t lower upper) + length (Two.second-half t lower upper))
-    (halves-of (t .reference) (Two.first-half t lower upper) (Two.second-half t lower upper))
-    (Two.first-half t lower upper ++ Two.second-half t lower upper)
-    (slices (t .reference) lower upper (Two.first-half t lower upper) (Two.second-half t lower upper)) w
+    → Drawn holds (length (J1j2free.first-half t lower upper) + length (J1j2free.second-half t lower upper))
+    (halves-of (t .reference) (J1j2free.first-half t lower upper) (J1j2free.second-half t lower upper))
+    (J1j2free.first-half t lower upper ++ J1j2free.second-half t lower upper)
+    (slices (t .reference) lower upper (J1j2free.first-half t lower upper) (J1j2free.second-half t lower upper)) w
 two-drawn holds t lower upper w h =
-    let a = Two.first-half t lower upper in
-    let b = Two.second-half t lower upper in
+    let a = J1j2free.first-half t lower upper in
+    let b = J1j2free.second-half t lower upper in
     let count = length a + length b in
     let parts = split a b (drop count w) in
     drawn count (halves-of (t .reference) a b) (a ++ b) (slices (t .reference) lower upper a b) w
@@ -175,40 +178,42 @@ two-drawn holds t lower upper w h =
 -- ---- by the kind
 
 module _ (w : List Float) where
-  free-drawn : (f : Free) → Drawn (One.hold f) (One.cut-count f) (free-plan f) (free-cuts f) (One.sample-angles f) w
-  unfolding One.cut-count free-plan free-cuts One.sample-angles
-  free-drawn f = three-drawn (One.hold f) (One.first-cuts f) (One.second-cuts f) (One.third-cuts f) w
+  free-drawn : (f : Free) → Drawn (SampleAngles.hold f) (SampleAngles.cut-count f) (free-plan f) (free-cuts f) (SampleAngles.sample-angles f) w
+  unfolding SampleAngles.cut-count free-plan free-cuts SampleAngles.sample-angles
+  free-drawn f = three-drawn (SampleAngles.hold f) (SampleAngles.first-cuts f) (SampleAngles.second-cuts f) (SampleAngles.third-cuts f) w
 
   folded-drawn : (t : Folded) → ((lower upper : Float) → t .range1 ≡ Between lower upper → Streams t lower upper)
-      → Drawn (Two.hold t) (Two.cut-count t) (folded-plan t) (folded-cuts t) (Two.all-slices t) w
-  unfolding Two.hold Two.cut-count folded-plan folded-cuts Two.all-slices three-samples samples all-between
+      → Drawn (J1j2free.hold t) (J1j2free.cut-count t) (folded-plan t) (folded-cuts t) (J1j2free.all-slices t) w
+  unfolding J1j2free.hold J1j2free.cut-count folded-plan folded-cuts J1j2free.all-slices three-samples samples all-between
   folded-drawn t h = go (t .range1) h
     where
       go : (g : Range) → ((lower upper : Float) → g ≡ Between lower upper → Streams t lower upper)
-          → Drawn (Two.on-interval g true (Two.halves-hold t))
-          (Two.on-interval g 0 (λ lower upper. length (Two.first-half t lower upper) + length (Two.second-half t lower upper)))
-          (Two.on-interval g (lists-of [] [] []) (λ lower upper. halves-of (t .reference) (Two.first-half t lower upper) (Two.second-half t lower upper)))
-          (Two.on-interval g [] (λ lower upper. Two.first-half t lower upper ++ Two.second-half t lower upper))
-          (Two.on-interval g [] (λ lower upper. slices (t .reference) lower upper (Two.first-half t lower upper) (Two.second-half t lower upper))) w
+          → Drawn (J1j2free.on-interval g true (J1j2free.halves-hold t))
+          (J1j2free.on-interval g 0 (λ lower upper. length (J1j2free.first-half t lower upper) + length (J1j2free.second-half t lower upper)))
+          (J1j2free.on-interval g (lists-of [] [] []) (λ lower upper. halves-of (t .reference) (J1j2free.first-half t lower upper)
+          (J1j2free.second-half t lower upper)))
+          (J1j2free.on-interval g [] (λ lower upper. J1j2free.first-half t lower upper ++ J1j2free.second-half t lower upper))
+          (J1j2free.on-interval g [] (λ lower upper. slices (t .reference) lower upper (J1j2free.first-half t lower upper)
+          (J1j2free.second-half t lower upper))) w
       go Nothing h = three-drawn true [] [] [] w
-      go (Between lower upper) h = two-drawn (Two.halves-hold t lower upper) t lower upper w (h lower upper refl)
+      go (Between lower upper) h = two-drawn (J1j2free.halves-hold t lower upper) t lower upper w (h lower upper refl)
 
   module _ (job : Job) (fit : T (fits binary64 (job .j1 .reference))) (m : job .kind ≡ J1j2free → Moderate (job .j1)) where
-    job-streams : job .kind ≡ J1j2free → (lower upper : Float) → Two.folded job .range1 ≡ Between lower upper → Streams (Two.folded job) lower upper
-    unfolding Two.folded
+    job-streams : job .kind ≡ J1j2free → (lower upper : Float) → J1j2free.folded job .range1 ≡ Between lower upper → Streams (J1j2free.folded job) lower upper
+    unfolding J1j2free.folded
     job-streams k lower upper e =
-        streams (Two.folded job) lower upper (limits-ends (job .limited) (job .j1) lower upper fit (m k .sign) (m k .offset) e)
+        streams (J1j2free.folded job) lower upper (limits-ends (job .limited) (job .j1) lower upper fit (m k .sign) (m k .offset) e)
         (reference-fits (job .j1)) (reference-number (job .j1) fit (m k))
 
     by-drawn : (k : Kind) → job .kind ≡ k
-        → Drawn (by-kind k (One.hold (first-free job)) (One.hold (second-free job)) (Two.hold (Two.folded job)))
-        (by-kind k (One.cut-count (first-free job)) (One.cut-count (second-free job)) (Two.cut-count (Two.folded job)))
-        (by-kind k (free-plan (first-free job)) (free-plan (second-free job)) (folded-plan (Two.folded job)))
-        (by-kind k (free-cuts (first-free job)) (free-cuts (second-free job)) (folded-cuts (Two.folded job)))
-        (by-kind k (One.sample-angles (first-free job)) (One.sample-angles (second-free job)) (Two.all-slices (Two.folded job))) w
+        → Drawn (by-kind k (SampleAngles.hold (first-free job)) (SampleAngles.hold (second-free job)) (J1j2free.hold (J1j2free.folded job)))
+        (by-kind k (SampleAngles.cut-count (first-free job)) (SampleAngles.cut-count (second-free job)) (J1j2free.cut-count (J1j2free.folded job)))
+        (by-kind k (free-plan (first-free job)) (free-plan (second-free job)) (folded-plan (J1j2free.folded job)))
+        (by-kind k (free-cuts (first-free job)) (free-cuts (second-free job)) (folded-cuts (J1j2free.folded job)))
+        (by-kind k (SampleAngles.sample-angles (first-free job)) (SampleAngles.sample-angles (second-free job)) (J1j2free.all-slices (J1j2free.folded job))) w
     by-drawn J1free e = free-drawn (first-free job)
     by-drawn J2free e = free-drawn (second-free job)
-    by-drawn J1j2free e = folded-drawn (Two.folded job) (job-streams e)
+    by-drawn J1j2free e = folded-drawn (J1j2free.folded job) (job-streams e)
 
     job-drawn : Drawn (hold job) (cut-count job) (laid job) (all-cuts job) (angles job) w
     unfolding hold cut-count laid all-cuts angles
@@ -232,16 +237,17 @@ module _ {A : Type 0} (refused short found : A) where
   laid-by job = go (job .kind)
     where
       both : (t : Folded) (g : Range)
-          → by-plan (Two.on-interval g (lists-of [] [] []) (λ lower upper. halves-of (t .reference) (Two.first-half t lower upper) (Two.second-half t lower upper)))
+          → by-plan (J1j2free.on-interval g (lists-of [] [] [])
+          (λ lower upper. halves-of (t .reference) (J1j2free.first-half t lower upper) (J1j2free.second-half t lower upper)))
           refused short found ≡ found
       both t Nothing = refl
       both t (Between lower upper) = refl
 
       go : (k : Kind)
-          → by-plan (by-kind k (free-plan (first-free job)) (free-plan (second-free job)) (folded-plan (Two.folded job))) refused short found ≡ found
+          → by-plan (by-kind k (free-plan (first-free job)) (free-plan (second-free job)) (folded-plan (J1j2free.folded job))) refused short found ≡ found
       go J1free = refl
       go J2free = refl
-      go J1j2free = both (Two.folded job) (Two.folded job .range1)
+      go J1j2free = both (J1j2free.folded job) (J1j2free.folded job .range1)
 
   pub plan-by : (job : Job) (places : ℕ)
       → by-plan (plan job places) refused short found ≡ cond (hold job) (cond (leb (cut-count job) places) found short) refused
@@ -255,29 +261,30 @@ module _ {A : Type 0} (refused short found : A) where
 
 -- ---- how many places the cuts take
 
-folded-filled : (t : Folded) → filled (folded-plan t) ≡ Two.cut-count t
-unfolding folded-plan Two.cut-count
+folded-filled : (t : Folded) → filled (folded-plan t) ≡ J1j2free.cut-count t
+unfolding folded-plan J1j2free.cut-count
 folded-filled t = go (t .range1)
   where
     go : (g : Range)
-        → filled (Two.on-interval g (lists-of [] [] []) (λ lower upper. halves-of (t .reference) (Two.first-half t lower upper) (Two.second-half t lower upper)))
-        ≡ Two.on-interval g 0 (λ lower upper. length (Two.first-half t lower upper) + length (Two.second-half t lower upper))
+        → filled (J1j2free.on-interval g (lists-of [] [] []) (λ lower upper. halves-of (t .reference) (J1j2free.first-half t lower upper)
+        (J1j2free.second-half t lower upper)))
+        ≡ J1j2free.on-interval g 0 (λ lower upper. length (J1j2free.first-half t lower upper) + length (J1j2free.second-half t lower upper))
     go Nothing = refl
     go (Between lower upper) = refl
 
-free-filled : (f : Free) → filled (free-plan f) ≡ One.cut-count f
-unfolding free-plan One.cut-count
+free-filled : (f : Free) → filled (free-plan f) ≡ SampleAngles.cut-count f
+unfolding free-plan SampleAngles.cut-count
 free-filled f = refl
 
 pub laid-filled : (job : Job) → filled (laid job) ≡ cut-count job
 unfolding laid cut-count
 laid-filled job = go (job .kind)
   where
-    go : (k : Kind) → filled (by-kind k (free-plan (first-free job)) (free-plan (second-free job)) (folded-plan (Two.folded job)))
-        ≡ by-kind k (One.cut-count (first-free job)) (One.cut-count (second-free job)) (Two.cut-count (Two.folded job))
+    go : (k : Kind) → filled (by-kind k (free-plan (first-free job)) (free-plan (second-free job)) (folded-plan (J1j2free.folded job)))
+        ≡ by-kind k (SampleAngles.cut-count (first-free job)) (SampleAngles.cut-count (second-free job)) (J1j2free.cut-count (J1j2free.folded job))
     go J1free = free-filled (first-free job)
     go J2free = free-filled (second-free job)
-    go J1j2free = folded-filled (Two.folded job)
+    go J1j2free = folded-filled (J1j2free.folded job)
 
 pub plan-filled : (job : Job) (places : ℕ) → hold job ≡ true → cut-count job ≤ places → filled (plan job places) ≡ cut-count job
 unfolding plan

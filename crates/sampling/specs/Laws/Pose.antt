@@ -88,10 +88,12 @@ taken true false l v u e = absurd (none-unit e)
 taken true true true v u e = absurd (zero-unit e)
 taken true true false v u e = record { parts = tt; real = tt; above = tt; is = cc }
 
-part : (x S : Float) → T (fits binary64 x) → T (finite x) → T (fits binary64 S) → T (finite S) → 0 < num S → Le (x ⊗ x) S → Within two-float (x ⊘ sqrt binary64 S)
+part : (x S : Float) → T (fits binary64 x) → T (finite x) → T (fits binary64 S) → T (finite S) → 0 < num S → Le (x ⊗ x) S
+    → Within two-float (x ⊘ sqrt binary64 S)
 part x S t p u q z l = weaken two-float tt (normalized-within x S (fits→held binary64 x t p) (fits→held binary64 S u q) z l)
 
-divided : (q : Quaternion) → Quaternion-fits q → Finite (finite (q .x)) (finite (q .y)) (finite (q .z)) (finite (q .w)) → T (finite (quaternion-length q)) → T (not (le (quaternion-length q) zero-float))
+divided : (q : Quaternion) → Quaternion-fits q → Finite (finite (q .x)) (finite (q .y)) (finite (q .z)) (finite (q .w))
+    → T (finite (quaternion-length q)) → T (not (le (quaternion-length q) zero-float))
     → Quaternion-within two-float (over q (quaternion-length q))
 unfolding quaternion-length
 divided q t p f a =

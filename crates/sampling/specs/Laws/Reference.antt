@@ -10,7 +10,7 @@ use Rattle.float.specs.Laws.Within.{held, fits→held, mul-within}
 use Rattle.float.specs.Laws.Interval.{in-wider, sub-in, within-in}
 use Rattle.float.specs.Laws.Tests.{finite-number}
 use Rattle.float.specs.Laws.Extremes.{largest, held-largest}
-use Rattle.polynomial.specs.Angle.{turn}
+use Rattle.polynomial.specs.Angle.{two-pi}
 use Rattle.polynomial.specs.Laws.Wrapped.{wrapped-fits, wrapped-within}
 use Rattle.sampling.specs.J1j2free.{model-reference}
 use Rattle.sampling.specs.Promises.Plan.{Moderate}
@@ -18,9 +18,9 @@ use Rattle.sampling.specs.Laws.Limits.{unit-sign}
 use Rattle.sampling.specs.declared.job.Joint.{Joint}
 
 -- a value of the format times 1 or -1, less one within a turn, is of the format
-turned-held : (x sign offset : Float) → T (held binary64 x) → Within one-float sign → Within turn offset → T (held binary64 (x ⊗ sign ⊖ offset))
+signed-held : (x sign offset : Float) → T (held binary64 x) → Within one-float sign → Within two-pi offset → T (held binary64 (x ⊗ sign ⊖ offset))
 unfolding neg sub le
-turned-held x sign offset t s o =
+signed-held x sign offset t s o =
     let product : Within largest (x ⊗ sign) = mul-within binary64 largest tt (held-largest x t) s in
     let difference = in-wider (neg largest) largest tt (sub-in binary64 tt (within-in tt tt product) (within-in tt tt o)) in
     fits→held binary64 (x ⊗ sign ⊖ offset) (sub-fits binary64 (x ⊗ sign) offset) (difference .upper .first)
@@ -33,7 +33,7 @@ pub reference-within : (j : Joint) → T (fits binary64 (j .reference)) → Mode
 unfolding model-reference
 reference-within j t m =
     wrapped-within (j .reference ⊗ j .sign ⊖ j .offset)
-    (turned-held (j .reference) (j .sign) (j .offset) (fits→held binary64 (j .reference) t (m .reference)) (unit-sign (m .sign)) (m .offset))
+    (signed-held (j .reference) (j .sign) (j .offset) (fits→held binary64 (j .reference) t (m .reference)) (unit-sign (m .sign)) (m .offset))
 
 pub reference-number : (j : Joint) → T (fits binary64 (j .reference)) → Moderate j → T (not (isNan (model-reference j)))
 reference-number j t m = finite-number (model-reference j) (reference-within j t m .real)

@@ -7,18 +7,19 @@ use mathlib.Core.List.{List, [], _∷_, _++_, append-assoc, append-nil}
 use lib.ListN.{length, getD, take, length-append, List·getD-append, List·getD-eq-default}
 use lib.Seq.{slice, slice-cons, slice-empty, take-suc, getD-append-add}
 use lib.Ieee.{Float, nan}
-use Rattle.sampling.specs.Samples.{turns, all-turns, windings, all-windings, between, all-between, samples, sample-count, three-samples}
+use Rattle.sampling.specs.Samples.{copies, all-copies, windings, all-windings, between, all-between, samples, sample-count, three-samples}
 
 -- ---- angles
 
 module _ (lower upper : Float) (l : List Float) (i n : ℕ) where
-  pub turns-next : i < n → n ≤ length l → all-turns lower upper (slice i n l) ≡ turns lower upper (getD l i nan) ++ all-turns lower upper (slice (i + 1) n l)
-  unfolding all-turns
-  turns-next h b = rw (add-one, slice-cons i n l nan h b)
+  pub copies-next : i < n → n ≤ length l → all-copies lower upper (slice i n l) ≡ copies lower upper (getD l i nan) ++ all-copies lower upper
+      (slice (i + 1) n l)
+  unfolding all-copies
+  copies-next h b = rw (add-one, slice-cons i n l nan h b)
 
-  pub turns-end : i ≡ n → all-turns lower upper (slice i n l) ≡ []
-  unfolding all-turns
-  turns-end e = rw (e, slice-empty n l)
+  pub copies-end : i ≡ n → all-copies lower upper (slice i n l) ≡ []
+  unfolding all-copies
+  copies-end e = rw (e, slice-empty n l)
 
 -- ---- roots
 

@@ -1,10 +1,12 @@
--- Laws of the values at which joint 1 is tried: the stream from its start is their list, as the limits are among the cuts of the halves already; how many there are at most; the reference is among them.
+-- Laws of the values at which joint 1 is tried: the stream from its start is their list, as the limits are among
+-- the cuts of the halves already; how many there are at most; the reference is among them.
 --
 use Prim.Native.Nat.{_+_, _*_, _≤_}
 use native.Mathlib.Omega.{arith}
 use mathlib.Core.Path.{_≡_, refl, sym, ap, subst, _∙_}
 use mathlib.Core.Bool.{Bool, true, false, not, cond}
-use mathlib.Core.List.{List, [], _∷_, _++_, append-assoc, List·Permᴰ, List·Permᴰ·cons, List·Permᴰ·swap, List·Permᴰ·trans, Permᴰ·middle, Permᴰ·append-left, Permᴰ·append-right, Permᴰ·append-nil}
+use mathlib.Core.List.{List, [], _∷_, _++_, append-assoc, List·Permᴰ, List·Permᴰ·cons}
+use mathlib.Core.List.{List·Permᴰ·swap, List·Permᴰ·trans, Permᴰ·middle, Permᴰ·append-left, Permᴰ·append-right, Permᴰ·append-nil}
 use lib.Dec.{T}
 use lib.ListN.{length, length-append}
 use lib.Ieee.{Float, nan, inf, fin, binary64, eq, fits, isNan}
@@ -63,7 +65,8 @@ module _ (r : Float) (a b : List Float) (fr : T (fits binary64 r)) (fa : Fit a) 
 
 -- ---- the halves' cuts were made of the limits, among others
 
-module _ (r lo hi : Float) (a b : List Float) (fr : T (fits binary64 r)) (fl : T (fits binary64 lo)) (fh : T (fits binary64 hi)) (nl : T (not (isNan lo))) (nh : T (not (isNan hi)))
+module _ (r lo hi : Float) (a b : List Float) (fr : T (fits binary64 r)) (fl : T (fits binary64 lo)) (fh : T (fits binary64 hi))
+    (nl : T (not (isNan lo))) (nh : T (not (isNan hi)))
     (fa : Fit a) (fb : Fit b) where
   abbrev p : List Float
   p = cuts (lo ∷ a)
@@ -81,7 +84,8 @@ module _ (r lo hi : Float) (a b : List Float) (fr : T (fits binary64 r)) (fl : T
   all = (p ++ mids p) ++ (q ++ mids q)
 
   low-in : put lo (cuts all) ≡ cuts all
-  low-in = rw (append-assoc p (mids p) (q ++ mids q)) (absorb lo a (mids p ++ (q ++ mids q)) nl fl fa (fit-append (mids p) (q ++ mids q) (fit-right p (mids p) fit-p) fit-q))
+  low-in = rw (append-assoc p (mids p) (q ++ mids q)) (absorb lo a (mids p ++ (q ++ mids q)) nl fl fa
+      (fit-append (mids p) (q ++ mids q) (fit-right p (mids p) fit-p) fit-q))
 
   high-in : put hi (cuts all) ≡ cuts all
   high-in =
@@ -101,7 +105,8 @@ module _ (r lo hi : Float) (a b : List Float) (fr : T (fits binary64 r)) (fl : T
       )
 
 -- the same for lists as they are pushed: the first half's begins with the lower limit, the second's with the middle x and then the upper limit
-pub halves-slices : (r lo hi x : Float) (a b l m : List Float) → l ≡ lo ∷ a → m ≡ x ∷ hi ∷ b → T (fits binary64 r) → T (not (isNan lo)) → T (not (isNan hi)) → Fit l → Fit m
+pub halves-slices : (r lo hi x : Float) (a b l m : List Float) → l ≡ lo ∷ a → m ≡ x ∷ hi ∷ b → T (fits binary64 r) → T (not (isNan lo))
+    → T (not (isNan hi)) → Fit l → Fit m
     → distinct (cuts l) (cuts m) r start ≡ slices r lo hi (cuts l) (cuts m)
 halves-slices r lo hi x a b l m e g fr nl nh fl fm =
     let f : Fit (lo ∷ a) = subst Fit e fl in

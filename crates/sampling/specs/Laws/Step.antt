@@ -150,21 +150,21 @@ module _ (a b : List Float) (r last : Float) (k : ℕ) (c d : Cursor) (y : Float
   keep-or-skip false t e g = rw (rest-skip last y (stream a b r c) (stream a b r d) (e .0) t) (g t)
 
 module _ (a b : List Float) (r last : Float) (k : ℕ) (c : Cursor) where
-  turned : (s : Step) → Steps (stream a b r c) (stream a b r) s → Drops (left a b c) (left a b) s
+  stepped : (s : Step) → Steps (stream a b r c) (stream a b r) s → Drops (left a b c) (left a b) s
       → ((d : Cursor) → left a b c ≡ suc (left a b d) → Steps (rest last (stream a b r d)) (distinct a b r) (next-of k a b r last d))
       → Steps (rest last (stream a b r c)) (distinct a b r)
       (on-step s (λ y d. cond (ne y last) (Yield y (record { i = d .i; j = d .j; used = d .used; last = y })) (next-of k a b r last d)))
-  turned Done e g h = rest-end last (stream a b r c) e
-  turned (Yield y d) e g h = keep-or-skip a b r last k c d y (ne y last) refl e (λ t. h d g)
+  stepped Done e g h = rest-end last (stream a b r c) e
+  stepped (Yield y d) e g h = keep-or-skip a b r last k c d y (ne y last) refl e (λ t. h d g)
 
 module _ (a b : List Float) (r : Float) (wa : Woven a) (wb : Woven b) (n : T (not (isNan r))) (f : T (fits binary64 r)) where
   skips : (k : ℕ) (last : Float) (c : Cursor) → left a b c ≤ k → Steps (rest last (stream a b r c)) (distinct a b r) (next-of (suc k) a b r last c)
   unfolding next-of
   skips zero last c h =
-      turned a b r last 0 c (advance a b r c) (advance-steps a b r wa wb n f c) (advance-drops a b r c)
+      stepped a b r last 0 c (advance a b r c) (advance-steps a b r wa wb n f c) (advance-drops a b r c)
       (λ d g. absurd (not-suc-le-zero (subst (λ (m : ℕ). m ≤ 0) g h)))
   skips (suc k) last c h =
-      turned a b r last (suc k) c (advance a b r c) (advance-steps a b r wa wb n f c) (advance-drops a b r c)
+      stepped a b r last (suc k) c (advance a b r c) (advance-steps a b r wa wb n f c) (advance-drops a b r c)
       (λ d g. skips k last d (le-of-suc-le-suc (subst (λ (m : ℕ). m ≤ suc k) g h)))
 
   -- THEOREM: The next value is the first of what is to come.

@@ -5,14 +5,14 @@ use lib.Ieee.{Float}
 use Rattle.polynomial.specs.declared.curve.Curve.{Curve}
 use Rattle.polynomial.specs.declared.cuts.Put.{Put}
 use Rattle.polynomial.specs.declared.cuts.Put.the-variants.{Count, Full}
-use Rattle.sampling.specs.Samples.{all-turns}
+use Rattle.sampling.specs.Samples.{all-copies}
 use Rattle.sampling.specs.CriticalSlices.{chart, critical}
 use Rattle.sampling.specs.declared.lists.Plan.{Plan}
 use Rattle.sampling.specs.declared.lists.Plan.the-variants.{Short, Halves}
 
 -- the values whose cuts a half's list is
 abbrev pub half-values : List Curve → List Float → Float → Float → List Float
-half-values curves bends lower upper = ((lower ∷ [] ++ upper ∷ []) ++ critical (chart lower upper) curves) ++ all-turns lower upper bends
+half-values curves bends lower upper = ((lower ∷ [] ++ upper ∷ []) ++ critical (chart lower upper) curves) ++ all-copies lower upper bends
 
 -- where the second list starts
 abbrev pub start : Put → ℕ → ℕ

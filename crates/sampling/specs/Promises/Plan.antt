@@ -10,7 +10,7 @@ use lib.Ieee.{Float, binary64, nan, neg, isNan, fits}
 use lib.Ieee.Scale.{finite}
 use Rattle.float.specs.Number.{zero-float, one-float}
 use Rattle.float.specs.Promises.Order.{Within}
-use Rattle.polynomial.specs.Angle.{turn}
+use Rattle.polynomial.specs.Angle.{two-pi}
 use Rattle.sampling.specs.Samples.{three-samples}
 use Rattle.sampling.specs.SampleAngles.{first-cuts, second-cuts, third-cuts}
 use Rattle.sampling.specs.J1j2free.{folded, first-half, second-half, on-interval}
@@ -31,7 +31,7 @@ use Rattle.sampling.specs.declared.stream.Step.the-variants.{Yield, Done
 -- a joint whose sign, offset and reference are as 01 allows them where they are read
 pub record Moderate (j : Joint) : Type 0 where
   pub sign : (j .sign ≡ one-float) ⊎ (j .sign ≡ neg one-float)
-  pub offset : Within turn (j .offset)
+  pub offset : Within two-pi (j .offset)
   pub reference : T (finite (j .reference))
 
 -- ---- the cuts: three lists of one free joint, both halves' of two

@@ -1,4 +1,5 @@
--- `crossings` in steps, by the radius and phase of a first harmonic: what inner functions promise one another, so that a harmonic with many targets has them worked out once. Nothing that a public contract of an upper crate says.
+-- `crossings` in steps, by the radius and phase of a first harmonic: what inner functions promise one another, so that a
+-- harmonic with many targets has them worked out once. Nothing that a public contract of an upper crate says.
 use mathlib.Core.Bool.{Bool, not, _&&_}
 use lib.Ieee.{Float, neg, eq, lt}
 use lib.Ieee.Scale.{finite}

@@ -18,7 +18,12 @@ of-center-requires c = search needs
 
 returns : tie.Need-returns
 unfolding center
-returns c = simp (← c .before .before .before .of-bits .ensures, ← c .before .before .of-bits2 .ensures, ← c .before .compute-center .ensures, ← c .of-center .ensures)
+returns c = simp (
+  ← c .before .before .before .of-bits .ensures,
+  ← c .before .before .of-bits2 .ensures,
+  ← c .before .compute-center .ensures,
+  ← c .of-center .ensures,
+)
 
 pub parts-center-spec : {M : Type 1} → statement M
 parts-center-spec = tie.close (tie.spec of-bits-requires of-bits-requires-2 compute-center-requires of-center-requires returns)

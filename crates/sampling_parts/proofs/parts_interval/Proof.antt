@@ -27,7 +27,19 @@ of-range-requires c = search needs
 
 returns : tie.Need-returns
 unfolding interval
-returns c = simp (← c .before .before .before .before .before .before .of-bits .ensures, ← c .before .before .before .before .before .of-bits2 .ensures, ← c .before .before .before .before .of-bits3 .ensures, ← c .before .before .before .of-bits4 .ensures, ← c .before .before .wrist-limit-intervals .ensures, ← c .before .one-of .ensures, ← c .of-range .ensures)
+returns c =
+    let c5 = c .before .before .before .before .before in
+    simp (
+      ← c5 .before .of-bits .ensures,
+      ← c5 .of-bits2 .ensures,
+      ← c .before .before .before .before .of-bits3 .ensures,
+      ← c .before .before .before .of-bits4 .ensures,
+      ← c .before .before .wrist-limit-intervals .ensures,
+      ← c .before .one-of .ensures,
+      ← c .of-range .ensures,
+    )
 
 pub parts-interval-spec : {M : Type 1} → statement M
-parts-interval-spec = tie.close (tie.spec of-bits-requires of-bits-requires-2 of-bits-requires-3 of-bits-requires-4 wrist-limit-intervals-requires one-of-requires of-range-requires returns)
+parts-interval-spec = tie.close
+    (tie.spec of-bits-requires of-bits-requires-2 of-bits-requires-3 of-bits-requires-4 wrist-limit-intervals-requires one-of-requires
+    of-range-requires returns)

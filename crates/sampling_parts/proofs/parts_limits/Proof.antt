@@ -30,7 +30,19 @@ of-range-requires c = search needs
 
 returns : tie.Need-returns
 unfolding limits
-returns c = simp (← c .before .before .before .before .before .before .before .of-bits .ensures, ← c .before .before .before .before .before .before .of-bits2 .ensures, ← c .before .before .before .before .before .of-bits3 .ensures, ← c .before .before .before .before .of-bits4 .ensures, ← c .before .before .before .of-bits5 .ensures, ← c .before .before .yes .ensures, ← c .before .limits .ensures, ← c .of-range .ensures)
+returns c =
+    let c5 = c .before .before .before .before .before in
+    simp (
+      ← c5 .before .before .of-bits .ensures,
+      ← c5 .before .of-bits2 .ensures,
+      ← c5 .of-bits3 .ensures,
+      ← c .before .before .before .before .of-bits4 .ensures,
+      ← c .before .before .before .of-bits5 .ensures,
+      ← c .before .before .yes .ensures,
+      ← c .before .limits .ensures,
+      ← c .of-range .ensures,
+    )
 
 pub parts-limits-spec : {M : Type 1} → statement M
-parts-limits-spec = tie.close (tie.spec of-bits-requires of-bits-requires-2 of-bits-requires-3 of-bits-requires-4 of-bits-requires-5 yes-requires limits-requires of-range-requires returns)
+parts-limits-spec = tie.close (tie.spec of-bits-requires of-bits-requires-2 of-bits-requires-3 of-bits-requires-4 of-bits-requires-5 yes-requires
+    limits-requires of-range-requires returns)

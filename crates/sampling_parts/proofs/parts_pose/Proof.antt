@@ -24,7 +24,16 @@ of-pose-requires c = search needs
 
 returns : tie.Need-returns
 unfolding pose
-returns c = simp (← c .before .before .before .before .before .of-bits .ensures, ← c .before .before .before .before .of-bits2 .ensures, ← c .before .before .before .of-bits3 .ensures, ← c .before .before .of-bits4 .ensures, ← c .before .try-normalize .ensures, ← c .of-pose .ensures)
+returns c =
+    let c5 = c .before .before .before .before .before in
+    simp (
+      ← c5 .of-bits .ensures,
+      ← c .before .before .before .before .of-bits2 .ensures,
+      ← c .before .before .before .of-bits3 .ensures,
+      ← c .before .before .of-bits4 .ensures,
+      ← c .before .try-normalize .ensures,
+      ← c .of-pose .ensures,
+    )
 
 pub parts-pose-spec : {M : Type 1} → statement M
 parts-pose-spec = tie.close (tie.spec of-bits-requires of-bits-requires-2 of-bits-requires-3 of-bits-requires-4 try-normalize-requires of-pose-requires returns)

@@ -10,7 +10,7 @@ use Rattle.sampling.specs.Samples.{between, all-between, samples, sample-count,
 use Rattle.sampling.specs.Laws.Samples.{samples-length}
 use Rattle.sheet.specs.Promises.Floats.{float-bytes, floats-bytes}
 use Rattle.sheet.specs.Laws.Bytes.{sets-append, floats-bytes-cons, floats-bytes-nil, length-floats-bytes}
-use Rattle.sheet.specs.Laws.Sampling.{floats-turn, floats-end}
+use Rattle.sheet.specs.Laws.Sampling.{floats-step, floats-end}
 
 floats-append : (xs ys : List Float) → floats-bytes (xs ++ ys) ≡ floats-bytes xs ++ floats-bytes ys
 floats-append [] ys = rw floats-bytes-nil
@@ -25,14 +25,14 @@ runs out at to xs ys e =
     let k : at + length (floats-bytes xs) ≡ to = omega (arith, length-floats-bytes xs, e) in
     rw (floats-append xs ys, sets-append (floats-bytes xs) (floats-bytes ys) out at, k)
 
--- a turn of `put_list`, and its end
-pub list-turn : (out : List ℕ) (at i : ℕ) (l : List Float) → i < length l
+-- a step of `put_list`, and its end
+pub list-step : (out : List ℕ) (at i : ℕ) (l : List Float) → i < length l
     → sets (sets out (at + 8 * i) (float-bytes (getD l i nan))) (at + 8 * (i + 1)) (floats-bytes (drop (i + 1) l)) ≡ sets out (at + 8 * i)
     (floats-bytes (drop i l))
-list-turn out at i l h =
+list-step out at i l h =
     let e : at + 8 * (i + 1) ≡ at + 8 * i + 8 = omega arith in
     let f : i + 1 ≡ suc i = omega arith in
-    rw (e, f) (floats-turn out (at + 8 * i) (getD l i nan) (drop i l) (drop (suc i) l) (drop-cons l i nan h))
+    rw (e, f) (floats-step out (at + 8 * i) (getD l i nan) (drop i l) (drop (suc i) l) (drop-cons l i nan h))
 
 -- three floats
 pub three : (out : List ℕ) (at : ℕ) (a b c : Float)
@@ -41,10 +41,10 @@ three out at a b c =
     let e : at + 16 ≡ at + 8 + 8 = omega arith in
     let x = sets out at (float-bytes a) in
     let y = sets x (at + 8) (float-bytes b) in
-    rw e (floats-end (sets y (at + 8 + 8) (float-bytes c)) (at + 8 + 8 + 8) [] refl ∙ floats-turn y (at + 8 + 8) c (c ∷ []) [] refl
-    ∙ floats-turn x (at + 8) b (b ∷ (c ∷ [])) (c ∷ []) refl ∙ floats-turn out at a (a ∷ (b ∷ (c ∷ []))) (b ∷ (c ∷ [])) refl)
+    rw e (floats-end (sets y (at + 8 + 8) (float-bytes c)) (at + 8 + 8 + 8) [] refl ∙ floats-step y (at + 8 + 8) c (c ∷ []) [] refl
+    ∙ floats-step x (at + 8) b (b ∷ (c ∷ [])) (c ∷ []) refl ∙ floats-step out at a (a ∷ (b ∷ (c ∷ []))) (b ∷ (c ∷ [])) refl)
 
--- a turn of `put_between`, and its end
+-- a step of `put_between`, and its end
 between-next : (l : List Float) (i : ℕ) → i + 1 < length l → all-between (drop i l) ≡ between (getD l i nan) (getD l (i + 1) nan) ++ all-between
     (drop (i + 1) l)
 unfolding all-between
@@ -58,11 +58,11 @@ length-between : (a b : Float) → length (between a b) ≡ 3
 unfolding between
 length-between a b = refl
 
-pub between-turn : (out : List ℕ) (at i : ℕ) (l : List Float) → i + 1 < length l
+pub between-step : (out : List ℕ) (at i : ℕ) (l : List Float) → i + 1 < length l
     → sets (sets out (at + 24 * i) (floats-bytes (between (getD l i nan) (getD l (i + 1) nan)))) (at + 24 * (i + 1))
     (floats-bytes (all-between (drop (i + 1) l)))
     ≡ sets out (at + 24 * i) (floats-bytes (all-between (drop i l)))
-between-turn out at i l h =
+between-step out at i l h =
     let a = getD l i nan in
     let b = getD l (i + 1) nan in
     let e : at + 24 * (i + 1) ≡ at + 24 * i + 8 * length (between a b) = omega (arith, length-between a b) in
@@ -96,9 +96,9 @@ module _ (out : List ℕ) (w : List Float) (f g h k m : ℕ) (b : f + g + h ≤ 
   second-length = samples-length (take g (drop f w)) ∙ ap (λ (x : ℕ). sample-count x) (length-take-le g (drop f w) (omega (arith, b, length-drop f w))) ∙ sym
       q
 
-  in-turn : sets (sets (sets out 0 (floats-bytes first)) (8 * k) (floats-bytes second)) (8 * (k + m)) (floats-bytes third)
+  one-after-another : sets (sets (sets out 0 (floats-bytes first)) (8 * k) (floats-bytes second)) (8 * (k + m)) (floats-bytes third)
       ≡ sets out 0 (floats-bytes ((first ++ second) ++ third))
-  in-turn =
+  one-after-another =
       let e : 8 * k ≡ 0 + 8 * length first = omega (arith, first-length) in
       let d : 8 * (k + m) ≡ 0 + 8 * length (first ++ second) = omega (arith, length-append first second, first-length, second-length) in
       ap (λ (o : List ℕ). sets o (8 * (k + m)) (floats-bytes third)) (runs out 0 (8 * k) first second e) ∙ runs out 0 (8 * (k + m)) (first ++ second) third d
@@ -111,4 +111,4 @@ module _ (out : List ℕ) (w : List Float) (f g h k m : ℕ) (b : f + g + h ≤ 
       let x : f - 0 ≡ f = omega arith in
       let y : f + g - f ≡ g = omega arith in
       let z : f + g + h - (f + g) ≡ h = omega arith in
-      rw (x, y, z) in-turn
+      rw (x, y, z) one-after-another

@@ -7,7 +7,7 @@ use mathlib.Core.Bool.{true, false}
 use lib.ListN.{length, getD, drop, drop-of-length-le}
 use lib.Seq.{drop-cons, sets}
 use Rattle.sheet.specs.Bytes.{part, same-bytes}
-use Rattle.sheet.specs.Laws.Bytes.{part-cons, sets-all, same-turn, same-stop, same-nil}
+use Rattle.sheet.specs.Laws.Bytes.{part-cons, sets-all, same-step, same-stop, same-nil}
 
 module _ (s t : List ℕ) (at i : ℕ) (h : at + length t ≤ length s) (l : i < length t) where
   parts : part (at + i) (length t - i) s ≡ getD s (at + i) 0 ∷ part (at + (i + 1)) (length t - (i + 1)) s
@@ -21,16 +21,16 @@ module _ (s t : List ℕ) (at i : ℕ) (h : at + length t ≤ length s) (l : i <
       let f : i + 1 ≡ suc i = omega arith in
       rw f (drop-cons t i 0 l)
 
-  -- a turn whose bytes are the same
-  pub at-turn : getD s (at + i) 0 ≡ getD t i 0
+  -- a step whose bytes are the same
+  pub at-step : getD s (at + i) 0 ≡ getD t i 0
       → same-bytes (part (at + (i + 1)) (length t - (i + 1)) s) (drop (i + 1) t) ≡ same-bytes (part (at + i) (length t - i) s) (drop i t)
-  at-turn e = rw (parts, rests) (same-turn _ _ _ _ e)
+  at-step e = rw (parts, rests) (same-step _ _ _ _ e)
 
-  -- a turn whose bytes differ
+  -- a step whose bytes differ
   pub at-stop : (getD s (at + i) 0 ≡ getD t i 0 → ⊥) → false ≡ same-bytes (part (at + i) (length t - i) s) (drop i t)
   at-stop e = rw (parts, rests) (same-stop _ _ _ _ e)
 
--- no turn is left
+-- no step is left
 pub at-end : (s t : List ℕ) (at i : ℕ) → length t ≤ i → true ≡ same-bytes (part (at + i) (length t - i) s) (drop i t)
 at-end s t at i h =
     let e : length t - i ≡ 0 = omega arith in

@@ -46,9 +46,9 @@ module _ (s : List ℕ) (at : ℕ) (y : Float) (xs ys : List Float) (e : xs ≡ 
       ∙ (same-append (part at 8 s) (float-bytes y) (drop (at + 8) s) (floats-bytes ys) (length-part at 8 s h ∙ sym (length-bytes 8 (toBits binary64 y))))
 
   -- the bytes of a float are the same, or not
-  pub float-turn : at + 8 ≤ length s → same-bytes (part at 8 s) (float-bytes y) ≡ true → same-bytes (drop (at + 8) s) (floats-bytes ys) ≡ same-bytes
+  pub float-step : at + 8 ≤ length s → same-bytes (part at 8 s) (float-bytes y) ≡ true → same-bytes (drop (at + 8) s) (floats-bytes ys) ≡ same-bytes
       (drop at s) (floats-bytes xs)
-  float-turn h q = sym (both h ∙ rw q)
+  float-step h q = sym (both h ∙ rw q)
 
   pub float-stop : at + 8 ≤ length s → same-bytes (part at 8 s) (float-bytes y) ≡ false → false ≡ same-bytes (drop at s) (floats-bytes xs)
   float-stop h q = sym (both h ∙ rw q)

@@ -15,7 +15,7 @@ use lib.Ieee.Bits.{is-true}
 use Rattle.float.specs.Laws.Le.{yes-of}
 use Rattle.sheet.specs.declared.request.Field.{Field}
 use Rattle.sheet.specs.declared.request.Field.the-variants.{Sign, Arm, Reference, Offset, From, To}
-use Rattle.sheet.specs.Bytes.{le, part, float-at}
+use Rattle.sheet.specs.Bytes.{little-endian, part, float-at}
 use Rattle.sheet.specs.Request.{request-size, shape-of, reads, place, last, width, byte-read, Agree, AgreeFields, blank}
 use Rattle.sheet.specs.Laws.Places.{byte-is, byte-first, byte-always}
 use Rattle.sheet.specs.Laws.Blank.{length-blank, getD-blank}
@@ -64,11 +64,12 @@ module _ (r s : List ℕ) (g : Agree r s) where
   pub same-float : (f : Field) (j : ℕ) → 1 ≤ j → j ≤ last f → width f ≡ 8 → T (reads (shape-of r) f j) → float-at r (place f j) ≡ float-at s (place f j)
   same-float f j a b e t =
       let q : part (place f j) 8 r ≡ part (place f j) 8 s = subst (λ (n : ℕ). part (place f j) n r ≡ part (place f j) n s) e (same-part f j a b t) in
-      ap (λ (l : List ℕ). ofBits binary64 (le l)) q
+      ap (λ (l : List ℕ). ofBits binary64 (little-endian l)) q
 
   -- a part of the rotation
   pub same-rotation : (at : ℕ) → 16 ≤ at → at + 8 ≤ 48 → float-at r at ≡ float-at s at
-  same-rotation at a b = ap (λ (l : List ℕ). ofBits binary64 (le l)) (stretch r s at 8 same-length (λ k c d. same-always k (omega arith) (omega arith)))
+  same-rotation at a b = ap (λ (l : List ℕ). ofBits binary64 (little-endian l))
+      (stretch r s at 8 same-length (λ k c d. same-always k (omega arith) (omega arith)))
 
   by-fields : AgreeFields r s
   by-fields =

@@ -12,7 +12,7 @@ use lib.Dec.{eqb}
 use lib.Ieee.{Float, binary64, toBits}
 use borrow.Author.Tests.{eq-eqb, ne-eqb, eqb-true}
 use Rattle.float.specs.Laws.Tests.{and-left, and-right}
-use Rattle.sheet.specs.Bytes.{le, bytes, part, words-bytes, same-bytes}
+use Rattle.sheet.specs.Bytes.{little-endian, bytes, part, words-bytes, same-bytes}
 use Rattle.sheet.specs.Promises.Floats.{float-bytes, floats-bytes}
 
 -- ---- parts
@@ -28,8 +28,8 @@ length-part at k s h = length-take-le k (drop at s) (simp length-drop (omega ari
 
 -- the number of four bytes at a position, digit by digit
 pub half-is : (s : List ℕ) (at : ℕ) → at + 4 ≤ length s
-    → le (part at 4 s) ≡ getD s at 0 + 256 * (getD s (at + 1) 0 + 256 * (getD s (at + 2) 0 + 256 * getD s (at + 3) 0))
-unfolding le
+    → little-endian (part at 4 s) ≡ getD s at 0 + 256 * (getD s (at + 1) 0 + 256 * (getD s (at + 2) 0 + 256 * getD s (at + 3) 0))
+unfolding little-endian
 half-is s at h =
     simp (towards-suc)
     (rw (
@@ -41,8 +41,8 @@ half-is s at h =
     (omega arith))
 
 -- the number of eight bytes is that of its halves
-pub word-is : (s : List ℕ) (at : ℕ) → at + 8 ≤ length s → le (part at 8 s) ≡ le (part at 4 s) + 2 ^ 32 * le (part (at + 4) 4 s)
-unfolding le
+pub word-is : (s : List ℕ) (at : ℕ) → at + 8 ≤ length s → little-endian (part at 8 s) ≡ little-endian (part at 4 s) + 2 ^ 32 * little-endian (part (at + 4) 4 s)
+unfolding little-endian
 word-is s at h =
     simp (towards-suc)
     (rw (
@@ -68,14 +68,14 @@ length-bytes zero v = refl
 length-bytes (suc k) v = ap suc (length-bytes k (v / 256))
 
 -- the k lowest bytes of a number hold it, if it is small enough
-pub le-bytes : (k v : ℕ) → v < 256 ^ k → le (bytes k v) ≡ v
-unfolding le bytes
-le-bytes zero v h = omega arith
-le-bytes (suc k) v h = rw (le-bytes k (v / 256) (omega arith)) (omega arith)
+pub little-endian-bytes : (k v : ℕ) → v < 256 ^ k → little-endian (bytes k v) ≡ v
+unfolding little-endian bytes
+little-endian-bytes zero v h = omega arith
+little-endian-bytes (suc k) v h = rw (little-endian-bytes k (v / 256) (omega arith)) (omega arith)
 
 -- four bytes hold every number below 2 ^ 32
-pub le-half : (n : ℕ) → n < 2 ^ 32 → le (bytes 4 n) ≡ n
-le-half n h = le-bytes 4 n h
+pub little-endian-half : (n : ℕ) → n < 2 ^ 32 → little-endian (bytes 4 n) ≡ n
+little-endian-half n h = little-endian-bytes 4 n h
 
 -- ---- stores
 
@@ -121,9 +121,9 @@ length-floats-bytes (x ∷ xs) = rw (length-append, length-bytes, length-floats-
 
 -- ---- comparison
 
-pub same-turn : (a b : ℕ) (x y : List ℕ) → a ≡ b → same-bytes x y ≡ same-bytes (a ∷ x) (b ∷ y)
+pub same-step : (a b : ℕ) (x y : List ℕ) → a ≡ b → same-bytes x y ≡ same-bytes (a ∷ x) (b ∷ y)
 unfolding same-bytes
-same-turn a b x y e = rw (eq-eqb a b e)
+same-step a b x y e = rw (eq-eqb a b e)
 
 pub same-stop : (a b : ℕ) (x y : List ℕ) → (a ≡ b → ⊥) → false ≡ same-bytes (a ∷ x) (b ∷ y)
 unfolding same-bytes

@@ -9,7 +9,7 @@ use lib.Seq.{sets, take-at, drop-at}
 use lib.Dec.{eqb, ltb}
 use lib.Ieee.{Float}
 use borrow.Author.Tests.{eqb-true, eq-eqb, ne-eqb, le-leb, lt-leb, lt-ltb, le-ltb}
-use Rattle.sheet.specs.Bytes.{le, bytes, part, same-bytes}
+use Rattle.sheet.specs.Bytes.{little-endian, bytes, part, same-bytes}
 use Rattle.sheet.specs.Refusals.{refused, need}
 use Rattle.sheet.specs.Sheet.{trailer, trailer-size, frame-size, edition, items-bound}
 use Rattle.sheet.specs.Request.{core-size, request-size}
@@ -86,11 +86,11 @@ edition-in n =
 
 -- a formed sheet says this edition
 formed-edition : (s : List ℕ) → formed s ≡ true → edition-of s ≡ edition
-unfolding formed le bytes
+unfolding formed little-endian bytes
 formed-edition s e =
     let t : trailer-of s ≡ trailer (count-of s) =
     same-is _ _ (and-right (ltb (count-of s) items-bound) _ (and-right (eqb (length s) (sheet-size (count-of s))) _ e)) in
-    ap (λ (l : List ℕ). le (part 8 2 l)) t ∙ ap le (edition-in (count-of s))
+    ap (λ (l : List ℕ). little-endian (part 8 2 l)) t ∙ ap little-endian (edition-in (count-of s))
 
 pub other-edition : (s : List ℕ) (places : ℕ) → core-size + trailer-size ≤ length s → (edition-of s ≡ edition → ⊥) → answer s places ≡ refused 32
 other-edition s places h n = go (formed s) refl

@@ -19,7 +19,8 @@ use Rattle.sheet.specs.Refusals.{Answer, accepted, need}
 use Rattle.sheet.specs.Sheet.{trailer, trailer-size, frame-size, items-bound}
 use Rattle.sheet.specs.Sampling.{angles, items, cut-count, by-request, by-work, answer, before-output, sheet, sheet-size, output-after}
 use Rattle.sheet.specs.Check.{trailer-of, count-of, request-of, items-of, formed, meets-none, clean}
-use Rattle.sheet.specs.Demands.{Within, Answers, Leaves, Counted, Faithful, OtherEdition, Sound, Complete, Exact, Few, SameAnswer, SameAngles, SameSheet, Together}
+use Rattle.sheet.specs.Demands.{Within, Answers, Leaves, Counted, Faithful, OtherEdition, Sound}
+use Rattle.sheet.specs.Demands.{Complete, Exact, Few, SameAnswer, SameAngles, SameSheet, Together}
 use Rattle.sheet.specs.Promises.Plan.{compared, checked}
 use Rattle.sheet.specs.Laws.Bytes.{length-words-bytes, same-is, same-itself}
 use Rattle.sheet.specs.Laws.Agree.{agree-blank, blank-agree, agree-own, blank-twice}

@@ -10,12 +10,12 @@ use lib.Ieee.{Float, fits, binary64, ofBits, toBits}
 use lib.Ieee.Bits.{ofBits-toBits, toBits-lt}
 use Rattle.float.specs.Number.{zero-float}
 use Rattle.polynomial.specs.Promises.Lists.{Fits, Fit}
-use Rattle.sheet.specs.Bytes.{le, bytes, part, words-bytes, float-at}
+use Rattle.sheet.specs.Bytes.{little-endian, bytes, part, words-bytes, float-at}
 use Rattle.sheet.specs.Request.{blank}
 use Rattle.sheet.specs.Fields.{job-of}
 use Rattle.sheet.specs.Sheet.{trailer}
 use Rattle.sheet.specs.Sampling.{angles, items, sheet}
-use Rattle.sheet.specs.Laws.Bytes.{length-bytes, le-bytes}
+use Rattle.sheet.specs.Laws.Bytes.{length-bytes, little-endian-bytes}
 use Rattle.sheet.specs.Laws.Sampling.{length-items}
 use Rattle.sampling.specs.Laws.Fit.{angles-fit}
 
@@ -44,7 +44,7 @@ angle-at r i h =
     let x = getD (angles r) i zero-float in
     let f : Fits x = fit-at (angles r) i zero-float (angles-fit (job-of r)) (omega (arith, length-items r)) in
     let w : toBits binary64 x < 256 ^ 8 = toBits-lt binary64 x f in
-    ap (λ (l : List ℕ). ofBits binary64 (le l)) (word-in (items r) (blank r ++ trailer (length (items r))) i (toBits binary64 zero-float) h)
-    ∙ ap (λ (k : ℕ). ofBits binary64 (le (bytes 8 k))) (List·getD-map (toBits binary64) (angles r) i zero-float)
-    ∙ ap (ofBits binary64) (le-bytes 8 (toBits binary64 x) w)
+    ap (λ (l : List ℕ). ofBits binary64 (little-endian l)) (word-in (items r) (blank r ++ trailer (length (items r))) i (toBits binary64 zero-float) h)
+    ∙ ap (λ (k : ℕ). ofBits binary64 (little-endian (bytes 8 k))) (List·getD-map (toBits binary64) (angles r) i zero-float)
+    ∙ ap (ofBits binary64) (little-endian-bytes 8 (toBits binary64 x) w)
     ∙ ofBits-toBits binary64 x f

@@ -16,7 +16,7 @@ use Rattle.float.specs.Laws.Le.{le→Le, yes-of}
 use Rattle.float.specs.Laws.Tests.{and-left, and-right}
 use Rattle.float.specs.Promises.Order.{Within}
 use Rattle.float.specs.Laws.Within.{Le→within}
-use Rattle.polynomial.specs.Angle.{turn}
+use Rattle.polynomial.specs.Angle.{two-pi}
 use Rattle.sampling.specs.Reads.{joint-read, reference-read}
 use Rattle.sampling.specs.Promises.Stream.{start}
 use Rattle.sampling.specs.Promises.Plan.{Moderate, plan, work-after, to-come, Ready, Gives, step}
@@ -65,14 +65,14 @@ sign-either b = go (eqb b 1)
     go true = inl refl
     go false = inr refl
 
-within-is : (x : Float) → within turn x ≡ true → Within turn x
+within-is : (x : Float) → within two-pi x ≡ true → Within two-pi x
 unfolding within le neg
 within-is nan e = absurd (false≢true e)
 within-is (inf true) e = absurd (false≢true e)
 within-is (inf false) e = absurd (false≢true e)
 within-is (fin s m k) e =
-    Le→within tt (le→Le (fin s m k) turn tt tt (yes-of (and-right (le (neg turn) (fin s m k)) _ e)))
-    (le→Le (neg turn) (fin s m k) tt tt (yes-of (and-left (le (neg turn) (fin s m k)) _ e)))
+    Le→within tt (le→Le (fin s m k) two-pi tt tt (yes-of (and-right (le (neg two-pi) (fin s m k)) _ e)))
+    (le→Le (neg two-pi) (fin s m k) tt tt (yes-of (and-left (le (neg two-pi) (fin s m k)) _ e)))
 
 -- so the angles can be read off the plan
 module _ (r : List ℕ) (g : Passed r) where

@@ -18,9 +18,9 @@ use Rattle.sheet.specs.Laws.Sheet.{length-trailer}
 -- ---- floats one at a time
 
 -- the first of those that are left
-pub floats-turn : (out : List ℕ) (at : ℕ) (y : Float) (xs ys : List Float) → xs ≡ y ∷ ys
+pub floats-step : (out : List ℕ) (at : ℕ) (y : Float) (xs ys : List Float) → xs ≡ y ∷ ys
     → sets (sets out at (float-bytes y)) (at + 8) (floats-bytes ys) ≡ sets out at (floats-bytes xs)
-floats-turn out at y xs ys e =
+floats-step out at y xs ys e =
     let k : at + length (float-bytes y) ≡ at + 8 = ap (λ (n : ℕ). at + n) (length-bytes 8 (toBits binary64 y)) in
     rw (e, floats-bytes-cons y ys, sets-append (float-bytes y) (floats-bytes ys) out at, k)
 

@@ -10,7 +10,7 @@ use lib.Dec.{T, eqb}
 use lib.Ieee.Scale.{finite}
 use borrow.Author.Tests.{eqb-true}
 use Rattle.float.specs.Laws.Tests.{and-left, and-right}
-use Rattle.polynomial.specs.Angle.{turn}
+use Rattle.polynomial.specs.Angle.{two-pi}
 use Rattle.sampling.specs.Pose.{try-normalize}
 use Rattle.sampling.specs.declared.pose.Quaternion.{Quaternion}
 use Rattle.sampling.specs.declared.pose.Normalized.{Normalized}
@@ -22,7 +22,8 @@ use Rattle.sheet.specs.declared.validate.Tested.{Tested}
 use Rattle.sheet.specs.Request.{request-size, shape-of, reads, last}
 use Rattle.sheet.specs.Fields.{field, rotation-of}
 use Rattle.sheet.specs.Refusals.{Answer, accepted, refused, need, number}
-use Rattle.sheet.specs.Validate.{all-from, head-right, signs-right, rotation-finite, rotation-nonzero, passes, field-right, fields-right, within, arm-within, references-finite, offsets-within, validate}
+use Rattle.sheet.specs.Validate.{all-from, head-right, signs-right, rotation-finite, rotation-nonzero, passes, field-right}
+use Rattle.sheet.specs.Validate.{fields-right, within, arm-within, references-finite, offsets-within, validate}
 use Rattle.sheet.specs.Promises.Tested.{tested-fields, tested-rotation, tested, after, Passed}
 use Rattle.sheet.specs.declared.refusals.Refusal.the-variants as refusal
 use Rattle.sheet.specs.declared.validate.Tested.the-variants as tests
@@ -146,6 +147,6 @@ module _ (r : List ℕ) (g : Passed r) where
   unfolding references-finite passes
   passed-reference j a b t = field-passes Reference j (g .references) a b t
 
-  pub passed-offset : (j : ℕ) → 1 ≤ j → j ≤ 6 → T (reads (shape-of r) Offset j) → within turn (field r Offset j) ≡ true
+  pub passed-offset : (j : ℕ) → 1 ≤ j → j ≤ 6 → T (reads (shape-of r) Offset j) → within two-pi (field r Offset j) ≡ true
   unfolding offsets-within passes
   passed-offset j a b t = field-passes Offset j (g .offsets) a b t

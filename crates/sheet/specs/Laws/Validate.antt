@@ -10,7 +10,8 @@ use Rattle.sheet.specs.declared.request.Field.{Field}
 use Rattle.sheet.specs.declared.request.Field.the-variants.{Sign, Arm, Reference, Offset}
 use Rattle.sheet.specs.Request.{shape-of, reads, place, last, width, Agree}
 use Rattle.sheet.specs.Fields.{field, rotation-of}
-use Rattle.sheet.specs.Validate.{all-from, zero-at, head-right, sign-right, signs-right, passes, field-right, fields-right, arm-within, references-finite, offsets-within, validate}
+use Rattle.sheet.specs.Validate.{all-from, zero-at, head-right, sign-right, signs-right, passes}
+use Rattle.sheet.specs.Validate.{field-right, fields-right, arm-within, references-finite, offsets-within, validate}
 use Rattle.sheet.specs.Refusals.{Answer}
 use Rattle.sheet.specs.Laws.Agree.{same-first, same-shape, same-always, same-sign, same-float, same-rotation}
 

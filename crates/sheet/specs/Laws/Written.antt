@@ -8,12 +8,12 @@ use lib.ListN.{length, take, drop, length-drop, take-append-drop}
 use lib.Seq.{take-at, drop-at, drop-drop, take-all}
 use lib.Dec.{ltb}
 use borrow.Author.Tests.{eq-eqb, lt-ltb}
-use Rattle.sheet.specs.Bytes.{le, bytes, words-bytes}
+use Rattle.sheet.specs.Bytes.{little-endian, bytes, words-bytes}
 use Rattle.sheet.specs.Request.{request-size, shape-of, blank}
 use Rattle.sheet.specs.Sheet.{trailer, trailer-size, frame-size, items-bound, edition}
 use Rattle.sheet.specs.Sampling.{items, sheet, sheet-size}
 use Rattle.sheet.specs.Check.{trailer-of, count-of, request-of, items-of, formed}
-use Rattle.sheet.specs.Laws.Bytes.{length-bytes, le-half, length-words-bytes, same-itself}
+use Rattle.sheet.specs.Laws.Bytes.{length-bytes, little-endian-half, length-words-bytes, same-itself}
 use Rattle.sheet.specs.Laws.Blank.{length-blank}
 use Rattle.sheet.specs.Laws.Sheet.{length-trailer}
 use Rattle.sheet.specs.Laws.Sampling.{length-sheet}
@@ -70,7 +70,8 @@ module _ (r : List ℕ) (e : length r ≡ request-size) where
 
   module _ (h : length (items r) < items-bound) where
     pub count-in : count-of (sheet r) ≡ length (items r)
-    count-in = ap (λ (l : List ℕ). le (take 4 l)) tail ∙ ap le (first-four (length (items r))) ∙ le-half (length (items r)) (omega arith)
+    count-in = ap (λ (l : List ℕ). little-endian (take 4 l)) tail ∙ ap little-endian (first-four (length (items r)))
+        ∙ little-endian-half (length (items r)) (omega arith)
 
     pub formed-in : formed (sheet r) ≡ true
     unfolding formed

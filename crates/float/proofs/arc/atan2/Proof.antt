@@ -23,31 +23,71 @@ atan-requires : tie.Need-atan-requires
 atan-requires c κs = search needs
 
 returns-3 : tie.Need-returns-3
-returns-3 c = c .atan .ensures ∙ right (c .before .before .before .before .args .y) (c .before .before .before .before .args .x) (is-nan _ false (c .before .before .before .if1 .left)) (is-nan _ false (c .before .before .if2 .left)) (c .before .if3 .taken)
+returns-3 c = c .atan .ensures ∙ right (c .before .before .before .before .args .y) (c .before .before .before .before .args .x)
+    (is-nan _ false (c .before .before .before .if1 .left)) (is-nan _ false (c .before .before .if2 .left)) (c .before .if3 .taken)
 
 atan-requires-2 : tie.Need-atan-requires-2
 atan-requires-2 c κs = search needs
 
 returns-4 : tie.Need-returns-4
-returns-4 c = (λ i. c .atan2 .ensures i ⊕ P-bits i) ∙ left (c .before .before .before .before .before .before .args .y) (c .before .before .before .before .before .before .args .x) (is-nan _ false (c .before .before .before .before .before .if1 .left)) (is-nan _ false (c .before .before .before .before .if2 .left)) true (c .before .before .before .if3 .left) (c .before .before .if4 .taken) (c .before .if5 .taken)
+returns-4 c =
+    let c5 = c .before .before .before .before .before in
+    (λ i. c .atan2 .ensures i ⊕ P-bits i) ∙ left (c5 .before .args .y) (c5 .before .args .x) (is-nan _ false (c5 .if1 .left))
+    (is-nan _ false (c .before .before .before .before .if2 .left)) true (c .before .before .before .if3 .left) (c .before .before .if4 .taken)
+    (c .before .if5 .taken)
 
 atan-requires-3 : tie.Need-atan-requires-3
 atan-requires-3 c κs = search needs
 
 returns-5 : tie.Need-returns-5
-returns-5 c = (λ i. c .atan3 .ensures i ⊖ P-bits i) ∙ left (c .before .before .before .before .before .before .args .y) (c .before .before .before .before .before .before .args .x) (is-nan _ false (c .before .before .before .before .before .if1 .left)) (is-nan _ false (c .before .before .before .before .if2 .left)) false (c .before .before .before .if3 .left) (c .before .before .if4 .taken) (c .before .if5 .left)
+returns-5 c =
+    let c5 = c .before .before .before .before .before in
+    (λ i. c .atan3 .ensures i ⊖ P-bits i) ∙ left (c5 .before .args .y) (c5 .before .args .x) (is-nan _ false (c5 .if1 .left))
+    (is-nan _ false (c .before .before .before .before .if2 .left)) false (c .before .before .before .if3 .left) (c .before .before .if4 .taken)
+    (c .before .if5 .left)
 
 returns-6 : tie.Need-returns-6
 unfolding atan2
-returns-6 c = sym (simp (is-nan _ false (c .before .before .before .before .if1 .left), is-nan _ false (c .before .before .before .if2 .left), sym zero-bits, sym P-bits, sym two-bits, c .before .before .if3 .left, c .before .if4 .left, c .if6 .taken))
+returns-6 c = sym (simp (
+  is-nan _ false (c .before .before .before .before .if1 .left),
+  is-nan _ false (c .before .before .before .if2 .left),
+  sym zero-bits,
+  sym P-bits,
+  sym two-bits,
+  c .before .before .if3 .left,
+  c .before .if4 .left,
+  c .if6 .taken,
+))
 
 returns-7 : tie.Need-returns-7
 unfolding atan2
-returns-7 c = sym (simp (is-nan _ false (c .before .before .before .before .before .if1 .left), is-nan _ false (c .before .before .before .before .if2 .left), sym zero-bits, sym P-bits, sym two-bits, c .before .before .before .if3 .left, c .before .before .if4 .left, c .before .if6 .left, c .if7 .taken))
+returns-7 c =
+    let c5 = c .before .before .before .before .before in
+    sym (simp (
+      is-nan _ false (c5 .if1 .left),
+      is-nan _ false (c .before .before .before .before .if2 .left),
+      sym zero-bits,
+      sym P-bits,
+      sym two-bits,
+      c .before .before .before .if3 .left,
+      c .before .before .if4 .left,
+      c .before .if6 .left,
+      c .if7 .taken,
+    ))
 
 returns-8 : tie.Need-returns-8
 unfolding atan2
-returns-8 c = sym (simp (is-nan _ false (c .before .before .before .before .before .if1 .left), is-nan _ false (c .before .before .before .before .if2 .left), sym zero-bits, c .before .before .before .if3 .left, c .before .before .if4 .left, c .before .if6 .left, c .if7 .left))
+returns-8 c =
+    let c5 = c .before .before .before .before .before in
+    sym (simp (
+      is-nan _ false (c5 .if1 .left),
+      is-nan _ false (c .before .before .before .before .if2 .left),
+      sym zero-bits,
+      c .before .before .before .if3 .left,
+      c .before .before .if4 .left,
+      c .before .if6 .left,
+      c .if7 .left,
+    ))
 
 pub atan2-spec : {M : Type 1} → statement M
 atan2-spec =

@@ -22,7 +22,8 @@ placed-four-requires : tie.Need-placed-four-requires
 unfolding all-plain
 placed-four-requires c κs =
     let d = c .before in
-    sym (λ i. (d .before .before .before .plain .ensures i && d .before .before .plain2 .ensures i) && (d .before .plain3 .ensures i && d .plain4 .ensures i)) ∙ c .if1 .taken
+    sym (λ i. (d .before .before .before .plain .ensures i && d .before .before .plain2 .ensures i) &&
+    (d .before .plain3 .ensures i && d .plain4 .ensures i)) ∙ c .if1 .taken
 
 returns : tie.Need-returns
 returns c = c .placed-four .ensures
@@ -44,4 +45,5 @@ unfolding beside
 returns-2 c = simp (← c .before .before .before .atan2 .ensures, ← c .before .before .atan22 .ensures, ← c .before .atan23 .ensures, ← c .atan24 .ensures)
 
 pub atan2-four-spec : {M : Type 1} → statement M
-atan2-four-spec = tie.close (tie.spec plain-requires plain-requires-2 plain-requires-3 plain-requires-4 placed-four-requires returns atan2-requires atan2-requires-2 atan2-requires-3 atan2-requires-4 returns-2)
+atan2-four-spec = tie.close (tie.spec plain-requires plain-requires-2 plain-requires-3 plain-requires-4 placed-four-requires returns atan2-requires
+    atan2-requires-2 atan2-requires-3 atan2-requires-4 returns-2)

@@ -2,7 +2,7 @@
 use mathlib.Core.Path.{_≡_, ap, _∙_}
 use borrow.Author.Needs.{needs}
 use Rattle.float.specs.Promises.Four.{each}
-use Rattle.float.specs.Trig.{atan-start, atan-value, halved}
+use Rattle.float.specs.Trig.{atan-start, atan-value, half-angle}
 use Rattle.float.specs.declared.arc.Four.{Four}
 use Rattle.float.proofs.arc.atan_four.Statement.{statement}
 use Rattle.float.proofs.arc.atan_four.Tie as tie
@@ -10,15 +10,17 @@ use Rattle.float.proofs.arc.atan_four.Tie as tie
 reduced-four-requires : tie.Need-reduced-four-requires
 reduced-four-requires c = search needs
 
-halved-four-requires : tie.Need-halved-four-requires
-halved-four-requires c = search needs
+half-angle-four-requires : tie.Need-half-angle-four-requires
+half-angle-four-requires c = search needs
 
-halved-four-requires-2 : tie.Need-halved-four-requires-2
-halved-four-requires-2 c = search needs
+half-angle-four-requires-2 : tie.Need-half-angle-four-requires-2
+half-angle-four-requires-2 c = search needs
 
 -- what was halved twice
-chain : (c : tie.After-halved-four2) → c .halved-four2 .result ≡ each halved (each halved (each atan-start (c .before .before .before .args .x)))
-chain c = c .halved-four2 .ensures ∙ ap (each halved) (c .before .halved-four .ensures ∙ ap (each halved) (c .before .before .reduced-four .ensures))
+chain : (c : tie.After-half-angle-four2) → c .half-angle-four2 .result ≡ each half-angle
+    (each half-angle (each atan-start (c .before .before .before .args .x)))
+chain c = c .half-angle-four2 .ensures ∙ ap (each half-angle)
+    (c .before .half-angle-four .ensures ∙ ap (each half-angle) (c .before .before .reduced-four .ensures))
 
 atan-value-requires : tie.Need-atan-value-requires
 atan-value-requires c = search needs
@@ -50,7 +52,15 @@ restored-requires-4 c κs = c .atan-value4 .ensures ∙ ap (λ (p : Four). atan-
 
 returns : tie.Need-returns
 unfolding each
-returns c = simp (← c .before .before .before .before .before .before .restored .ensures, ← c .before .before .before .before .restored2 .ensures, ← c .before .before .restored3 .ensures, ← c .restored4 .ensures)
+returns c =
+    let c5 = c .before .before .before .before .before in
+    simp (
+      ← c5 .before .restored .ensures,
+      ← c .before .before .before .before .restored2 .ensures,
+      ← c .before .before .restored3 .ensures,
+      ← c .restored4 .ensures,
+    )
 
 pub atan-four-spec : {M : Type 1} → statement M
-atan-four-spec = tie.close (tie.spec reduced-four-requires halved-four-requires halved-four-requires-2 atan-value-requires restored-requires atan-value-requires-2 restored-requires-2 atan-value-requires-3 restored-requires-3 atan-value-requires-4 restored-requires-4 returns)
+atan-four-spec = tie.close (tie.spec reduced-four-requires half-angle-four-requires half-angle-four-requires-2 atan-value-requires restored-requires
+    atan-value-requires-2 restored-requires-2 atan-value-requires-3 restored-requires-3 atan-value-requires-4 restored-requires-4 returns)

@@ -18,7 +18,8 @@ returns : tie.Need-returns
 returns c =
     let d = c .before in
     let s = d .before .before in
-    c .abs .ensures ∙ ap (λ (b : Bool). cond b (neg (abs (s .args .v))) (abs (s .args .v))) (sym (not-true (negative (s .args .x)) (sym (d .before .is-sign-positive .ensures) ∙ d .if1 .taken)))
+    c .abs .ensures ∙ ap (λ (b : Bool). cond b (neg (abs (s .args .v))) (abs (s .args .v)))
+    (sym (not-true (negative (s .args .x)) (sym (d .before .is-sign-positive .ensures) ∙ d .if1 .taken)))
 
 abs-requires-2 : tie.Need-abs-requires-2
 abs-requires-2 c κs = search needs
@@ -27,7 +28,8 @@ returns-2 : tie.Need-returns-2
 returns-2 c =
     let d = c .before in
     let s = d .before .before in
-    ap neg (c .abs2 .ensures) ∙ ap (λ (b : Bool). cond b (neg (abs (s .args .v))) (abs (s .args .v))) (sym (not-false (negative (s .args .x)) (sym (d .before .is-sign-positive .ensures) ∙ d .if1 .left)))
+    ap neg (c .abs2 .ensures) ∙ ap (λ (b : Bool). cond b (neg (abs (s .args .v))) (abs (s .args .v)))
+    (sym (not-false (negative (s .args .x)) (sym (d .before .is-sign-positive .ensures) ∙ d .if1 .left)))
 
 pub copysign-spec : {M : Type 1} → statement M
 copysign-spec = tie.close (tie.spec is-sign-positive-requires abs-requires returns abs-requires-2 returns-2)

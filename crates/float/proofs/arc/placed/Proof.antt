@@ -19,14 +19,16 @@ returns-2 c =
     let y = c .before .before .args .y in
     let x = c .before .before .args .x in
     let h = c .before .before .pre in
-    (λ i. (h .1) i ⊕ P-bits i) ∙ left y x (first-number y x (h .0)) (second-number y x (h .0)) true (c .before .if1 .left) (is-left y x (h .0) (c .before .if1 .left)) (c .if2 .taken)
+    (λ i. (h .1) i ⊕ P-bits i) ∙ left y x (first-number y x (h .0)) (second-number y x (h .0)) true (c .before .if1 .left)
+    (is-left y x (h .0) (c .before .if1 .left)) (c .if2 .taken)
 
 returns-3 : tie.Need-returns-3
 returns-3 c =
     let y = c .before .before .args .y in
     let x = c .before .before .args .x in
     let h = c .before .before .pre in
-    (λ i. (h .1) i ⊖ P-bits i) ∙ left y x (first-number y x (h .0)) (second-number y x (h .0)) false (c .before .if1 .left) (is-left y x (h .0) (c .before .if1 .left)) (c .if2 .left)
+    (λ i. (h .1) i ⊖ P-bits i) ∙ left y x (first-number y x (h .0)) (second-number y x (h .0)) false (c .before .if1 .left)
+    (is-left y x (h .0) (c .before .if1 .left)) (c .if2 .left)
 
 pub placed-spec : {M : Type 1} → statement M
 placed-spec = tie.close (tie.spec returns returns-2 returns-3)

@@ -12,7 +12,9 @@ atan-four-requires : tie.Need-atan-four-requires
 atan-four-requires c = search needs
 
 -- that each is plain
-plain-ones : (c : tie.After-atan-four) → let s = c .before .before .before .before .before .before .before .before .before in (plain (s .args .y .a) (s .args .x .a) ≡ true) × (plain (s .args .y .b) (s .args .x .b) ≡ true) × (plain (s .args .y .c) (s .args .x .c) ≡ true) × (plain (s .args .y .d) (s .args .x .d) ≡ true)
+plain-ones : (c : tie.After-atan-four) → let s = c .before .before .before .before .before .before .before .before .before in
+    (plain (s .args .y .a) (s .args .x .a) ≡ true) × (plain (s .args .y .b) (s .args .x .b) ≡ true) × (plain (s .args .y .c) (s .args .x .c) ≡ true) ×
+    (plain (s .args .y .d) (s .args .x .d) ≡ true)
 plain-ones c = all-four _ _ (c .before .before .before .before .before .before .before .before .before .pre)
 
 placed-requires : tie.Need-placed-requires

@@ -23,7 +23,8 @@ shifted c =
 
 -- the word that is packed, on each way
 short : (c : tie.After-sticky)
-    → bitOr (bitOr (c .before .before .before .args .hi * 2 ^ c .before .before .shift .result % 2 ^ 64) (c .before .before .before .args .lo / 2 ^ (64 - c .before .before .shift .result))) (c .sticky .result) ≡ jam (X (c .before .before)) 64
+    → bitOr (bitOr (c .before .before .before .args .hi * 2 ^ c .before .before .shift .result % 2 ^ 64)
+    (c .before .before .before .args .lo / 2 ^ (64 - c .before .before .shift .result))) (c .sticky .result) ≡ jam (X (c .before .before)) 64
 short c =
     let t = c .before in
     let h = t .before in
@@ -39,7 +40,8 @@ long c =
     left-long (a .args .hi) (a .args .lo) (a .args .y) (h .shift .result) (a .fits .lo .fits) (a .pre .0) (h .shift .ensures) (c .if1 .left)
 
 top : (h : tie.After-shift) → 0 < h .before .args .y - h .shift .result → 2 ^ 63 ≤ jam (X h) 64
-top h = full (h .before .args .hi) (h .before .args .lo) (h .before .args .y) (h .shift .result) (h .before .fits .lo .fits) (h .before .pre .0) (h .shift .ensures)
+top h = full (h .before .args .hi) (h .before .args .lo) (h .before .args .y) (h .shift .result) (h .before .fits .lo .fits) (h .before .pre .0)
+    (h .shift .ensures)
 
 shift-requires : tie.Need-shift-requires
 shift-requires c κs = search needs
@@ -84,7 +86,8 @@ returns c =
       some = h .before .pre .0;
       shift = h .shift .result;
       shifts = h .shift .ensures;
-      is = c .pack .ensures ∙ ap (λ (w : ℕ). units binary64 (h .before .args .neg) (closest w (2 ^ 11)) (h .before .args .y - h .shift .result)) (short (c .before));
+      is = c .pack .ensures ∙ ap (λ (w : ℕ). units binary64 (h .before .args .neg) (closest w (2 ^ 11)) (h .before .args .y - h .shift .result))
+          (short (c .before));
     }
 
 returns-2 : tie.Need-returns-2
@@ -94,7 +97,8 @@ returns-2 c =
       some = h .before .pre .0;
       shift = h .shift .result;
       shifts = h .shift .ensures;
-      is = c .pack2 .ensures ∙ ap (λ (w : ℕ). units binary64 (h .before .args .neg) (closest w (2 ^ 11)) (h .before .args .y - h .shift .result)) (long (c .before));
+      is = c .pack2 .ensures ∙ ap (λ (w : ℕ). units binary64 (h .before .args .neg) (closest w (2 ^ 11)) (h .before .args .y - h .shift .result))
+          (long (c .before));
     }
 
 pub finish-spec : {M : Type 1} → statement M

@@ -115,7 +115,11 @@ module _ (j : tie.After-struct-known8) where
   h-is = sym (add-zero (qc * 2 ^ 9 % 2 ^ 64 * 2 ^ 64) ∙ ap (λ (x : ℕ). x * 2 ^ 64) (nine qc (C .short)))
 
 -- the product first, and the addend first
-high : (c : tie.Then6) → Orders (s (c .before) .args .a) (s (c .before) .args .b) (s (c .before) .args .c) (unlike (k1 (c .before) .split .result .neg) (k2 (c .before) .split2 .result .neg)) (p (c .before) .product .result .hi * 2 ^ 64 + p (c .before) .product .result .lo) (k3 (c .before) .split3 .result .neg) (qc (c .before) * 2 ^ 9 % 2 ^ 64 * 2 ^ 64 + 0) (k1 (c .before) .split .result .k + k2 (c .before) .split2 .result .k - (k3 (c .before) .split3 .result .k + 1021)) (k1 (c .before) .split .result .k + k2 (c .before) .split2 .result .k - 1019)
+high : (c : tie.Then6) → Orders (s (c .before) .args .a) (s (c .before) .args .b) (s (c .before) .args .c)
+    (unlike (k1 (c .before) .split .result .neg) (k2 (c .before) .split2 .result .neg))
+    (p (c .before) .product .result .hi * 2 ^ 64 + p (c .before) .product .result .lo) (k3 (c .before) .split3 .result .neg)
+    (qc (c .before) * 2 ^ 9 % 2 ^ 64 * 2 ^ 64 + 0) (k1 (c .before) .split .result .k + k2 (c .before) .split2 .result .k -
+    (k3 (c .before) .split3 .result .k + 1021)) (k1 (c .before) .split .result .k + k2 (c .before) .split2 .result .k - 1019)
 high c =
     let j = c .before in
     let a = s j .args in
@@ -129,7 +133,11 @@ high c =
     (subst (λ (x : ℕ). Orders (a .a) (a .b) (a .c) (unlike sa sb) (qa j * 2 ^ 10 * (qb j * 2 ^ 10)) sc x (ka + kb - (kc + 1021)) (ka + kb - 1019)) (h-is j)
     (high-orders (a .a) (a .b) (a .c) sa (qa j) ka sb (qb j) kb sc (qc j) kc (A j) (B j) (C j) (some-a j) (some-b j) (c .if6 .taken)))
 
-low : (c : tie.Else6) → Orders (s (c .before) .args .a) (s (c .before) .args .b) (s (c .before) .args .c) (k3 (c .before) .split3 .result .neg) (qc (c .before) * 2 ^ 9 % 2 ^ 64 * 2 ^ 64 + 0) (unlike (k1 (c .before) .split .result .neg) (k2 (c .before) .split2 .result .neg)) (p (c .before) .product .result .hi * 2 ^ 64 + p (c .before) .product .result .lo) (k3 (c .before) .split3 .result .k + 1021 - (k1 (c .before) .split .result .k + k2 (c .before) .split2 .result .k)) (k3 (c .before) .split3 .result .k + 1021 - 1019)
+low : (c : tie.Else6) → Orders (s (c .before) .args .a) (s (c .before) .args .b) (s (c .before) .args .c) (k3 (c .before) .split3 .result .neg)
+    (qc (c .before) * 2 ^ 9 % 2 ^ 64 * 2 ^ 64 + 0) (unlike (k1 (c .before) .split .result .neg) (k2 (c .before) .split2 .result .neg))
+    (p (c .before) .product .result .hi * 2 ^ 64 + p (c .before) .product .result .lo)
+    (k3 (c .before) .split3 .result .k + 1021 - (k1 (c .before) .split .result .k + k2 (c .before) .split2 .result .k))
+    (k3 (c .before) .split3 .result .k + 1021 - 1019)
 low c =
     let j = c .before in
     let a = s j .args in
@@ -190,10 +198,12 @@ combine-requires-2 c κs =
     )
 
 returns-6 : tie.Need-returns-6
-returns-6 c = let n = c .before in high (n .before) .ends (n .jam .result .hi * 2 ^ 64 + n .jam .result .lo) (n .jam .ensures) (c .combine .result) (c .combine .ensures)
+returns-6 c = let n = c .before in high (n .before) .ends (n .jam .result .hi * 2 ^ 64 + n .jam .result .lo) (n .jam .ensures) (c .combine .result)
+    (c .combine .ensures)
 
 returns-7 : tie.Need-returns-7
-returns-7 c = let n = c .before in low (n .before) .ends (n .jam2 .result .hi * 2 ^ 64 + n .jam2 .result .lo) (n .jam2 .ensures) (c .combine2 .result) (c .combine2 .ensures)
+returns-7 c = let n = c .before in low (n .before) .ends (n .jam2 .result .hi * 2 ^ 64 + n .jam2 .result .lo) (n .jam2 .ensures) (c .combine2 .result)
+    (c .combine2 .ensures)
 
 pub mul-add-spec : {M : Type 1} → statement M
 mul-add-spec =

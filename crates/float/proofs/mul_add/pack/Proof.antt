@@ -83,7 +83,8 @@ returns c =
     let j = c .before .before in
     let a = j .before in
     ap (λ (x : ℕ). ofBits binary64 (x + 2047 * 2 ^ 52)) (sign-is j)
-    ∙ ap (λ (x : ℕ). ofBits binary64 (sign (a .args .neg) + x)) (sym (large (a .args .neg) (a .args .w) (a .args .k) (a .fits .w .fits) (a .pre) (c .before .if2 .taken)))
+    ∙ ap (λ (x : ℕ). ofBits binary64 (sign (a .args .neg) + x))
+    (sym (large (a .args .neg) (a .args .w) (a .args .k) (a .fits .w .fits) (a .pre) (c .before .if2 .taken)))
     ∙ pattern (a .args .neg) (a .args .w) (a .args .k) (a .fits .w .fits) (a .pre)
 
 add-up : tie.Need-add-up
@@ -99,7 +100,8 @@ add-result-2 : tie.Need-add-result-2
 add-result-2 c = search needs
 
 -- the pattern that is written is at most an infinity's
-below-top : (c : tie.Else2) → written (c .before .before .args .neg) (c .before .before .args .w) (c .before .before .args .k) (c .before .before .fits .w .fits) (c .before .before .pre) ≤ 2047 * 2 ^ 52
+below-top : (c : tie.Else2) → written (c .before .before .args .neg) (c .before .before .args .w) (c .before .before .args .k)
+    (c .before .before .fits .w .fits) (c .before .before .pre) ≤ 2047 * 2 ^ 52
 below-top c =
     let a = c .before .before in
     written-le (a .args .neg) (a .args .w) (a .args .k) (a .fits .w .fits) (a .pre) (omega arith)
@@ -120,7 +122,8 @@ returns-2 c =
     let l : a .args .k ≤ 2045 = omega arith in
     ap (λ (x : ℕ). ofBits binary64 (x + written (a .args .neg) (a .args .w) (a .args .k) (a .fits .w .fits) (a .pre))) (sign-is j)
     ∙ ap (λ (x : ℕ). ofBits binary64 (sign (a .args .neg) + x))
-    (written-is (a .args .neg) (a .args .w) (a .args .k) (a .fits .w .fits) (a .pre) ∙ sym (small (a .args .neg) (a .args .w) (a .args .k) (a .fits .w .fits) (a .pre) l))
+    (written-is (a .args .neg) (a .args .w) (a .args .k) (a .fits .w .fits) (a .pre)
+    ∙ sym (small (a .args .neg) (a .args .w) (a .args .k) (a .fits .w .fits) (a .pre) l))
     ∙ pattern (a .args .neg) (a .args .w) (a .args .k) (a .fits .w .fits) (a .pre)
 
 pub pack-spec : {M : Type 1} → statement M

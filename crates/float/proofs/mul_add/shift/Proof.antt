@@ -55,7 +55,8 @@ lower : (hi lo : ℕ) → lo < 2 ^ 64 → hi ≡ 0 → 0 < lo → Tops (hi * 2 ^
 lower hi lo L z P =
     let t = leading-top 64 lo P L in
     let j = t .0 in
-    subst (λ (D : ℕ). Tops D (64 + leadingZeros 64 lo)) (alone hi lo z) (tops lo j (64 + leadingZeros 64 lo) (places (leadingZeros 64 lo) j (t .1)) (t .2) (t .3))
+    subst (λ (D : ℕ). Tops D (64 + leadingZeros 64 lo)) (alone hi lo z)
+    (tops lo j (64 + leadingZeros 64 lo) (places (leadingZeros 64 lo) j (t .1)) (t .2) (t .3))
   where
     places : (z j : ℕ) → z + suc j ≡ 64 → 64 + z + suc j ≡ 128
     places z j e = omega arith
@@ -69,7 +70,8 @@ meets c =
     let a = c .before in
     let D = a .args .hi * 2 ^ 64 + a .args .lo in
     ⊎-elim
-    (λ w. subst (λ (z : ℕ). Tops D z) (sym (w .1)) (lower (a .args .hi) (a .args .lo) (a .fits .lo .fits) (w .0 .taken) (some (a .args .hi) (a .args .lo) (w .0 .taken) (a .pre))))
+    (λ w. subst (λ (z : ℕ). Tops D z) (sym (w .1)) (lower (a .args .hi) (a .args .lo) (a .fits .lo .fits) (w .0 .taken)
+    (some (a .args .hi) (a .args .lo) (w .0 .taken) (a .pre))))
     (λ w. subst (λ (z : ℕ). Tops D z) (sym (w .1)) (upper (a .args .hi) (a .args .lo) (a .fits .hi .fits) (a .fits .lo .fits) (pos-of-ne-zero (w .0 .left))))
     (c .if1 .came)
   where

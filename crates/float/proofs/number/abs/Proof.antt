@@ -58,18 +58,18 @@ kept (inf false) h = refl
 kept (fin true m e) h = absurd (true≢false (sym (not-above m e) ∙ h))
 kept (fin false m e) h = refl
 
-turned : (x : Float) → T (fits binary64 x) → T (le x zero-float) → sub binary64 zero-float x ≡ abs x
+negated : (x : Float) → T (fits binary64 x) → T (le x zero-float) → sub binary64 zero-float x ≡ abs x
 unfolding abs sub add neg sum le lt eq
-turned nan f h = absurd h
-turned (inf true) f h = refl
-turned (inf false) f h = absurd h
-turned (fin true m e) f h =
+negated nan f h = absurd h
+negated (inf true) f h = refl
+negated (inf false) f h = absurd h
+negated (fin true m e) f h =
     ap (λ (n : ℕ). round binary64 false n (1 * down e)) (plain (0 * 1 * down e) (m * up e * 1) (zero-mul (down e)))
     ∙ sym (magnitude-is true m e (pos 0) f)
   where
     plain : (a b : ℕ) → a ≡ 0 → a + b ≡ b
     plain a b z = omega arith
-turned (fin false m e) f h = level (m * up e * 1) (0 * 1 * down e) (1 * down e) none (zero-mul (down e)) ∙ sym (magnitude-is false m e (pos 0) f)
+negated (fin false m e) f h = level (m * up e * 1) (0 * 1 * down e) (1 * down e) none (zero-mul (down e)) ∙ sym (magnitude-is false m e (pos 0) f)
   where
     none : m * up e * 1 ≡ 0
     none = ap (λ (n : ℕ). n * up e * 1) (no-digits m e h) ∙ ap (λ (n : ℕ). n * 1) (zero-mul (up e))
@@ -86,7 +86,7 @@ returns : tie.Need-returns
 returns c =
     let x = c .before .args .x in
     ap (λ (z : Float). sub binary64 z x) zero-bits
-    ∙ turned x (subst T (sym (c .before .good .0 .1)) tt) (subst T (sym (ap (λ (z : Float). le x z) (sym zero-bits) ∙ c .if1 .taken)) tt)
+    ∙ negated x (subst T (sym (c .before .good .0 .1)) tt) (subst T (sym (ap (λ (z : Float). le x z) (sym zero-bits) ∙ c .if1 .taken)) tt)
 
 returns-2 : tie.Need-returns-2
 returns-2 c = kept _ (ap (λ (z : Float). le (c .before .args .x) z) (sym zero-bits) ∙ c .if1 .left)

@@ -55,7 +55,8 @@ read c =
     toZ-ofZ w64 (c .truncating-f64-to-i64 .result) (subst (λ (z : ℤ). SFits w64 z) (sym e) (record { sfits = toSigned-in 63 (x (c .before)) })) ∙ e
 
 -- the code's test
-tested : (c : tie.After-nearest-i64-to-f64) (b : Bool) → lt (x (c .before .before)) (c .nearest-i64-to-f64 .result) ≡ b → lt (x (c .before .before)) (ofInt binary64 (toSigned 63 (x (c .before .before)))) ≡ b
+tested : (c : tie.After-nearest-i64-to-f64) (b : Bool) → lt (x (c .before .before)) (c .nearest-i64-to-f64 .result) ≡ b
+    → lt (x (c .before .before)) (ofInt binary64 (toSigned 63 (x (c .before .before)))) ≡ b
 tested c b h =
     ap (λ (z : ℤ). lt (x (c .before .before)) (ofInt binary64 z)) (sym (read (c .before)))
     ∙ ap (λ (v : Float). lt (x (c .before .before)) v) (sym (c .nearest-i64-to-f64 .ensures))

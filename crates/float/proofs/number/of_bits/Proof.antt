@@ -18,7 +18,8 @@ is-nan : (x : Float) → isNan x ≡ true → x ≡ nan
 is-nan x h = nan-of x (ne-self x ∙ h)
 
 returns : tie.Need-returns
-returns c = let w = c .before .args .w in nan-bits ∙ sym (is-nan (ofBits binary64 w) (sym (nanBits-is binary64 w) ∙ nanBits-above binary64 w ∙ lt-ltb _ _ (c .if1 .taken)))
+returns c = let w = c .before .args .w in
+    nan-bits ∙ sym (is-nan (ofBits binary64 w) (sym (nanBits-is binary64 w) ∙ nanBits-above binary64 w ∙ lt-ltb _ _ (c .if1 .taken)))
 
 returns-2 : tie.Need-returns-2
 returns-2 c = search needs

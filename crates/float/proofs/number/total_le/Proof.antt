@@ -18,11 +18,13 @@ unfolding total-le
 returns c =
     let e = c .before in
     let k = e .before in
-    c .is-sign-positive2 .ensures ∙ sym (simp (k .before .if1 .taken, not-true (negative (k .before .before .args .x)) (sym (k .is-sign-positive .ensures) ∙ e .if2 .taken)))
+    c .is-sign-positive2 .ensures
+    ∙ sym (simp (k .before .if1 .taken, not-true (negative (k .before .before .args .x)) (sym (k .is-sign-positive .ensures) ∙ e .if2 .taken)))
 
 returns-2 : tie.Need-returns-2
 unfolding total-le
-returns-2 c = let k = c .before in sym (simp (k .before .if1 .taken, not-false (negative (k .before .before .args .x)) (sym (k .is-sign-positive .ensures) ∙ c .if2 .left)))
+returns-2 c = let k = c .before in
+    sym (simp (k .before .if1 .taken, not-false (negative (k .before .before .args .x)) (sym (k .is-sign-positive .ensures) ∙ c .if2 .left)))
 
 returns-3 : tie.Need-returns-3
 unfolding total-le

@@ -17,7 +17,8 @@ use Rattle.float.proofs.product_error.error_by_halves.Tie as tie
 summed : Float → Float → Float → Float → Float
 summed a b h l = (high-half a ⊗ h ⊖ a ⊗ b) ⊕ high-half a ⊗ l ⊕ low-half a ⊗ h ⊕ low-half a ⊗ l
 
-by-halves : (a : Float) (b : Halves) → b ≡ halves (b .whole) → T (fits binary64 a) → T (fits binary64 (b .whole)) → in-range least a ≡ true → b .fine ≡ true → summed a (b .whole) (b .high) (b .low) ≡ product-error a (b .whole)
+by-halves : (a : Float) (b : Halves) → b ≡ halves (b .whole) → T (fits binary64 a) → T (fits binary64 (b .whole)) → in-range least a ≡ true
+    → b .fine ≡ true → summed a (b .whole) (b .high) (b .low) ≡ product-error a (b .whole)
 unfolding halves summed
 by-halves a b e s t p q =
     (λ i. summed a (b .whole) (e i .high) (e i .low))

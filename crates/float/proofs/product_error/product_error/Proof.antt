@@ -15,7 +15,8 @@ product-error-by-requires c κs = halved-whole (c .halved-operand .result) (c .b
 returns : tie.Need-returns
 returns c =
     let h = c .before in
-    c .product-error-by .ensures ∙ ap (product-error (h .before .args .a)) (whole-of (h .halved-operand .result) (h .before .args .b) (h .halved-operand .ensures))
+    c .product-error-by .ensures ∙ ap (product-error (h .before .args .a))
+    (whole-of (h .halved-operand .result) (h .before .args .b) (h .halved-operand .ensures))
 
 pub product-error-spec : {M : Type 1} → statement M
 product-error-spec = tie.close (tie.spec halved-operand-requires product-error-by-requires returns)

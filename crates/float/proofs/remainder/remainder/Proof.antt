@@ -13,7 +13,8 @@ use Rattle.float.specs.Laws.Zero.{not-finite, is-finite}
 use Rattle.float.specs.Promises.Parts.{Splits}
 use Rattle.float.proofs.mul_add.Special.{some-digits}
 use Rattle.float.proofs.remainder.Reduced.{rem-digits}
-use Rattle.float.proofs.remainder.Fast.{quotient, first-nan, second-nan, first-not, second-fine, second-zero, first-less, not-lower, once-positive, once-negative, sign-test}
+use Rattle.float.proofs.remainder.Fast.{quotient, first-nan, second-nan, first-not, second-fine, second-zero}
+use Rattle.float.proofs.remainder.Fast.{first-less, not-lower, once-positive, once-negative, sign-test}
 use Rattle.float.proofs.remainder.remainder.Statement.{statement}
 use Rattle.float.proofs.remainder.remainder.Tie as tie
 

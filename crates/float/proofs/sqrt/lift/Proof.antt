@@ -1,4 +1,5 @@
--- `float::sqrt::lift` meets its contract: the count of leading zeros makes 64 with the place j of the highest digit and one (`leading-top`), and j is 52 at most.
+-- `float::sqrt::lift` meets its contract: the count of leading zeros makes 64 with the place
+-- j of the highest digit and one (`leading-top`), and j is 52 at most.
 use mathlib.Core.Path.{_≡_, sym, ap, _∙_}
 use Prim.Native.Nat.{ℕ, suc, _+_, _-_, _*_, _^_, _≤_, _<_}
 use native.Mathlib.Nat.{le-trans, le-of-eq, lt-of-lt-of-le, lt-of-not-le, not-le-of-lt, mul-le-mul-right, mul-lt-mul-of-pos-right}

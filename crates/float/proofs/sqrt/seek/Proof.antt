@@ -1,5 +1,6 @@
--- `float::sqrt::seek` meets its contract. The first loop ends with q * (q - 1) below n, which m * 2 ^ 52 is, and the second keeps that and ends with n at most q * (q + 1), whatever the first guess was:
--- the guess decides only how many turns they take.
+-- `float::sqrt::seek` meets its contract. The first loop ends with q * (q - 1) below n, which m * 2 ^ 52 is, and
+-- the second keeps that and ends with n at most q * (q + 1), whatever the first guess was:
+-- the guess decides only how many steps they take.
 use Prim.Native.Nat.{ℕ, zero, suc, _+_, _-_, _*_, _^_, _≤_, _<_}
 use native.Mathlib.Nat.{le-trans, lt-of-le-of-lt, lt-of-not-le, not-le-of-lt, mul-le-mul}
 use native.Mathlib.Omega.{arith}
@@ -52,16 +53,20 @@ next q n h = subst (λ (x : ℕ). (q + 1) * x < n) (back q) (lt-of-le-of-lt (le-
     le-of-comm q = omega arith
 
 -- what the tests say
-over : (c : tie.Then1 Inv-loop μ-loop Inv-loop2 μ-loop2) → c .before .before .before .args .m * 2 ^ 52 ≤ c .before .before .loop .q * (c .before .before .loop .q - 1)
+over : (c : tie.Then1 Inv-loop μ-loop Inv-loop2 μ-loop2) → c .before .before .before .args .m * 2 ^ 52 ≤ c .before .before .loop .q *
+    (c .before .before .loop .q - 1)
 over c = ltb-false _ _ (sym (c .before .below .ensures) ∙ not-true _ (c .if1 .taken))
 
-under : (c : tie.Else1 Inv-loop μ-loop Inv-loop2 μ-loop2) → c .before .before .loop .q * (c .before .before .loop .q - 1) < c .before .before .before .args .m * 2 ^ 52
+under : (c : tie.Else1 Inv-loop μ-loop Inv-loop2 μ-loop2) → c .before .before .loop .q *
+    (c .before .before .loop .q - 1) < c .before .before .before .args .m * 2 ^ 52
 under c = ltb-true _ _ (sym (c .before .below .ensures) ∙ not-false _ (c .if1 .left))
 
-still : (c : tie.Then2 Inv-loop μ-loop Inv-loop2 μ-loop2) → c .before .before .loop2 .q * (c .before .before .loop2 .q + 1) < c .before .before .before .before .before .before .args .m * 2 ^ 52
+still : (c : tie.Then2 Inv-loop μ-loop Inv-loop2 μ-loop2) → c .before .before .loop2 .q *
+    (c .before .before .loop2 .q + 1) < c .before .before .before .before .before .before .args .m * 2 ^ 52
 still c = ltb-true _ _ (sym (c .before .below2 .ensures) ∙ c .if2 .taken)
 
-enough : (c : tie.Else2 Inv-loop μ-loop Inv-loop2 μ-loop2) → c .before .before .before .before .before .before .args .m * 2 ^ 52 ≤ c .before .before .loop2 .q * (c .before .before .loop2 .q + 1)
+enough : (c : tie.Else2 Inv-loop μ-loop Inv-loop2 μ-loop2)
+    → c .before .before .before .before .before .before .args .m * 2 ^ 52 ≤ c .before .before .loop2 .q * (c .before .before .loop2 .q + 1)
 enough c = ltb-false _ _ (sym (c .before .below2 .ensures) ∙ c .if2 .left)
 
 loop-holds : tie.Need-loop-holds Inv-loop μ-loop Inv-loop2 μ-loop2

@@ -1,4 +1,5 @@
--- `float::sqrt::sqrt` meets its contract: a NaN, a zero, what is below zero and an infinity by `Rooted`, and of the rest the root of the digits at an even place.
+-- `float::sqrt::sqrt` meets its contract: a NaN, a zero, what is below zero and an infinity
+-- by `Rooted`, and of the rest the root of the digits at an even place.
 use Prim.Native.Nat.{ℕ, _+_, _-_, _*_, _/_, _%_, _^_, _≤_, _<_}
 use native.Mathlib.Omega.{arith}
 use mathlib.Core.Path.{_≡_, sym, ap, _∙_, subst}
@@ -46,7 +47,8 @@ module _ (c : tie.After-split) where
 
   -- x is above zero
   parts : Splits x false q (c .split .result .k)
-  parts = subst (λ (s : Bool). Splits x s q (c .split .result .k)) (no-sign x (c .split .result .neg) q (c .split .result .k) (c .split .ensures) some (c .before .before .if3 .left)) (c .split .ensures)
+  parts = subst (λ (s : Bool). Splits x s q (c .split .result .k))
+      (no-sign x (c .split .result .neg) q (c .split .result .k) (c .split .ensures) some (c .before .before .if3 .left)) (c .split .ensures)
 
   is-root : sqrt binary64 x ≡ rootOf binary64 (q * 2 ^ c .split .result .k * 2 ^ 1074)
   is-root = sqrt-at x q (c .split .result .k) parts some
@@ -135,14 +137,15 @@ estimate-requires c κs =
     let number = number-of (x s) (s .before .before .before .before .if1 .left) in
     (number, no-sign-bit (x s) (q s * 2 ^ s .split .result .k) (2 ^ 1074) (parts s .value) (search needs) number)
 
-add-settle : tie.Need-add-settle
-add-settle c = search needs
+add-nearest-root : tie.Need-add-nearest-root
+add-nearest-root c = search needs
 
-settle-requires : tie.Need-settle-requires
-settle-requires c κs = (n-range (c .before) .0, n-range (c .before) .1, room (c .before))
+nearest-root-requires : tie.Need-nearest-root-requires
+nearest-root-requires c κs = (n-range (c .before) .0, n-range (c .before) .1, room (c .before))
 
 returns-5 : tie.Need-returns-5
-returns-5 c = c .settle .ensures ∙ sym (root-is (c .before .before))
+returns-5 c = c .nearest-root .ensures ∙ sym (root-is (c .before .before))
 
 pub sqrt-spec : {M : Type 1} → statement M
-sqrt-spec = tie.close (tie.spec returns returns-2 returns-3 returns-4 split-requires lift-requires shl-m add-t sub-t mul-n estimate-requires add-settle settle-requires returns-5)
+sqrt-spec = tie.close (tie.spec returns returns-2 returns-3 returns-4 split-requires lift-requires shl-m add-t sub-t mul-n estimate-requires
+    add-nearest-root nearest-root-requires returns-5)

@@ -1,4 +1,5 @@
--- `float::sqrt::square` meets its contract. With a at most 2 ^ 27 and b below 2 ^ 26 every product and sum fits, and the columns' sums are the square, by `omega`.
+-- `float::sqrt::square` meets its contract. With a at most 2 ^ 27 and b below 2 ^ 26 every
+-- product and sum fits, and the columns' sums are the square, by `omega`.
 --
 use Prim.Native.Nat.{ℕ, _+_, _*_, _/_, _%_, _^_, _≤_}
 use native.Mathlib.Nat.{mul-le-mul}

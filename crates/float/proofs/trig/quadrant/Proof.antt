@@ -49,8 +49,10 @@ test c b h = ap (leZ (pos 0)) (sym (read c)) ∙ h
 
 cast-result : tie.Need-cast-result
 cast-result c =
-    let k = c .before .args .k in
-    (subst (λ (z : ℤ). T (nonNeg z)) (sym (read (c .before))) (plus k (test (c .before) true (c .if1 .taken))), subst (λ (z : ℤ). Fits w64 (natAbs z)) (sym (read (c .before))) (record { fits = small k (c .before .fits .k) }))
+    let k = c .before .args .k in (
+      subst (λ (z : ℤ). T (nonNeg z)) (sym (read (c .before))) (plus k (test (c .before) true (c .if1 .taken))),
+      subst (λ (z : ℤ). Fits w64 (natAbs z)) (sym (read (c .before))) (record { fits = small k (c .before .fits .k) }),
+    )
 
 returns : tie.Need-returns
 returns c = ap (λ (z : ℤ). natAbs z % 4) (read (c .before)) ∙ same (c .before .args .k) (test (c .before) true (c .if1 .taken))
@@ -66,7 +68,10 @@ back : (c : tie.Else1) → toZ w64 (ofZ w64 (negsuc 0 -ℤ toZ w64 (ofZ w64 (c .
 back c = toZ-ofZ w64 (negsuc 0 -ℤ toZ w64 (ofZ w64 (c .before .args .k))) (sub-result c) ∙ less c
 
 cast-result-2 : tie.Need-cast-result-2
-cast-result-2 c = (subst (λ (z : ℤ). T (nonNeg z)) (sym (back c)) tt, subst (λ (z : ℤ). Fits w64 (natAbs z)) (sym (back c)) (record { fits = lt-of-lt-of-le (c .before .fits .k .sfits) (lit≤ tt) }))
+cast-result-2 c = (
+  subst (λ (z : ℤ). T (nonNeg z)) (sym (back c)) tt,
+  subst (λ (z : ℤ). Fits w64 (natAbs z)) (sym (back c)) (record { fits = lt-of-lt-of-le (c .before .fits .k .sfits) (lit≤ tt) }),
+)
 
 sub-result-2 : tie.Need-sub-result-2
 sub-result-2 c = search needs

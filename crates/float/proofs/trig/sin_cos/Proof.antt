@@ -1,4 +1,4 @@
--- `float::trig::sin_cos` meets its contract: for |x| ≤ 32 the whole number of quarter turns fits 64 bits (`turns-held`).
+-- `float::trig::sin_cos` meets its contract: for |x| ≤ 32 the whole number of quarter turns fits 64 bits (`quarters-held`).
 use mathlib.Core.Path.{_≡_, refl, sym, ap, _∙_}
 use mathlib.Core.Bool.{Bool, true, false, cond}
 use Prim.Native.Nat.{ℕ}
@@ -9,10 +9,10 @@ use mir.Val.{toZ, ofZ}
 use mir.ValLaws.{toZ-ofZ}
 use borrow.Author.Needs.{needs}
 use Rattle.float.specs.Number.{abs, floor-i64}
-use Rattle.float.specs.Trig.{widest, turns, reduced, quadrant, sine, cosine, turned, sin-cos}
+use Rattle.float.specs.Trig.{widest, quarters, reduced, quadrant, sine, cosine, by-quadrant, sin-cos}
 use Rattle.float.specs.declared.trig.SinCos.{SinCos}
 use Rattle.float.specs.Laws.Range.{abs-within}
-use Rattle.float.specs.Laws.Reduce.{quad, turns-held}
+use Rattle.float.specs.Laws.Reduce.{quad, quarters-held}
 use Rattle.float.specs.Laws.Literals.{nan-bits}
 use Rattle.float.proofs.trig.sin_cos.Statement.{statement}
 use Rattle.float.proofs.trig.sin_cos.Tie as tie
@@ -38,23 +38,26 @@ test-is x a b e t = (λ i. le (sym e i) (sym widest-is i)) ∙ t
 
 -- the definition, with each call's result a variable
 inside : (x a f s w : Float) (k : ℤ) (q : ℕ) (out : SinCos) → a ≡ abs x → le a (ofBits binary64 0x4040_0000_0000_0000) ≡ true
-    → k ≡ floor-i64 (add binary64 (mul binary64 x (ofBits binary64 0x3fe4_5f30_6dc9_c883)) (ofBits binary64 0x3fe0_0000_0000_0000)) → f ≡ ofInt binary64 k → q ≡ quadrant k
-    → s ≡ sine (steps x f) → w ≡ cosine (steps x f) → out ≡ turned q s w → out ≡ sin-cos x
+    → k ≡ floor-i64 (add binary64 (mul binary64 x (ofBits binary64 0x3fe4_5f30_6dc9_c883)) (ofBits binary64 0x3fe0_0000_0000_0000))
+    → f ≡ ofInt binary64 k → q ≡ quadrant k
+    → s ≡ sine (steps x f) → w ≡ cosine (steps x f) → out ≡ by-quadrant q s w → out ≡ sin-cos x
 unfolding sin-cos
 inside x a f s w k q out ea t ek ef eq es ew eo =
-    eo ∙ (λ i. turned (quarter i) ((es ∙ ap sine r) i) ((ew ∙ ap cosine r) i)) ∙ sym (ap (λ (b : Bool). cond b (turned (quadrant (turns x)) (sine (reduced (turns x) x)) (cosine (reduced (turns x) x))) (record { sine = nan; cosine = nan })) yes)
+    eo ∙ (λ i. by-quadrant (quarter i) ((es ∙ ap sine r) i) ((ew ∙ ap cosine r) i))
+    ∙ sym (ap (λ (b : Bool). cond b (by-quadrant (quadrant (quarters x)) (sine (reduced (quarters x) x)) (cosine (reduced (quarters x) x)))
+    (record { sine = nan; cosine = nan })) yes)
   where
     yes : le (abs x) widest ≡ true
     yes = test-is x a true ea t
 
-    whole : k ≡ turns x
-    whole = ek ∙ ap floor-i64 (quad-is x) ∙ turns-held x (abs-within widest x tt tt yes)
+    whole : k ≡ quarters x
+    whole = ek ∙ ap floor-i64 (quad-is x) ∙ quarters-held x (abs-within widest x tt tt yes)
 
-    quarter : q ≡ quadrant (turns x)
+    quarter : q ≡ quadrant (quarters x)
     quarter = eq ∙ ap quadrant whole
 
-    r : steps x f ≡ reduced (turns x) x
-    r = ap (steps x) (ef ∙ ap (ofInt binary64) whole) ∙ steps-are x (turns x)
+    r : steps x f ≡ reduced (quarters x) x
+    r = ap (steps x) (ef ∙ ap (ofInt binary64) whole) ∙ steps-are x (quarters x)
 
 abs-requires : tie.Need-abs-requires
 abs-requires c κs = search needs
@@ -74,8 +77,8 @@ sine-requires c κs = search needs
 cosine-requires : tie.Need-cosine-requires
 cosine-requires c κs = search needs
 
-turned-requires : tie.Need-turned-requires
-turned-requires c κs = search needs
+by-quadrant-requires : tie.Need-by-quadrant-requires
+by-quadrant-requires c κs = search needs
 
 returns : tie.Need-returns
 unfolding steps
@@ -88,14 +91,19 @@ returns c =
     let d = k .before in
     let a = d .before in
     let read : toZ w64 (ofZ w64 (k .floor .result)) ≡ k .floor .result = toZ-ofZ w64 (k .floor .result) (record { sfits = k .floor .ok }) in
-    inside (a .before .args .x) (a .abs .result) (f .nearest-i64-to-f64 .result) (s .sine .result) (w .cosine .result) (k .floor .result) (q .quadrant .result) (c .turned .result) (a .abs .ensures) (d .if1 .taken) (k .floor .ensures)
-    (f .nearest-i64-to-f64 .ensures ∙ ap (ofInt binary64) read) (q .quadrant .ensures ∙ ap quadrant read) (s .sine .ensures) (w .cosine .ensures) (c .turned .ensures)
+    inside (a .before .args .x) (a .abs .result) (f .nearest-i64-to-f64 .result) (s .sine .result) (w .cosine .result) (k .floor .result)
+    (q .quadrant .result) (c .by-quadrant .result) (a .abs .ensures) (d .if1 .taken) (k .floor .ensures)
+    (f .nearest-i64-to-f64 .ensures ∙ ap (ofInt binary64) read) (q .quadrant .ensures ∙ ap quadrant read) (s .sine .ensures) (w .cosine .ensures)
+    (c .by-quadrant .ensures)
 
 returns-2 : tie.Need-returns-2
 unfolding sin-cos
 returns-2 c =
     let a = c .before in
-    (λ i. record { sine = nan-bits i; cosine = nan-bits i }) ∙ sym (ap (λ (b : Bool). cond b (turned (quadrant (turns (a .before .args .x))) (sine (reduced (turns (a .before .args .x)) (a .before .args .x))) (cosine (reduced (turns (a .before .args .x)) (a .before .args .x)))) (record { sine = nan; cosine = nan })) (test-is (a .before .args .x) (a .abs .result) false (a .abs .ensures) (c .if1 .left)))
+    (λ i. record { sine = nan-bits i; cosine = nan-bits i }) ∙ sym
+    (ap (λ (b : Bool). cond b (by-quadrant (quadrant (quarters (a .before .args .x)))
+    (sine (reduced (quarters (a .before .args .x)) (a .before .args .x))) (cosine (reduced (quarters (a .before .args .x)) (a .before .args .x))))
+    (record { sine = nan; cosine = nan })) (test-is (a .before .args .x) (a .abs .result) false (a .abs .ensures) (c .if1 .left)))
 
 pub sin-cos-spec : {M : Type 1} → statement M
 sin-cos-spec =
@@ -107,6 +115,6 @@ sin-cos-spec =
     quadrant-requires
     sine-requires
     cosine-requires
-    turned-requires
+    by-quadrant-requires
     returns
     returns-2)

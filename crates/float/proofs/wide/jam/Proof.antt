@@ -47,7 +47,8 @@ e-lt c = ⊎-elim (λ w. omega arith) (λ w. omega arith) (c .if2 .came)
 
 -- and what it leaves is what a shift by d does
 e-is : (c : tie.Joined2)
-    → jam (c .before .before .args .hi * 2 ^ 64 + c .before .before .args .lo) (c .if2 .e + 64) ≡ jam (c .before .before .args .hi * 2 ^ 64 + c .before .before .args .lo) (c .before .before .args .d)
+    → jam (c .before .before .args .hi * 2 ^ 64 + c .before .before .args .lo) (c .if2 .e + 64) ≡ jam
+    (c .before .before .args .hi * 2 ^ 64 + c .before .before .args .lo) (c .before .before .args .d)
 e-is c =
     let a = c .before .before in
     let D = a .args .hi * 2 ^ 64 + a .args .lo in

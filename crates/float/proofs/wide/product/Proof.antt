@@ -1,4 +1,5 @@
--- `float::wide::product` meets its contract. Of the halves' products, each is at most (2 ^ 32 - 1) ^ 2, so that every column's sum fits, and the columns' sums are the product, by `omega`.
+-- `float::wide::product` meets its contract. Of the parts' products, each is at most (2 ^ 32 - 1) ^ 2, so
+-- that every column's sum fits, and the columns' sums are the product, by `omega`.
 --
 use mathlib.Core.Path.{_≡_, ap, _∙_}
 use Prim.Native.Nat.{ℕ, _+_, _*_, _/_, _%_, _^_, _≤_, _<_}
@@ -19,7 +20,7 @@ small x y h k = mul-le-mul (pred x h) (pred y k)
     pred : (z : ℕ) → z < 2 ^ 32 → z ≤ 0xffff_ffff
     pred z h = omega arith
 
--- the columns' sums, of the four products of halves
+-- the columns' sums, of the four products of parts
 columns : (a b c d r s : ℕ) → r ≡ (b + a / 2 ^ 32) % 2 ^ 32 → s ≡ a % 2 ^ 32
     → (d + (b + a / 2 ^ 32) / 2 ^ 32 + (r + c) / 2 ^ 32) * 2 ^ 64 + ((r + c) * 2 ^ 32 % 2 ^ 64 + s) ≡ d * 2 ^ 64 + (b + c) * 2 ^ 32 + a
 columns a b c d r s e f = omega arith
@@ -27,8 +28,8 @@ columns a b c d r s e f = omega arith
 whole : (n : ℕ) → n / 2 ^ 32 * 2 ^ 32 + low n ≡ n
 whole n = ap (λ (x : ℕ). n / 2 ^ 32 * 2 ^ 32 + x) (and-mask n 32) ∙ split n 32
 
-halves : (p q r s : ℕ) → p * r * 2 ^ 64 + (p * s + q * r) * 2 ^ 32 + q * s ≡ (p * 2 ^ 32 + q) * (r * 2 ^ 32 + s)
-halves p q r s = omega arith
+by-parts : (p q r s : ℕ) → p * r * 2 ^ 64 + (p * s + q * r) * 2 ^ 32 + q * s ≡ (p * 2 ^ 32 + q) * (r * 2 ^ 32 + s)
+by-parts p q r s = omega arith
 
 module _ (c : tie.Start) where
   abbrev u : ℕ
@@ -95,9 +96,10 @@ add-t17 c = omega (arith, mask-lt (low (u c) * low (v c)) 32)
 
 returns : tie.Need-returns
 returns c =
-    columns (low (u c) * low (v c)) (u c / 2 ^ 32 * low (v c)) (low (u c) * (v c / 2 ^ 32)) (u c / 2 ^ 32 * (v c / 2 ^ 32)) (low (t c)) (low (low (u c) * low (v c)))
+    columns (low (u c) * low (v c)) (u c / 2 ^ 32 * low (v c)) (low (u c) * (v c / 2 ^ 32)) (u c / 2 ^ 32 * (v c / 2 ^ 32)) (low (t c))
+    (low (low (u c) * low (v c)))
     (and-mask (t c) 32) (and-mask (low (u c) * low (v c)) 32)
-    ∙ halves (u c / 2 ^ 32) (low (u c)) (v c / 2 ^ 32) (low (v c))
+    ∙ by-parts (u c / 2 ^ 32) (low (u c)) (v c / 2 ^ 32) (low (v c))
     ∙ (λ i. whole (u c) i * whole (v c) i)
 
 pub product-spec : {M : Type 1} → statement M

@@ -6,7 +6,7 @@ use lib.Ieee.{nan}
 use lib.ListN.{length}
 use borrow.Author.Needs.{needs}
 use Rattle.float_bench.specs.Steps.{fused}
-use Rattle.float_bench.proofs.Places.{stepped, turn, all}
+use Rattle.float_bench.proofs.Places.{stepped, one-step, all}
 use Rattle.float_bench.proofs.each.bench_each_mul_add.Statement.{statement}
 use Rattle.float_bench.proofs.each.bench_each_mul_add.Tie as tie
 
@@ -43,8 +43,12 @@ loop-less c = search needs
 loop-again : tie.Need-loop-again Inv-loop μ-loop
 loop-again c =
     let p = c .before .before .before in
-    let q = p .before .before in
-    (search needs, search needs, turn (fused (q .args .x) (q .args .c)) (p .loop .i) (q .args .hs .now) (p .loop .hs) _ nan (p .loop .inv .2) (rw (c .mul-add .ensures)) (omega arith))
+    let q = p .before .before in (
+      search needs,
+      search needs,
+      one-step (fused (q .args .x) (q .args .c)) (p .loop .i) (q .args .hs .now) (p .loop .hs) _ nan (p .loop .inv .2)
+          (rw (c .mul-add .ensures)) (omega arith),
+    )
 
 same-length : tie.Need-same-length Inv-loop μ-loop
 same-length c = search needs

@@ -10,7 +10,7 @@ use denote.Ref.{now}
 use Rattle.polynomial.specs.declared.operation.Answer.{Answer}
 use Rattle.polynomial.specs.Operation as Operation
 use Rattle.polynomial.specs.Roots as Roots
-use Rattle.lemongully.proofs.of_polynomial.Few.{answer-few}
+use Rattle.lemongully.proofs.of_polynomial.Largest.{answer-few}
 use Rattle.lemongully.proofs.of_polynomial.polynomial_roots.Statement.{statement}
 use Rattle.lemongully.proofs.of_polynomial.polynomial_roots.Tie as tie
 

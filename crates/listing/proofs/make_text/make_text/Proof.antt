@@ -71,7 +71,10 @@ same-length-3 c = search needs
 
 returns-2 : tie.Need-returns-2
 returns-2 c =
-    let a = c .before .before .before .before .before .before .before .before .before .before .before .before .before .before .before .before .before .before .args in
+    let c5 = c .before .before .before .before .before in
+    let c10 = c5 .before .before .before .before .before in
+    let c15 = c10 .before .before .before .before .before in
+    let a = c15 .before .before .before .args in
     let m = c .before .before .before .before .before .before .before .before .before .before .before .before .sample .ensures in
     let v = c .before .before .before .before .before .before .before .a2 .given .1 in
     let q = c .before .before .before .refusal-number in

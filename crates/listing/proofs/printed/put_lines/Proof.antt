@@ -7,7 +7,7 @@ use lib.ListN.{length}
 use lib.Seq.{sets}
 use borrow.Author.Needs.{needs}
 use Rattle.listing.specs.Listing.{lines}
-use Rattle.listing.proofs.Lines.{lines-turn, lines-done}
+use Rattle.listing.proofs.Lines.{lines-step, lines-done}
 use Rattle.listing.proofs.printed.put_lines.Statement.{statement}
 use Rattle.listing.proofs.printed.put_lines.Tie as tie
 
@@ -59,7 +59,7 @@ loop-again c =
     let w = c .before .before .before .word in (
       omega arith,
       p .kept .0 ∙ l .loop .inv .1,
-      rw (p .ensures) (lines-turn (l .loop .text) (a .s .now) (a .at) (l .loop .i) (a .n) (w .result) (omega arith) (w .ensures)) ∙ l .loop .inv .2,
+      rw (p .ensures) (lines-step (l .loop .text) (a .s .now) (a .at) (l .loop .i) (a .n) (w .result) (omega arith) (w .ensures)) ∙ l .loop .inv .2,
     )
 
 -- src/printed.rt:29:1

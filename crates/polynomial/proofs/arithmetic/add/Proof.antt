@@ -8,14 +8,15 @@ use lib.Seq.{slice}
 use borrow.Author.Needs.{needs}
 use Rattle.float.specs.Laws.Zero.{zero-bits}
 use Rattle.polynomial.specs.Compensated.{from}
-use Rattle.polynomial.specs.Polynomial.{nothing, add}
+use Rattle.polynomial.specs.Polynomial.{zero-pair, add}
 use Rattle.polynomial.proofs.arithmetic.Filled.{zeros-start, zeros-more, nine-of}
 use Rattle.polynomial.proofs.arithmetic.Sums.{add-more, add-end}
 use Rattle.polynomial.proofs.arithmetic.add.Statement.{statement}
 use Rattle.polynomial.proofs.arithmetic.add.Tie as tie
 
 abbrev Inv-loop : tie.InvT-loop
-Inv-loop n scale a b factor r₀ i₀ r i = (i ≤ n) × (length a ≡ 9) × (length b ≡ 9) × (length r ≡ 9) × (drop i r ≡ replicate (9 - i) nothing) × (add (take n a) (take n b) scale ≡ take i r ++ add (slice i n a) (slice i n b) scale)
+Inv-loop n scale a b factor r₀ i₀ r i = (i ≤ n) × (length a ≡ 9) × (length b ≡ 9) × (length r ≡ 9) × (drop i r ≡ replicate (9 - i) zero-pair) ×
+    (add (take n a) (take n b) scale ≡ take i r ++ add (slice i n a) (slice i n b) scale)
 
 abbrev μ-loop : tie.MeasureT-loop
 μ-loop n scale a b factor r₀ i₀ r i = n - i
@@ -74,7 +75,8 @@ loop-again c =
       simp length-set (l .loop .inv .3),
       zeros-more (l .loop .r) (l .loop .i) (c .plus2 .result) (omega arith) (l .loop .inv .4),
       l .loop .inv .5
-          ∙ add-more (a .t1) (a .t2) (l .loop .r) (a .n) (l .loop .i) (a .scale) _ _ (o .from .result) (s .from2 .result) (c .before .before .plus .result) (c .before .times .result) (c .plus2 .result) (search needs) (omega arith) (omega arith) (omega arith)
+          ∙ add-more (a .t1) (a .t2) (l .loop .r) (a .n) (l .loop .i) (a .scale) _ _ (o .from .result) (s .from2 .result)
+          (c .before .before .plus .result) (c .before .times .result) (c .plus2 .result) (search needs) (omega arith) (omega arith) (omega arith)
           (o .from .ensures) (s .from2 .ensures ∙ ap from zero-bits) (c .before .before .plus .ensures) (c .before .times .ensures) (c .plus2 .ensures),
     )
 

@@ -1,4 +1,5 @@
--- `polynomial::arithmetic::coefficient` meets its contract. The loop's invariant: the sum over the places that are left, added to that so far, is the coefficient.
+-- `polynomial::arithmetic::coefficient` meets its contract. The loop's invariant: the sum over
+-- the places that are left, added to that so far, is the coefficient.
 use Prim.Native.Nat.{_+_, _-_, _≤_, min}
 use native.Mathlib.Omega.{arith}
 use mathlib.Core.Path.{_≡_, sym, ap, _∙_}
@@ -13,7 +14,8 @@ use Rattle.polynomial.proofs.arithmetic.coefficient.Statement.{statemen
 use Rattle.polynomial.proofs.arithmetic.coefficient.Tie as tie
 
 abbrev Inv-loop : tie.InvT-loop
-Inv-loop n m k a b end i₀ sum₀ i sum = (i ≤ end) × (end ≡ min (k + 1) n) × (k + 1 - m ≤ i) × (length a ≡ 9) × (length b ≡ 9) × (column (take n a) (take m b) k i (end - i) sum ≡ coefficient (take n a) (take m b) k)
+Inv-loop n m k a b end i₀ sum₀ i sum = (i ≤ end) × (end ≡ min (k + 1) n) × (k + 1 - m ≤ i) × (length a ≡ 9) × (length b ≡ 9) ×
+    (column (take n a) (take m b) k i (end - i) sum ≡ coefficient (take n a) (take m b) k)
 
 abbrev μ-loop : tie.MeasureT-loop
 μ-loop n m k a b end i₀ sum₀ i sum = end - i
@@ -44,7 +46,8 @@ loop-holds c =
       omega arith,
       search needs,
       search needs,
-      column-start (a .t1) (a .t3) (a .n) (a .m) (a .k) (omega arith) (omega arith) (c .before .if2 .i) (g .if1 .end) (c .from .result) f e (c .from .ensures ∙ ap from zero-bits),
+      column-start (a .t1) (a .t3) (a .n) (a .m) (a .k) (omega arith) (omega arith) (c .before .if2 .i) (g .if1 .end) (c .from .result) f e
+          (c .from .ensures ∙ ap from zero-bits),
     )
 
 mul-x : tie.Need-mul-x Inv-loop μ-loop
@@ -83,7 +86,9 @@ loop-again c =
       search needs,
       l .loop .inv .3,
       l .loop .inv .4,
-      sym (column-more (a .t1) (a .t3) (a .n) (a .m) (a .k) (omega arith) (omega arith) (l .loop .i) (l .before .before .before .if1 .end) (l .loop .sum) _ _ (c .before .times .result) (c .plus .result) (search needs) (omega arith) (omega arith) (c .before .times .ensures) (c .plus .ensures))
+      sym (column-more (a .t1) (a .t3) (a .n) (a .m) (a .k) (omega arith) (omega arith) (l .loop .i) (l .before .before .before .if1 .end)
+          (l .loop .sum) _ _ (c .before .times .result) (c .plus .result) (search needs) (omega arith) (omega arith) (c .before .times .ensures)
+          (c .plus .ensures))
           ∙ l .loop .inv .5,
     )
 
@@ -91,7 +96,8 @@ returns : tie.Need-returns Inv-loop μ-loop
 returns c =
     let l = c .before in
     let a = l .before .before .before .before .args in
-    sym (column-end (a .t1) (a .t3) (a .n) (a .m) (a .k) (omega arith) (omega arith) (l .loop .i) (l .before .before .before .if1 .end) (l .loop .sum) (search needs)) ∙ l .loop .inv .5
+    sym (column-end (a .t1) (a .t3) (a .n) (a .m) (a .k) (omega arith) (omega arith) (l .loop .i) (l .before .before .before .if1 .end) (l .loop .sum)
+    (search needs)) ∙ l .loop .inv .5
 
 pub coefficient-spec : {M : Type 1} → statement M
 coefficient-spec =

@@ -5,20 +5,28 @@ use mathlib.Core.Path.{_≡_, refl, sym, _∙_}
 use mathlib.Core.List.{_++_}
 use lib.ListN.{length, take, drop, replicate, length-set}
 use borrow.Author.Needs.{needs}
-use Rattle.polynomial.specs.Polynomial.{nothing, coefficients, multiply}
+use Rattle.polynomial.specs.Polynomial.{zero-pair, coefficients, multiply}
 use Rattle.polynomial.proofs.arithmetic.Filled.{zeros-start, zeros-more, nine-of}
 use Rattle.polynomial.proofs.arithmetic.Products.{product-start, product-more, product-end}
 use Rattle.polynomial.proofs.arithmetic.multiply.Statement.{statement}
 use Rattle.polynomial.proofs.arithmetic.multiply.Tie as tie
 
 abbrev Inv-loop : tie.InvT-loop
-Inv-loop a n b m r₀ k₀ r k = (k ≤ n + m - 1) × (length a ≡ 9) × (length b ≡ 9) × (length r ≡ 9) × (drop k r ≡ replicate (9 - k) nothing) × (multiply (take n a) (take m b) ≡ take k r ++ coefficients (take n a) (take m b) k (n + m - 1 - k))
+Inv-loop a n b m r₀ k₀ r k = (k ≤ n + m - 1) × (length a ≡ 9) × (length b ≡ 9) × (length r ≡ 9) × (drop k r ≡ replicate (9 - k) zero-pair) ×
+    (multiply (take n a) (take m b) ≡ take k r ++ coefficients (take n a) (take m b) k (n + m - 1 - k))
 
 abbrev μ-loop : tie.MeasureT-loop
 μ-loop a n b m r₀ k₀ r k = n + m - 1 - k
 
 loop-holds : tie.Need-loop-holds Inv-loop μ-loop
-loop-holds c = (search needs, search needs, search needs, refl, zeros-start 9, product-start (c .args .a) (c .args .b) (c .args .n) (c .args .m) (omega arith) (omega arith))
+loop-holds c = (
+  search needs,
+  search needs,
+  search needs,
+  refl,
+  zeros-start 9,
+  product-start (c .args .a) (c .args .b) (c .args .n) (c .args .m) (omega arith) (omega arith),
+)
 
 add-loop : tie.Need-add-loop Inv-loop μ-loop
 add-loop c = search needs
@@ -51,7 +59,8 @@ loop-again c =
       simp length-set (l .loop .inv .3),
       zeros-more (l .loop .r) (l .loop .k) (c .coefficient .result) (omega arith) (l .loop .inv .4),
       l .loop .inv .5
-          ∙ product-more (take (a .n) (a .a)) (take (a .m) (a .b)) (l .loop .r) (l .loop .k) (a .n + a .m - 1) (c .coefficient .result) (search needs) (omega arith) (c .coefficient .ensures),
+          ∙ product-more (take (a .n) (a .a)) (take (a .m) (a .b)) (l .loop .r) (l .loop .k) (a .n + a .m - 1) (c .coefficient .result) (search needs)
+          (omega arith) (c .coefficient .ensures),
     )
 
 returns : tie.Need-returns Inv-loop μ-loop

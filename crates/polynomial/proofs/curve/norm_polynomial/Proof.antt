@@ -40,9 +40,12 @@ returns c =
     simp (
       c .add2 .ensures,
       target-front _ _ (t .norm-target .ensures),
-      add-front (s .add .result) (x .multiply .result) (y .multiply2 .result) 5 _ (s .add .ensures) (omega (arith, x .multiply .ok .1 .0 .1)) (omega (arith, y .multiply2 .ok .1 .0 .1)),
-      multiply-front (y .multiply2 .result) (q .numerator2 .result) (q .numerator2 .result) 3 3 (y .multiply2 .ensures) (omega (arith, q .numerator2 .ok .1 .0 .1)) (omega (arith, q .numerator2 .ok .1 .0 .1)),
-      multiply-front (x .multiply .result) (p .numerator .result) (p .numerator .result) 3 3 (x .multiply .ensures) (omega (arith, p .numerator .ok .1 .0 .1)) (omega (arith, p .numerator .ok .1 .0 .1)),
+      add-front (s .add .result) (x .multiply .result) (y .multiply2 .result) 5 _ (s .add .ensures) (omega (arith, x .multiply .ok .1 .0 .1))
+          (omega (arith, y .multiply2 .ok .1 .0 .1)),
+      multiply-front (y .multiply2 .result) (q .numerator2 .result) (q .numerator2 .result) 3 3 (y .multiply2 .ensures)
+          (omega (arith, q .numerator2 .ok .1 .0 .1)) (omega (arith, q .numerator2 .ok .1 .0 .1)),
+      multiply-front (x .multiply .result) (p .numerator .result) (p .numerator .result) 3 3 (x .multiply .ensures)
+          (omega (arith, p .numerator .ok .1 .0 .1)) (omega (arith, p .numerator .ok .1 .0 .1)),
       numerator-front _ _ _ (q .numerator2 .ensures),
       numerator-front _ _ _ (p .numerator .ensures),
       one-bits,

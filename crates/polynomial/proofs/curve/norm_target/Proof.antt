@@ -1,4 +1,5 @@
--- `polynomial::curve::norm_target` meets its contract. The loop's invariant: what is multiplied so far, then the product of the coefficients from i on with the squared norm, and zeros.
+-- `polynomial::curve::norm_target` meets its contract. The loop's invariant: what is multiplied so far,
+-- then the product of the coefficients from i on with the squared norm, and zeros.
 use Prim.Native.Nat.{_-_, _≤_}
 use native.Mathlib.Omega.{arith}
 use mathlib.Core.Path.{_≡_, sym, _∙_}
@@ -6,7 +7,7 @@ use mathlib.Core.List.{_++_}
 use lib.ListN.{length, take, drop, replicate, length-set}
 use lib.Seq.{slice, drop-set-lt}
 use borrow.Author.Needs.{needs}
-use Rattle.polynomial.specs.Polynomial.{nothing}
+use Rattle.polynomial.specs.Polynomial.{zero-pair}
 use Rattle.polynomial.specs.Curve.{times-each, target}
 use Rattle.polynomial.proofs.arithmetic.Filled.{nine-of}
 use Rattle.polynomial.proofs.curve.Squares.{target-start, target-behind, times-more, times-end}
@@ -14,7 +15,7 @@ use Rattle.polynomial.proofs.curve.norm_target.Statement.{statement}
 use Rattle.polynomial.proofs.curve.norm_target.Tie as tie
 
 abbrev Inv-loop : tie.InvT-loop
-Inv-loop norm squared r₀ i₀ r i = (i ≤ 5) × (length r ≡ 9) × (target norm ≡ take i r ++ times-each (slice i 5 r) squared) × (drop 5 r ≡ replicate 4 nothing)
+Inv-loop norm squared r₀ i₀ r i = (i ≤ 5) × (length r ≡ 9) × (target norm ≡ take i r ++ times-each (slice i 5 r) squared) × (drop 5 r ≡ replicate 4 zero-pair)
 
 abbrev μ-loop : tie.MeasureT-loop
 μ-loop norm squared r₀ i₀ r i = 5 - i

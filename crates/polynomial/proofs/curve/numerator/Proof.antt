@@ -45,8 +45,10 @@ returns c =
     let b = o .before .before .before .before .before in
     let a = b .before .args in
     nine-of _ (numerator (a .h) (a .origin)) 3 refl (omega arith)
-    (numerator-of (a .h) (a .origin) (b .sin-cos .result) (o .from .result) (p .before .from2 .result) (p .plus .result) (c .before .before .from3 .result) (c .before .from4 .result) (c .plus2 .result)
-    (b .sin-cos .ensures) (o .from .ensures) (p .before .from2 .ensures) (p .plus .ensures) (c .before .before .from3 .ensures) (c .before .from4 .ensures) (c .plus2 .ensures))
+    (numerator-of (a .h) (a .origin) (b .sin-cos .result) (o .from .result) (p .before .from2 .result) (p .plus .result)
+    (c .before .before .from3 .result) (c .before .from4 .result) (c .plus2 .result)
+    (b .sin-cos .ensures) (o .from .ensures) (p .before .from2 .ensures) (p .plus .ensures) (c .before .before .from3 .ensures)
+    (c .before .from4 .ensures) (c .plus2 .ensures))
     (zeros-start 6)
 
 pub numerator-spec : {M : Type 1} → statement M

@@ -64,8 +64,10 @@ same-length c = search needs
 returns : tie.Need-returns
 returns c =
     let d = c .before .before in
-    let t : total-le (v d) (y d) ≡ true = total-le-signs (v d) (y d) true (negative (y d)) (d .if2 .taken) (sym (c .if3 .taken) ∙ c .before .negative .ensures) refl in
-    replaced (w d) (n d) (v d) (at d) (start d .pre) (d .before .before .before .find .ensures) (d .before .before .if1 .taken) (subst T (sym (d .if2 .taken)) tt) (subst T (sym t) tt)
+    let t : total-le (v d) (y d) ≡ true = total-le-signs (v d) (y d) true (negative (y d)) (d .if2 .taken)
+    (sym (c .if3 .taken) ∙ c .before .negative .ensures) refl in
+    replaced (w d) (n d) (v d) (at d) (start d .pre) (d .before .before .before .find .ensures) (d .before .before .if1 .taken)
+    (subst T (sym (d .if2 .taken)) tt) (subst T (sym t) tt)
 
 negative-requires-2 : tie.Need-negative-requires-2
 negative-requires-2 c κs = search needs
@@ -98,7 +100,8 @@ returns-3 c =
     total-le-signs (v d) (y d) false false (d .if2 .taken)
     (sym (c .before .before .if3 .left) ∙ c .before .before .before .negative .ensures)
     (sym (c .if4 .left) ∙ c .before .negative2 .ensures) in
-    replaced (w d) (n d) (v d) (at d) (start d .pre) (d .before .before .before .find .ensures) (d .before .before .if1 .taken) (subst T (sym (d .if2 .taken)) tt) (subst T (sym t) tt)
+    replaced (w d) (n d) (v d) (at d) (start d .pre) (d .before .before .before .find .ensures) (d .before .before .if1 .taken)
+    (subst T (sym (d .if2 .taken)) tt) (subst T (sym t) tt)
 
 same-length-4 : tie.Need-same-length-4
 same-length-4 c = search needs
@@ -122,7 +125,8 @@ returns-5 : tie.Need-returns-5
 returns-5 c =
     let j = c .before .before .before .before .before in
     let st = j .before .before .before .before in
-    let p = inserted (st .args .room .now) (st .args .count) (st .args .v) (j .before .find .result) (st .pre) (j .before .find .ensures) (fresh j) (omega (arith, st .pre, c .before .before .before .before .if5 .left)) in
+    let p = inserted (st .args .room .now) (st .args .count) (st .args .v) (j .before .find .result) (st .pre) (j .before .find .ensures) (fresh j)
+    (omega (arith, st .pre, c .before .before .before .before .if5 .left)) in
     (p .0, c .before .before .shift .ensures ∙ p .1)
 
 pub insert-spec : {M : Type 1} → statement M

@@ -10,7 +10,7 @@ use Rattle.polynomial.specs.Laws.Lists.{move-more, move-next}
 use Rattle.polynomial.proofs.cuts.shift.Statement.{statement}
 use Rattle.polynomial.proofs.cuts.shift.Tie as tie
 
--- a turn's store
+-- a step's store
 store : (d : List Float) (at : ℕ) (v : Float) (r : List Float) (x : Float) (k : ℕ) → r ≡ paste d at (v ∷ drop at d) k → x ≡ getD (v ∷ drop at d) k nan
     → at + k < length d → set r (at + k) x ≡ paste d at (v ∷ drop at d) (k + 1)
 store d at v r x k p q h = (λ i. set (p i) (at + k) (q i)) ∙ move-more d at v nan k h
@@ -70,7 +70,8 @@ slice-write-room-2 : tie.Need-slice-write-room-2 Inv-loop μ-loop
 slice-write-room-2 c = omega arith
 
 same-length : tie.Need-same-length Inv-loop μ-loop
-same-length c = length-set (c .before .loop .room) (c .before .before .args .at + c .before .before .args .many) (c .before .loop .carry) ∙ c .before .loop .inv .2
+same-length c = length-set (c .before .loop .room) (c .before .before .args .at + c .before .before .args .many) (c .before .loop .carry)
+    ∙ c .before .loop .inv .2
 
 returns : tie.Need-returns Inv-loop μ-loop
 returns c =

@@ -33,7 +33,8 @@ returns-2 c =
     let i = h .before in
     let b = i .before in
     let a = b .before .before .args in
-    bad-parts (take (a .n) (a .p)) (a .lower) (a .upper) (a .out .now) (sym (b .bounds-hold .ensures) ∙ not-false _ (i .if1 .left)) (sym (h .all-hold .ensures) ∙ not-true _ (c .if2 .taken))
+    bad-parts (take (a .n) (a .p)) (a .lower) (a .upper) (a .out .now) (sym (b .bounds-hold .ensures) ∙ not-false _ (i .if1 .left))
+    (sym (h .all-hold .ensures) ∙ not-true _ (c .if2 .taken))
 
 roots-requires : tie.Need-roots-requires
 roots-requires c κs =
@@ -58,7 +59,8 @@ returns-3 c =
     let a = s .args in
     let t = take-short (a .n) (a .p) in
     let e = roots-enough (a .lower) (a .upper) (a .n) (take (a .n) (a .p)) t in
-    counted (take (a .n) (a .p)) (a .lower) (a .upper) (a .out .now) (r .roots .result) _ (le-trans t (s .pre .0)) (sym (b .bounds-hold .ensures) ∙ not-false _ (i .if1 .left)) (sym (h .all-hold .ensures) ∙ not-false _ (j .if2 .left))
+    counted (take (a .n) (a .p)) (a .lower) (a .upper) (a .out .now) (r .roots .result) _ (le-trans t (s .pre .0))
+    (sym (b .bounds-hold .ensures) ∙ not-false _ (i .if1 .left)) (sym (h .all-hold .ensures) ∙ not-false _ (j .if2 .left))
     (front-same _ _ _ _ (r .roots .ensures) _ (sym e))
 
 pub inner-roots-spec : {M : Type 1} → statement M

@@ -54,7 +54,9 @@ loop-again c =
     let l = t .before in
     let s = l .before .before .before in
     let a = s .args in
-    charted-more (a .origin) (a .found .now) (a .count) (s .pre .0) _ _ _ _ _ _ (l .loop .inv) _ (t .loop-test .taken) _ (w .before .atan .result) (w .wrapped-angle .result) _ _ two-bits (w .before .atan .ensures) (w .wrapped-angle .ensures) (e .keep .ensures .0) (e .keep .ensures .1) (e .keep .kept .0)
+    charted-more (a .origin) (a .found .now) (a .count) (s .pre .0) _ _ _ _ _ _ (l .loop .inv) _ (t .loop-test .taken) _ (w .before .atan .result)
+    (w .wrapped-angle .result) _ _ two-bits (w .before .atan .ensures) (w .wrapped-angle .ensures) (e .keep .ensures .0) (e .keep .ensures .1)
+    (e .keep .kept .0)
 
 same-length : tie.Need-same-length Inv-loop μ-loop
 same-length c = search needs

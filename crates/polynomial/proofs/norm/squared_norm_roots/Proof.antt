@@ -9,7 +9,8 @@ use Rattle.float.specs.Trig.{P}
 use Rattle.float.specs.Laws.Zero.{zero-bits}
 use Rattle.float.specs.Laws.Literals.{one-bits, P-bits}
 use Rattle.polynomial.specs.Laws.Nine.{norm-front}
-use Rattle.polynomial.proofs.norm.Halves.{Half, half-of, half-refused, half-held, half-count, half-angles, half-room, left-refused, right-refused, both-counted}
+use Rattle.polynomial.proofs.norm.Sides.{Half, half-of, half-refused, half-held, half-count}
+use Rattle.polynomial.proofs.norm.Sides.{half-angles, half-room, left-refused, right-refused, both-counted}
 use Rattle.polynomial.proofs.norm.squared_norm_roots.Statement.{statement}
 use Rattle.polynomial.proofs.norm.squared_norm_roots.Tie as tie
 
@@ -28,20 +29,24 @@ start c = c .before .before .before .before .before
 abbrev earlier : tie.After-inner-roots2 → tie.After-inner-roots
 earlier c = c .before .before .before .before .before .before .before .before
 
-left-half : (c : tie.After-inner-roots) → Half (start c .args .x) (start c .args .y) (start c .args .norm) (neg P) zero-float (c .inner-roots .result) (c .inner-roots .last .1 .1 .1 .1 .0)
+left-half : (c : tie.After-inner-roots) → Half (start c .args .x) (start c .args .y) (start c .args .norm) (neg P) zero-float (c .inner-roots .result)
+    (c .inner-roots .last .1 .1 .1 .1 .0)
 left-half c =
     let p = c .before .before in
     let a = start c .args in
     half-of (a .x) (a .y) (a .norm) (neg P) zero-float (p .before .middle .result) _ _ _ _ _
-    (left-origin (p .before)) (norm-front (a .x) (a .y) (a .norm) (p .before .middle .result) _ (p .norm-polynomial .ensures)) one-bits (c .inner-roots .ensures)
+    (left-origin (p .before)) (norm-front (a .x) (a .y) (a .norm) (p .before .middle .result) _ (p .norm-polynomial .ensures)) one-bits
+    (c .inner-roots .ensures)
 
 right-half : (c : tie.After-inner-roots2)
-    → Half (start (earlier c) .args .x) (start (earlier c) .args .y) (start (earlier c) .args .norm) zero-float P (c .inner-roots2 .result) (c .inner-roots2 .last .1 .1 .1 .1 .0)
+    → Half (start (earlier c) .args .x) (start (earlier c) .args .y) (start (earlier c) .args .norm) zero-float P (c .inner-roots2 .result)
+    (c .inner-roots2 .last .1 .1 .1 .1 .0)
 right-half c =
     let p = c .before .before in
     let a = start (earlier c) .args in
     half-of (a .x) (a .y) (a .norm) zero-float P (p .before .middle2 .result) _ _ _ _ _
-    (right-origin (p .before)) (norm-front (a .x) (a .y) (a .norm) (p .before .middle2 .result) _ (p .norm-polynomial2 .ensures)) one-bits (c .inner-roots2 .ensures)
+    (right-origin (p .before)) (norm-front (a .x) (a .y) (a .norm) (p .before .middle2 .result) _ (p .norm-polynomial2 .ensures)) one-bits
+    (c .inner-roots2 .ensures)
 
 middle-requires : tie.Need-middle-requires
 middle-requires c κs = search needs

@@ -44,7 +44,8 @@ loop-again c =
     let a = l .before .args in (
       search needs,
       simp length-set (l .loop .inv .1),
-      ap (λ (t : List Float). set t (l .loop .i) (getD (now (a .from)) (l .loop .i) nan)) (l .loop .inv .2) ∙ copy-more (l .loop .i) (now (a .from)) (now (a .to)) nan (omega arith) (omega arith),
+      ap (λ (t : List Float). set t (l .loop .i) (getD (now (a .from)) (l .loop .i) nan)) (l .loop .inv .2)
+          ∙ copy-more (l .loop .i) (now (a .from)) (now (a .to)) nan (omega arith) (omega arith),
     )
 
 same-length : tie.Need-same-length Inv-loop μ-loop

@@ -7,7 +7,7 @@ use lib.ListN.{length, take, drop, replicate, length-set}
 use lib.Ieee.{nan}
 use borrow.Author.Needs.{needs}
 use denote.Ref.{now}
-use Rattle.polynomial.specs.Polynomial.{nothing}
+use Rattle.polynomial.specs.Polynomial.{zero-pair}
 use Rattle.polynomial.specs.Operation.{pairs}
 use Rattle.polynomial.proofs.arithmetic.Filled.{zeros-start, zeros-more, nine-of}
 use Rattle.polynomial.proofs.operation.Pairs.{gather-more, gather-end}
@@ -15,7 +15,7 @@ use Rattle.polynomial.proofs.operation.gather.Statement.{statement}
 use Rattle.polynomial.proofs.operation.gather.Tie as tie
 
 abbrev Inv-loop : tie.InvT-loop
-Inv-loop s n q₀ i₀ q i = (i ≤ n) × (length q ≡ 9) × (drop i q ≡ replicate (9 - i) nothing) × (pairs s ≡ take i q ++ pairs (drop (i + i) s))
+Inv-loop s n q₀ i₀ q i = (i ≤ n) × (length q ≡ 9) × (drop i q ≡ replicate (9 - i) zero-pair) × (pairs s ≡ take i q ++ pairs (drop (i + i) s))
 
 abbrev μ-loop : tie.MeasureT-loop
 μ-loop s n q₀ i₀ q i = n - i

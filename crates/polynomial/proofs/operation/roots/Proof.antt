@@ -47,8 +47,8 @@ module _ (c : tie.Else4) where
   ok-bounds : bounds-hold lower upper ≡ true
   ok-bounds = sym (c .before .before .before .bounds-hold .ensures) ∙ not-false _ (c .before .before .if3 .left)
 
-  halvable : Span 2 lower upper
-  halvable = bounds-span lower upper (search needs) (search needs) ok-bounds
+  in-span : Span 2 lower upper
+  in-span = bounds-span lower upper (search needs) (search needs) ok-bounds
 
   ok-parts : parts-hold s ≡ true
   ok-parts = sym (c .before .parts-hold .ensures) ∙ not-false _ (c .if4 .left)
@@ -108,8 +108,11 @@ bounds-hold-requires c κs = search needs
 returns-3 : tie.Need-returns-3
 returns-3 c =
     let e = c .before .before in
-    let a = e .before .before .before .before .args in
-    (bad-bounds (now (a .coefficients)) (a .lower) (a .upper) (length (now (a .result))) (e .before .if1 .left) (e .if2 .left) (sym (c .before .bounds-hold .ensures) ∙ not-true _ (c .if3 .taken)), refl)
+    let a = e .before .before .before .before .args in (
+      bad-bounds (now (a .coefficients)) (a .lower) (a .upper) (length (now (a .result))) (e .before .if1 .left) (e .if2 .left)
+          (sym (c .before .bounds-hold .ensures) ∙ not-true _ (c .if3 .taken)),
+      refl,
+    )
 
 parts-hold-requires : tie.Need-parts-hold-requires
 parts-hold-requires c κs = search needs
@@ -119,7 +122,8 @@ returns-4 c =
     let x = c .before .before in
     let e = x .before .before in
     let a = e .before .before .before .before .args in (
-      bad-part (now (a .coefficients)) (a .lower) (a .upper) (length (now (a .result))) (e .before .if1 .left) (e .if2 .left) (sym (x .before .bounds-hold .ensures) ∙ not-false _ (x .if3 .left)) (sym (c .before .parts-hold .ensures) ∙ not-true _ (c .if4 .taken)),
+      bad-part (now (a .coefficients)) (a .lower) (a .upper) (length (now (a .result))) (e .before .if1 .left) (e .if2 .left)
+          (sym (x .before .bounds-hold .ensures) ∙ not-false _ (x .if3 .left)) (sym (c .before .parts-hold .ensures) ∙ not-true _ (c .if4 .taken)),
       refl,
     )
 
@@ -133,7 +137,7 @@ roots-requires : tie.Need-roots-requires
 roots-requires c κs =
     let i = c .before in
     let g = i .before in
-    (at-most-nine g, enough-room (n g) (length (places (u g))) (at-most-nine g) (i .if5 .taken), halvable (u g))
+    (at-most-nine g, enough-room (n g) (length (places (u g))) (at-most-nine g) (i .if5 .taken), in-span (u g))
 
 same-length : tie.Need-same-length
 same-length c = search needs
@@ -158,7 +162,7 @@ roots-requires-2 : tie.Need-roots-requires-2
 roots-requires-2 c κs =
     let g = c .before .before in
     let w : 2 ^ n g ≤ 2 ^ 9 = pow-mono {i = n g} {j = 9} (at-most-nine g) in
-    (at-most-nine g, omega arith, halvable (u g))
+    (at-most-nine g, omega arith, in-span (u g))
 
 returns-6 : tie.Need-returns-6
 returns-6 c =

@@ -45,7 +45,8 @@ loop-again c =
     let a = l .before .args in (
       search needs,
       l .loop .inv .1,
-      tidy-more (a .t1) (a .n) (l .loop .i) _ (search needs) (search needs) (omega arith) (c .before .is-tidy .ensures (not-false _ (c .if1 .left))) (l .loop .inv .2),
+      tidy-more (a .t1) (a .n) (l .loop .i) _ (search needs) (search needs) (omega arith) (c .before .is-tidy .ensures (not-false _ (c .if1 .left)))
+          (l .loop .inv .2),
     )
 
 returns-2 : tie.Need-returns-2 Inv-loop μ-loop

@@ -50,7 +50,8 @@ loop-again c =
       search needs,
       l .loop .inv .1,
       plain-more (a .t1) (a .n) (l .loop .i) _ (search needs) (search needs) (omega arith) (a .x) (l .loop .sum) (l .loop .inv .2),
-      scale-more (a .t1) (a .n) (l .loop .i) _ (search needs) (search needs) (omega arith) (a .x) (l .loop .scale) (l .before .abs .result) (c .abs2 .result) (l .loop .inv .3) (l .before .abs .ensures) (c .abs2 .ensures),
+      scale-more (a .t1) (a .n) (l .loop .i) _ (search needs) (search needs) (omega arith) (a .x) (l .loop .scale) (l .before .abs .result)
+          (c .abs2 .result) (l .loop .inv .3) (l .before .abs .ensures) (c .abs2 .ensures),
     )
 
 sign-of-requires : tie.Need-sign-of-requires Inv-loop μ-loop
@@ -62,7 +63,10 @@ returns c =
     let s = l .before .before in
     let a = s .args in
     let none = c .before .loop-test .left in
-    tells (a .t1) (a .n) (a .x) (search needs) (s .pre .0) (s .pre .1) (subst T (sym (s .good .1 .1 .0 .1)) tt) (l .before .abs .result) (l .loop .sum) (l .loop .scale) (l .before .abs .ensures) (l .loop .inv .2 ∙ plain-all (a .t1) (a .n) (l .loop .i) none (a .x)) (l .loop .inv .3 ∙ scale-all (a .t1) (a .n) (l .loop .i) none (a .x)) _ (c .sign-of .ensures)
+    tells (a .t1) (a .n) (a .x) (search needs) (s .pre .0) (s .pre .1) (subst T (sym (s .good .1 .1 .0 .1)) tt) (l .before .abs .result)
+    (l .loop .sum) (l .loop .scale) (l .before .abs .ensures) (l .loop .inv .2 ∙ plain-all (a .t1) (a .n) (l .loop .i) none (a .x))
+    (l .loop .inv .3 ∙ scale-all (a .t1) (a .n) (l .loop .i) none (a .x)) _ (c .sign-of .ensures)
 
 pub plain-sign-spec : {M : Type 1} → statement M
-plain-sign-spec = tie.close (tie.spec Inv-loop μ-loop abs-requires loop-holds sub-i mul-c array-copy-out-c abs-requires-2 loop-less loop-again sign-of-requires returns)
+plain-sign-spec = tie.close (tie.spec Inv-loop μ-loop abs-requires loop-holds sub-i mul-c array-copy-out-c abs-requires-2 loop-less loop-again
+    sign-of-requires returns)

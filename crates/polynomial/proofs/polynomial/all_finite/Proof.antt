@@ -41,7 +41,8 @@ returns : tie.Need-returns Inv-loop μ-loop
 returns c =
     let l = c .before .before .before .before in
     let a = l .before .args in
-    sym (l .loop .inv .2 ∙ bad-high every (a .t1) (a .n) (l .loop .i) _ (search needs) (omega arith) (sym (c .before .is-finite .ensures) ∙ not-true _ (c .if1 .taken)))
+    sym (l .loop .inv .2 ∙ bad-high every (a .t1) (a .n) (l .loop .i) _ (search needs) (omega arith)
+    (sym (c .before .is-finite .ensures) ∙ not-true _ (c .if1 .taken)))
 
 is-finite-requires-2 : tie.Need-is-finite-requires-2 Inv-loop μ-loop
 is-finite-requires-2 c κs = search needs
@@ -51,7 +52,8 @@ returns-2 c =
     let e = c .before .before in
     let l = e .before .before .before .before in
     let a = l .before .args in
-    sym (l .loop .inv .2 ∙ bad-low every (a .t1) (a .n) (l .loop .i) _ (search needs) (omega arith) (sym (e .before .is-finite .ensures) ∙ not-false _ (e .if1 .left)) (sym (c .before .is-finite2 .ensures) ∙ not-true _ (c .if2 .taken)))
+    sym (l .loop .inv .2 ∙ bad-low every (a .t1) (a .n) (l .loop .i) _ (search needs) (omega arith)
+    (sym (e .before .is-finite .ensures) ∙ not-false _ (e .if1 .left)) (sym (c .before .is-finite2 .ensures) ∙ not-true _ (c .if2 .taken)))
 
 loop-less : tie.Need-loop-less Inv-loop μ-loop
 loop-less c = search needs
@@ -60,8 +62,12 @@ loop-again : tie.Need-loop-again Inv-loop μ-loop
 loop-again c =
     let e = c .before .before in
     let l = e .before .before .before .before in
-    let a = l .before .args in
-    (search needs, l .loop .inv .1, l .loop .inv .2 ∙ every-on every (a .t1) (a .n) (l .loop .i) _ (search needs) (omega arith) (sym (e .before .is-finite .ensures) ∙ not-false _ (e .if1 .left)) (sym (c .before .is-finite2 .ensures) ∙ not-false _ (c .if2 .left)))
+    let a = l .before .args in (
+      search needs,
+      l .loop .inv .1,
+      l .loop .inv .2 ∙ every-on every (a .t1) (a .n) (l .loop .i) _ (search needs) (omega arith)
+          (sym (e .before .is-finite .ensures) ∙ not-false _ (e .if1 .left)) (sym (c .before .is-finite2 .ensures) ∙ not-false _ (c .if2 .left)),
+    )
 
 returns-3 : tie.Need-returns-3 Inv-loop μ-loop
 returns-3 c =

@@ -1,4 +1,5 @@
--- `polynomial::polynomial::derivative` meets its contract. The loop's invariant: what is stored, with zeros behind it, and then the coefficients from i on times their powers.
+-- `polynomial::polynomial::derivative` meets its contract. The loop's invariant: what is stored,
+-- with zeros behind it, and then the coefficients from i on times their powers.
 use Prim.Native.Nat.{ℕ, _+_, _-_, _≤_, _<_, _^_}
 use native.Mathlib.Omega.{arith}
 use mathlib.Core.Path.{_≡_, refl, sym, subst, _∙_}
@@ -8,7 +9,7 @@ use lib.Seq.{slice}
 use lib.Dec.{le→leb}
 use lib.Ieee.{inFloat}
 use borrow.Author.Needs.{needs}
-use Rattle.polynomial.specs.Polynomial.{nothing, powered, derivative}
+use Rattle.polynomial.specs.Polynomial.{zero-pair, powered, derivative}
 use Rattle.polynomial.specs.declared.compensated.Compensated.{Compensated}
 use Rattle.polynomial.proofs.arithmetic.Filled.{zeros-start, zeros-more, nine-of}
 use Rattle.polynomial.proofs.polynomial.Powers.{derivative-start, derivative-more, derivative-end}
@@ -17,13 +18,14 @@ use Rattle.polynomial.proofs.polynomial.derivative.Tie as tie
 
 abbrev Inv-loop : tie.InvT-loop
 Inv-loop n p d₀ i₀ d i =
-    (0 < i) × (i ≤ n) × (length p ≡ 9) × (length d ≡ 9) × (drop (i - 1) d ≡ replicate (9 - (i - 1)) nothing) × (derivative (take n p) ≡ take (i - 1) d ++ powered i (slice i n p))
+    (0 < i) × (i ≤ n) × (length p ≡ 9) × (length d ≡ 9) × (drop (i - 1) d ≡ replicate (9 - (i - 1)) zero-pair) ×
+    (derivative (take n p) ≡ take (i - 1) d ++ powered i (slice i n p))
 
-zeros-next : (d : List Compensated) (i : ℕ) (v : Compensated) → 0 < i → i ≤ 9 → drop (i - 1) d ≡ replicate (9 - (i - 1)) nothing
-    → drop (i + 1 - 1) (set d (i - 1) v) ≡ replicate (9 - (i + 1 - 1)) nothing
+zeros-next : (d : List Compensated) (i : ℕ) (v : Compensated) → 0 < i → i ≤ 9 → drop (i - 1) d ≡ replicate (9 - (i - 1)) zero-pair
+    → drop (i + 1 - 1) (set d (i - 1) v) ≡ replicate (9 - (i + 1 - 1)) zero-pair
 zeros-next d i v h k e =
     let b : i - 1 + 1 ≡ i + 1 - 1 = omega arith in
-    subst (λ (j : ℕ). drop j (set d (i - 1) v) ≡ replicate (9 - j) nothing) b (zeros-more d (i - 1) v (omega arith) e)
+    subst (λ (j : ℕ). drop j (set d (i - 1) v) ≡ replicate (9 - j) zero-pair) b (zeros-more d (i - 1) v (omega arith) e)
 
 abbrev μ-loop : tie.MeasureT-loop
 μ-loop n p d₀ i₀ d i = n - i
@@ -72,7 +74,8 @@ loop-again c =
       simp length-set (l .loop .inv .3),
       zeros-next (l .loop .d) (l .loop .i) (c .times .result) (search needs) (omega arith) (l .loop .inv .4),
       l .loop .inv .5
-          ∙ derivative-more (a .t1) (l .loop .d) (a .n) (l .loop .i) _ (c .before .from .result) (c .times .result) (search needs) (search needs) (omega arith) (omega arith) (c .before .from .ensures) (c .times .ensures),
+          ∙ derivative-more (a .t1) (l .loop .d) (a .n) (l .loop .i) _ (c .before .from .result) (c .times .result) (search needs) (search needs)
+          (omega arith) (omega arith) (c .before .from .ensures) (c .times .ensures),
     )
 
 returns : tie.Need-returns Inv-loop μ-loop

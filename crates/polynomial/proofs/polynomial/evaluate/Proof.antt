@@ -55,7 +55,9 @@ loop-again c =
     let a = o .before .args in (
       search needs,
       l .loop .inv .1,
-      horner-more (a .t1) (a .n) (a .x) (l .loop .i) _ (search needs) (search needs) (omega arith) (l .loop .sum) (from (o .halved-operand .result .whole)) (c .before .times-by .result) (c .plus .result) (l .loop .inv .2) (ap from (whole-of (o .halved-operand .result) (a .x) (o .halved-operand .ensures))) (c .before .times-by .ensures) (c .plus .ensures),
+      horner-more (a .t1) (a .n) (a .x) (l .loop .i) _ (search needs) (search needs) (omega arith) (l .loop .sum)
+          (from (o .halved-operand .result .whole)) (c .before .times-by .result) (c .plus .result) (l .loop .inv .2)
+          (ap from (whole-of (o .halved-operand .result) (a .x) (o .halved-operand .ensures))) (c .before .times-by .ensures) (c .plus .ensures),
     )
 
 value-requires : tie.Need-value-requires Inv-loop μ-loop

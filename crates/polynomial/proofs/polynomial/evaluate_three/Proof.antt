@@ -17,14 +17,17 @@ use Rattle.polynomial.proofs.polynomial.evaluate_three.Statement.{state
 use Rattle.polynomial.proofs.polynomial.evaluate_three.Tie as tie
 
 abbrev Inv-loop : tie.InvT-loop
-Inv-loop n x y z p at-x at-y at-z a₀ b₀ d₀ i₀ a b d i = (i ≤ n) × (length p ≡ 9) × (a ≡ horner (slice i n p) x) × (b ≡ horner (slice i n p) y) × (d ≡ horner (slice i n p) z)
+Inv-loop n x y z p at-x at-y at-z a₀ b₀ d₀ i₀ a b d i = (i ≤ n) × (length p ≡ 9) × (a ≡ horner (slice i n p) x) × (b ≡ horner (slice i n p) y) ×
+    (d ≡ horner (slice i n p) z)
 
 abbrev μ-loop : tie.MeasureT-loop
 μ-loop n x y z p at-x at-y at-z a₀ b₀ d₀ i₀ a b d i = i
 
 -- the halves serve all three points
 fine : (e : tie.Else1 Inv-loop μ-loop)
-    → ((e .before .before .before .before .before .before .halved-operand .result .fine ≡ true) × (e .before .before .before .before .before .halved-operand2 .result .fine ≡ true)) × (e .before .before .before .before .halved-operand3 .result .fine ≡ true)
+    → ((e .before .before .before .before .before .before .halved-operand .result .fine ≡ true) ×
+    (e .before .before .before .before .before .halved-operand2 .result .fine ≡ true)) ×
+    (e .before .before .before .before .halved-operand3 .result .fine ≡ true)
 fine e =
     let h = e .before .before .before .before in
     let a = h .before .before .halved-operand .result .fine in
@@ -72,8 +75,11 @@ returns-2 c = tt
 
 times-by-halves-requires : tie.Need-times-by-halves-requires Inv-loop μ-loop
 times-by-halves-requires c κs =
-    let o = c .before .before .before .before .before .before .before .before .before .before .before .before in
-    (halved-whole (o .halved-operand .result) (o .before .args .x) (o .halved-operand .ensures), sym (c .before .in-range .ensures) ∙ not-false _ (c .if2 .left), fine (c .before .before .before .before .before .before) .0 .0)
+    let o = c .before .before .before .before .before .before .before .before .before .before .before .before in (
+      halved-whole (o .halved-operand .result) (o .before .args .x) (o .halved-operand .ensures),
+      sym (c .before .in-range .ensures) ∙ not-false _ (c .if2 .left),
+      fine (c .before .before .before .before .before .before) .0 .0,
+    )
 
 plus-requires : tie.Need-plus-requires Inv-loop μ-loop
 plus-requires c κs = search needs
@@ -86,8 +92,11 @@ returns-3 c = tt
 
 times-by-halves-requires-2 : tie.Need-times-by-halves-requires-2 Inv-loop μ-loop
 times-by-halves-requires-2 c κs =
-    let o = c .before .before .before .before .before .before .before .before .before .before .before .before .before .before .before in
-    (halved-whole (o .halved-operand2 .result) (o .before .before .args .y) (o .halved-operand2 .ensures), sym (c .before .in-range2 .ensures) ∙ not-false _ (c .if3 .left), fine (c .before .before .before .before .before .before .before .before .before .before) .0 .1)
+    let o = c .before .before .before .before .before .before .before .before .before .before .before .before .before .before .before in (
+      halved-whole (o .halved-operand2 .result) (o .before .before .args .y) (o .halved-operand2 .ensures),
+      sym (c .before .in-range2 .ensures) ∙ not-false _ (c .if3 .left),
+      fine (c .before .before .before .before .before .before .before .before .before .before) .0 .1,
+    )
 
 plus-requires-2 : tie.Need-plus-requires-2 Inv-loop μ-loop
 plus-requires-2 c κs = search needs
@@ -100,8 +109,12 @@ returns-4 c = tt
 
 times-by-halves-requires-3 : tie.Need-times-by-halves-requires-3 Inv-loop μ-loop
 times-by-halves-requires-3 c κs =
-    let o = c .before .before .before .before .before .before .before .before .before .before .before .before .before .before .before .before .before .before in
-    (halved-whole (o .halved-operand3 .result) (o .before .before .before .args .z) (o .halved-operand3 .ensures), sym (c .before .in-range3 .ensures) ∙ not-false _ (c .if4 .left), fine (c .before .before .before .before .before .before .before .before .before .before .before .before .before .before) .1)
+    let fourth = c .before .before .before .before .before .before .before .before .before .before .before .before .before .before in
+    let o = fourth .before .before .before .before in (
+      halved-whole (o .halved-operand3 .result) (o .before .before .before .args .z) (o .halved-operand3 .ensures),
+      sym (c .before .in-range3 .ensures) ∙ not-false _ (c .if4 .left),
+      fine (c .before .before .before .before .before .before .before .before .before .before .before .before .before .before) .1,
+    )
 
 plus-requires-3 : tie.Need-plus-requires-3 Inv-loop μ-loop
 plus-requires-3 c κs = search needs
@@ -111,19 +124,34 @@ loop-less c = search needs
 
 loop-again : tie.Need-loop-again Inv-loop μ-loop
 loop-again c =
-    let l = c .before .before .before .before .before .before .before .before .before .before .before .before .before .before in
-    let s = l .before .before .before .before .before .before .before .before .before in
+    let c5 = c .before .before .before .before .before in
+    let l = c5 .before .before .before .before .before .before .before .before .before in
+    -- the operand's halves at x, y and z
+    let z = l .before .before .before .before .before .before in
+    let y = z .before in
+    let x = y .before in
+    let s = x .before in
     let a = s .args in
-    let I = c .before .before .before .before .before .before .before .before .before .before .before .before .before .loop-test .taken in
+    let I = c5 .before .before .before .before .before .before .before .before .loop-test .taken in
     let n9 = s .pre in
     let p9 = l .loop .inv .1 in
     let N : a .n ≤ length (a .t1) = omega arith in
-    let i0 = l .loop .inv .0 in (
+    let i0 = l .loop .inv .0 in
+    let u = c5 .before .before .before in (
       omega arith,
       p9,
-      horner-more (a .t1) (a .n) (a .x) (l .loop .i) _ I (l .loop .inv .0) N (l .loop .a) (from (c .before .before .before .before .before .before .before .before .before .before .before .before .before .before .before .before .before .before .before .before .before .before .halved-operand .result .whole)) (c .before .before .before .before .before .before .before .before .before .times-by-halves .result) (c .before .before .before .before .before .before .before .before .plus .result) (l .loop .inv .2) (ap from (whole-of (c .before .before .before .before .before .before .before .before .before .before .before .before .before .before .before .before .before .before .before .before .before .before .halved-operand .result) (a .x) (c .before .before .before .before .before .before .before .before .before .before .before .before .before .before .before .before .before .before .before .before .before .before .halved-operand .ensures))) (c .before .before .before .before .before .before .before .before .before .times-by-halves .ensures) (c .before .before .before .before .before .before .before .before .plus .ensures),
-      horner-more (a .t1) (a .n) (a .y) (l .loop .i) _ I (l .loop .inv .0) N (l .loop .b) (from (c .before .before .before .before .before .before .before .before .before .before .before .before .before .before .before .before .before .before .before .before .before .halved-operand2 .result .whole)) (c .before .before .before .before .before .times-by-halves2 .result) (c .before .before .before .before .plus2 .result) (l .loop .inv .3) (ap from (whole-of (c .before .before .before .before .before .before .before .before .before .before .before .before .before .before .before .before .before .before .before .before .before .halved-operand2 .result) (a .y) (c .before .before .before .before .before .before .before .before .before .before .before .before .before .before .before .before .before .before .before .before .before .halved-operand2 .ensures))) (c .before .before .before .before .before .times-by-halves2 .ensures) (c .before .before .before .before .plus2 .ensures),
-      horner-more (a .t1) (a .n) (a .z) (l .loop .i) _ I (l .loop .inv .0) N (l .loop .d) (from (c .before .before .before .before .before .before .before .before .before .before .before .before .before .before .before .before .before .before .before .before .halved-operand3 .result .whole)) (c .before .times-by-halves3 .result) (c .plus3 .result) (l .loop .inv .4) (ap from (whole-of (c .before .before .before .before .before .before .before .before .before .before .before .before .before .before .before .before .before .before .before .before .halved-operand3 .result) (a .z) (c .before .before .before .before .before .before .before .before .before .before .before .before .before .before .before .before .before .before .before .before .halved-operand3 .ensures))) (c .before .times-by-halves3 .ensures) (c .plus3 .ensures),
+      horner-more (a .t1) (a .n) (a .x) (l .loop .i) _ I i0 N (l .loop .a) (from (x .halved-operand .result .whole))
+          (u .before .times-by-halves .result) (u .plus .result) (l .loop .inv .2)
+          (ap from (whole-of (x .halved-operand .result) (a .x) (x .halved-operand .ensures)))
+          (u .before .times-by-halves .ensures) (u .plus .ensures),
+      horner-more (a .t1) (a .n) (a .y) (l .loop .i) _ I i0 N (l .loop .b) (from (y .halved-operand2 .result .whole))
+          (c5 .times-by-halves2 .result) (c .before .before .before .before .plus2 .result) (l .loop .inv .3)
+          (ap from (whole-of (y .halved-operand2 .result) (a .y) (y .halved-operand2 .ensures)))
+          (c5 .times-by-halves2 .ensures) (c .before .before .before .before .plus2 .ensures),
+      horner-more (a .t1) (a .n) (a .z) (l .loop .i) _ I i0 N (l .loop .d) (from (z .halved-operand3 .result .whole))
+          (c .before .times-by-halves3 .result) (c .plus3 .result) (l .loop .inv .4)
+          (ap from (whole-of (z .halved-operand3 .result) (a .z) (z .halved-operand3 .ensures)))
+          (c .before .times-by-halves3 .ensures) (c .plus3 .ensures),
     )
 
 value-requires : tie.Need-value-requires Inv-loop μ-loop

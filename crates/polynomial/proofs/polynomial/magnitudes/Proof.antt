@@ -49,7 +49,8 @@ loop-again c =
     let a = l .before .before .args in (
       search needs,
       l .loop .inv .1,
-      magnitudes-more (a .t1) (a .n) (a .x) (l .loop .i) _ (search needs) (search needs) (omega arith) (l .loop .sum) (l .before .abs .result) (c .before .abs2 .result) (c .abs3 .result) (l .loop .inv .2) (l .before .abs .ensures) (c .before .abs2 .ensures) (c .abs3 .ensures),
+      magnitudes-more (a .t1) (a .n) (a .x) (l .loop .i) _ (search needs) (search needs) (omega arith) (l .loop .sum) (l .before .abs .result)
+          (c .before .abs2 .result) (c .abs3 .result) (l .loop .inv .2) (l .before .abs .ensures) (c .before .abs2 .ensures) (c .abs3 .ensures),
     )
 
 returns : tie.Need-returns Inv-loop μ-loop

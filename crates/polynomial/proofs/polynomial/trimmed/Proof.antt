@@ -33,8 +33,11 @@ is-zero-requires c κs = search needs
 
 returns : tie.Need-returns Inv-loop μ-loop
 returns c =
-    let l = c .before .before .before .before in
-    (search needs, trim-stops (l .before .args .t1) (l .loop .m) _ (search needs) (omega arith) (sym (c .before .is-zero .ensures) ∙ not-true _ (c .if1 .taken)) ∙ l .loop .inv .2)
+    let l = c .before .before .before .before in (
+      search needs,
+      trim-stops (l .before .args .t1) (l .loop .m) _ (search needs) (omega arith)
+          (sym (c .before .is-zero .ensures) ∙ not-true _ (c .if1 .taken)) ∙ l .loop .inv .2,
+    )
 
 sub-m : tie.Need-sub-m Inv-loop μ-loop
 sub-m c = search needs
@@ -44,8 +47,12 @@ loop-less c = search needs
 
 loop-again : tie.Need-loop-again Inv-loop μ-loop
 loop-again c =
-    let l = c .before .before .before .before in
-    (search needs, l .loop .inv .1, trim-drops (l .before .args .t1) (l .loop .m) _ (search needs) (omega arith) (sym (c .before .is-zero .ensures) ∙ not-false _ (c .if1 .left)) ∙ l .loop .inv .2)
+    let l = c .before .before .before .before in (
+      search needs,
+      l .loop .inv .1,
+      trim-drops (l .before .args .t1) (l .loop .m) _ (search needs) (omega arith)
+          (sym (c .before .is-zero .ensures) ∙ not-false _ (c .if1 .left)) ∙ l .loop .inv .2,
+    )
 
 returns-2 : tie.Need-returns-2 Inv-loop μ-loop
 returns-2 c = (search needs, trim-none (c .before .before .args .t1) (c .before .loop .m) (c .loop-test .left) ∙ c .before .loop .inv .2)

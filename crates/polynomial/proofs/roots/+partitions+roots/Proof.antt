@@ -1,4 +1,5 @@
--- `polynomial::roots`' `partitions` and `roots`, which call each other, meet their contracts. The measures are twice the number of coefficients, and one more for `roots`.
+-- `polynomial::roots`' `partitions` and `roots`, which call each other, meet their contracts. The
+-- measures are twice the number of coefficients, and one more for `roots`.
 use Prim.Native.Nat.{ℕ, _+_, _-_, _^_, _<_, _≤_}
 use native.Mathlib.Omega.{arith}
 use native.Mathlib.Nat.{le-refl, le-of-eq}
@@ -95,7 +96,8 @@ module _ (t : ℕ) where
   Roots c = let a = c .before .before .before .before .args in Of.roots-at (a .n - 1) (derivative (take (a .n) (a .p))) (a .lower) (a .upper)
 
   called : (c : partitions-lts.After-roots (inner t) (partitions-at t) partitions.Post)
-      → Front (Roots c) (now (c .before .before .before .before .args .points)) (c .roots .result) (c .roots .last .1 .1 .1 .1 .0) × (c .roots .result + 2 ≤ length (c .roots .last .1 .1 .1 .1 .0))
+      → Front (Roots c) (now (c .before .before .before .before .args .points)) (c .roots .result) (c .roots .last .1 .1 .1 .1 .0) ×
+      (c .roots .result + 2 ≤ length (c .roots .last .1 .1 .1 .1 .0))
   called c =
       let s = c .before .before .before .before in
       let a = s .args in
@@ -134,7 +136,8 @@ module _ (t : ℕ) where
       let m = called r .1 in
       let l = k .keep .kept .0 in
       let b = put-room (a .lower) (r .roots .result) (r .roots .last .1 .1 .1 .1 .0) (k .keep .result) (k .keep .ensures .0) in
-      bounded (a .n - 1) (derivative (take (a .n) (a .p))) (a .lower) (a .upper) (s .pre .1 .3) (r .roots .last .1 .1 .1 .1 .0) (k .keep .last .0) (d .keep2 .last .0) (r .roots .result) (k .keep .result) (d .keep2 .result)
+      bounded (a .n - 1) (derivative (take (a .n) (a .p))) (a .lower) (a .upper) (s .pre .1 .3) (r .roots .last .1 .1 .1 .1 .0) (k .keep .last .0)
+      (d .keep2 .last .0) (r .roots .result) (k .keep .result) (d .keep2 .result)
       (now (a .points)) (called r .0) (k .keep .ensures) (d .keep2 .ensures) (omega arith) (omega arith)
 
   -- ---- roots
@@ -155,7 +158,8 @@ module _ (t : ℕ) where
 
   -- no coefficient counts, or one
   none : (c : roots-lts.After-trimmed (outer t) (roots-at t) roots.Post) → counted (Q c) < 2
-      → Of.roots-at (c .before .before .args .n) (take (c .before .before .args .n) (c .before .before .args .t1)) (c .before .before .args .lower) (c .before .before .args .upper) ≡ []
+      → Of.roots-at (c .before .before .args .n) (take (c .before .before .args .n) (c .before .before .args .t1)) (c .before .before .args .lower)
+      (c .before .before .args .upper) ≡ []
   none c h =
       let a = c .before .before .args in
       none-left (a .n) (counted (Q c)) (take (a .n) (a .t1)) (Q c) (a .lower) (a .upper) (c .trimmed .ensures .1) refl (size c .1) h
@@ -201,7 +205,8 @@ module _ (t : ℕ) where
       let m = i .before .before .before .before in
       let a = m .before .before .args in
       let nine : length (a .t1) ≡ 9 = search needs in
-      let e = two-left (a .n) (m .trimmed .result) (take (a .n) (a .t1)) (Q m) (a .lower) (a .upper) (m .trimmed .ensures .1) (counts (i .before)) (size m .1) (i .if3 .taken) in
+      let e = two-left (a .n) (m .trimmed .result) (take (a .n) (a .t1)) (Q m) (a .lower) (a .upper) (m .trimmed .ensures .1) (counts (i .before))
+      (size m .1) (i .if3 .taken) in
       front-same _ _ _ _ (z .quotient .ensures) _ (e ∙ line-of (a .t1) (m .trimmed .result) _ (a .lower) (a .upper) (i .if3 .taken) (omega arith))
 
   roots-slice-aggregate-partitions : roots-lts.Need-slice-aggregate-partitions (outer t) (roots-at t) roots.Post
@@ -232,18 +237,22 @@ module _ (t : ℕ) where
           let a = start .args in
           let z = points-some (a .lower) (a .upper) R in
           let x = points-room (lead .trimmed .result) (a .t1) (a .lower) (a .upper) three j (length A) count h k (f .0) in
-          let g = points-room (lead .trimmed .result) (a .t1) (a .lower) (a .upper) three (a .n) (length (now (a .out))) count (lead .trimmed .ensures .0) (start .pre .1 .1) (f .0) in (
+          let g = points-room (lead .trimmed .result) (a .t1) (a .lower) (a .upper) three (a .n) (length (now (a .out))) count
+          (lead .trimmed .ensures .0) (start .pre .1 .1) (f .0) in (
             omega arith,
             omega (arith, f .0),
             omega arith,
             omega arith,
-            subst Ready (sym (front-take points _ _ _ f)) (points-ready (a .lower) (a .upper) (start .pre .1 .2) R (roots-in (a .lower) (a .upper) (start .pre .1 .2) (lead .trimmed .result - 1) (derivative (Q lead)))),
+            subst Ready (sym (front-take points _ _ _ f)) (points-ready (a .lower) (a .upper) (start .pre .1 .2) R
+                (roots-in (a .lower) (a .upper) (start .pre .1 .2) (lead .trimmed .result - 1) (derivative (Q lead)))),
           )
 
-      all-found : Of.roots-at (start .args .n) (take (start .args .n) (start .args .t1)) (start .args .lower) (start .args .upper) ≡ found (Q lead) (take count A)
+      all-found : Of.roots-at (start .args .n) (take (start .args .n) (start .args .t1)) (start .args .lower) (start .args .upper) ≡ found (Q lead)
+          (take count A)
       all-found =
           let a = start .args in
-          more-left (a .n) (lead .trimmed .result) (take (a .n) (a .t1)) (Q lead) (a .lower) (a .upper) (lead .trimmed .ensures .1) (counts (w .before)) (size lead .1) (size lead .0) three
+          more-left (a .n) (lead .trimmed .result) (take (a .n) (a .t1)) (Q lead) (a .lower) (a .upper) (lead .trimmed .ensures .1)
+          (counts (w .before)) (size lead .1) (size lead .0) three
           ∙ ap (λ (l : List Float). found (Q lead) l) (sym (front-take points W A count f))
 
   roots-partitions-requires : roots-lts.Need-partitions-requires (outer t) (roots-at t) roots.Post

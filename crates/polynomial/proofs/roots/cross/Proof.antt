@@ -28,7 +28,8 @@ returns c =
     let b = i .before .before in
     let x = b .before .before .before in
     let a = x .before .before .args in
-    crossed-taken (evaluate (take (a .n) (a .p))) (a .at) (a .out .now) _ (a .k) _ _ _ _ (x .crosses .ensures) (b .before .before .if1 .taken) (b .before .is-sign-positive .ensures) (b .bisect .ensures) (i .keep .ensures)
+    crossed-taken (evaluate (take (a .n) (a .p))) (a .at) (a .out .now) _ (a .k) _ _ _ _ (x .crosses .ensures) (b .before .before .if1 .taken)
+    (b .before .is-sign-positive .ensures) (b .bisect .ensures) (i .keep .ensures)
 
 returns-2 : tie.Need-returns-2
 returns-2 c =

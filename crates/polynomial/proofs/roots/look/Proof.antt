@@ -15,7 +15,8 @@ unfolding ofBits ne
 returns c =
     let s = c .before .before .before .before in
     let a = s .args in
-    by-sign (take (a .n) (a .p)) (a .x) (a .out .now) (a .k) (c .before .plain-sign .result) (search needs) (not-true _ (c .if2 .taken)) (c .before .plain-sign .ensures)
+    by-sign (take (a .n) (a .p)) (a .x) (a .out .now) (a .k) (c .before .plain-sign .result) (search needs) (not-true _ (c .if2 .taken))
+    (c .before .plain-sign .ensures)
 
 evaluate-requires : tie.Need-evaluate-requires
 evaluate-requires c κs = search needs

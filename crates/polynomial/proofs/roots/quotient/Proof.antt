@@ -21,19 +21,22 @@ returns : tie.Need-returns
 returns c =
     let v = c .before .before in
     let a = v .before .before .before .args in
-    one (a .a) (a .b) (a .lower) (a .upper) (v .before .value .result) (v .value2 .result) (v .before .value .ensures) (v .value2 .ensures) (now (a .out)) (search needs) (c .before .if1 .taken) (c .if2 .taken)
+    one (a .a) (a .b) (a .lower) (a .upper) (v .before .value .result) (v .value2 .result) (v .before .value .ensures) (v .value2 .ensures)
+    (now (a .out)) (search needs) (c .before .if1 .taken) (c .if2 .taken)
 
 returns-2 : tie.Need-returns-2
 returns-2 c =
     let v = c .before .before in
     let a = v .before .before .before .args in
-    above (a .a) (a .b) (a .lower) (a .upper) (v .before .value .result) (v .value2 .result) (v .before .value .ensures) (v .value2 .ensures) (now (a .out)) (c .before .if1 .taken) (c .if2 .left)
+    above (a .a) (a .b) (a .lower) (a .upper) (v .before .value .result) (v .value2 .result) (v .before .value .ensures) (v .value2 .ensures)
+    (now (a .out)) (c .before .if1 .taken) (c .if2 .left)
 
 returns-3 : tie.Need-returns-3
 returns-3 c =
     let v = c .before in
     let a = v .before .before .before .args in
-    below (a .a) (a .b) (a .lower) (a .upper) (v .before .value .result) (v .value2 .result) (v .before .value .ensures) (v .value2 .ensures) (now (a .out)) (c .if1 .left)
+    below (a .a) (a .b) (a .lower) (a .upper) (v .before .value .result) (v .value2 .result) (v .before .value .ensures) (v .value2 .ensures)
+    (now (a .out)) (c .if1 .left)
 
 pub quotient-spec : {M : Type 1} → statement M
 quotient-spec =

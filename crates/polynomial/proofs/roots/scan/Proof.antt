@@ -57,7 +57,8 @@ cross-requires c κs =
     let l = v .before in
     let a = start l .args in (
       start l .pre .0,
-      cross-room (take (a .n) (a .p)) (a .points .now) (a .count) (start l .pre .2) _ _ _ _ _ _ _ (l .loop .inv) (v .loop-test .taken) _ (t .look2 .result .v) _ _ (t .look2 .ensures .0) (t .look2 .ensures .1),
+      cross-room (take (a .n) (a .p)) (a .points .now) (a .count) (start l .pre .2) _ _ _ _ _ _ _ (l .loop .inv) (v .loop-test .taken) _
+          (t .look2 .result .v) _ _ (t .look2 .ensures .0) (t .look2 .ensures .1),
       span (take (a .n) (a .p)) (a .points .now) (a .count) (start l .pre .2) _ _ _ _ _ _ _ (l .loop .inv) (v .loop-test .taken) _,
     )
 
@@ -74,7 +75,8 @@ loop-again c =
     let v = t .before .before .before in
     let l = v .before in
     let a = start l .args in
-    scan-more (take (a .n) (a .p)) (a .points .now) (a .count) (start l .pre .2) _ _ _ _ _ _ _ (l .loop .inv) (v .loop-test .taken) _ (t .look2 .result .v) _ _ (t .look2 .ensures .0) (t .look2 .ensures .1) _ _ (x .cross .ensures)
+    scan-more (take (a .n) (a .p)) (a .points .now) (a .count) (start l .pre .2) _ _ _ _ _ _ _ (l .loop .inv) (v .loop-test .taken) _
+    (t .look2 .result .v) _ _ (t .look2 .ensures .0) (t .look2 .ensures .1) _ _ (x .cross .ensures)
 
 same-length : tie.Need-same-length Inv-loop μ-loop
 same-length c = search needs
@@ -84,7 +86,8 @@ returns c =
     let l = c .before in
     let t = l .before .before in
     let a = start l .args in
-    scan-last (take (a .n) (a .p)) (a .points .now) (a .count) (start l .pre .2) (a .out .now) _ _ _ _ _ _ _ _ (t .before .look .ensures .1) (l .loop .inv) (c .loop-test .left)
+    scan-last (take (a .n) (a .p)) (a .points .now) (a .count) (start l .pre .2) (a .out .now) _ _ _ _ _ _ _ _ (t .before .look .ensures .1)
+    (l .loop .inv) (c .loop-test .left)
 
 pub scan-spec : {M : Type 1} → statement M
 scan-spec =

@@ -21,7 +21,15 @@ plus-requires-2 c = search needs
 
 returns : tie.Need-returns
 unfolding arm-axis
-returns c = simp (← c .before .before .before .before .before .before .times .ensures, ← c .before .before .before .times2 .ensures, ← c .before .before .plus .ensures, ← c .before .times3 .ensures, ← c .plus2 .ensures)
+returns c =
+    let c5 = c .before .before .before .before .before in
+    simp (
+      ← c5 .before .times .ensures,
+      ← c .before .before .before .times2 .ensures,
+      ← c .before .before .plus .ensures,
+      ← c .before .times3 .ensures,
+      ← c .plus2 .ensures,
+    )
 
 pub arm-axis-spec : {M : Type 1} → statement M
 arm-axis-spec = tie.close (tie.spec times-requires times-requires-2 plus-requires times-requires-3 plus-requires-2 returns)

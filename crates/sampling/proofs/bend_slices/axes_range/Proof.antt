@@ -38,7 +38,18 @@ same-length c = search needs
 
 returns-2 : tie.Need-returns-2
 unfolding axes-range
-returns-2 c = simp (c .before .before .before .before .before .before .before .before .before .before .before .before .before .range .given .1, ← c .before .before .before .before .before .before .before .before .before .before .before .sin-cos .ensures, ← c .before .before .before .before .before .before .before .before .before .before .arm-axis .ensures, ← c .before .before .before .before .before .sin-cos2 .ensures, ← c .before .before .before .before .arm-axis2 .ensures) (then (c .before .before .before .before .before .before .before .before .axis-angles .ensures) (c .before .before .axis-angles2 .ensures))
+returns-2 c =
+    let c5 = c .before .before .before .before .before in
+    let c10 = c5 .before .before .before .before .before in
+    simp (
+      c10 .before .before .before .range .given .1,
+      ← c10 .before .sin-cos .ensures,
+      ← c10 .arm-axis .ensures,
+      ← c5 .sin-cos2 .ensures,
+      ← c .before .before .before .before .arm-axis2 .ensures,
+    ) (then (c5 .before .before .before .axis-angles .ensures)
+    (c .before .before .axis-angles2 .ensures))
 
 pub axes-range-spec : {M : Type 1} → statement M
-axes-range-spec = tie.close (tie.spec enum-told enum-known-range sin-cos-requires arm-axis-requires axis-angles-requires sin-cos-requires-2 arm-axis-requires-2 axis-angles-requires-2 returns same-length returns-2)
+axes-range-spec = tie.close (tie.spec enum-told enum-known-range sin-cos-requires arm-axis-requires axis-angles-requires sin-cos-requires-2
+    arm-axis-requires-2 axis-angles-requires-2 returns same-length returns-2)

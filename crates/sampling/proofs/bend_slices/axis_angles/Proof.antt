@@ -23,7 +23,10 @@ same-length c = search needs
 
 returns : tie.Need-returns
 unfolding axis-angles ofBits
-returns c = simp (← c .before .before .before .before .before .before .before .before .before .atan2 .ensures, ← c .before .before .before .before .wrapped-angle .ensures) (then (c .before .before .before .before .before .before .before .push .ensures) (c .before .before .push2 .ensures))
+returns c =
+    let c5 = c .before .before .before .before .before in
+    simp (← c5 .before .before .before .before .atan2 .ensures, ← c .before .before .before .before .wrapped-angle .ensures)
+    (then (c5 .before .before .push .ensures) (c .before .before .push2 .ensures))
 
 pub axis-angles-spec : {M : Type 1} → statement M
 axis-angles-spec = tie.close (tie.spec atan2-requires push-requires wrapped-angle-requires push-requires-2 same-length returns)

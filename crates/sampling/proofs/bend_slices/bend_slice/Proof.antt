@@ -22,7 +22,13 @@ same-length c = search needs
 
 returns : tie.Need-returns
 unfolding bend-slice bend-slice-holds
-returns c = (simp (← c .before .before .before .before .before .before .before .before .before .before .before .before .sin-cos .ensures) ((c .before .before .folds-range .ensures) .0), simp (← c .before .before .before .before .before .before .before .before .before .before .before .before .sin-cos .ensures) (then (then (c .before .before .before .before .before .before .before .before .before .before .transverses .ensures) (c .before .before .before .before .before .before .axes-range .ensures)) ((c .before .before .folds-range .ensures) .1)))
+returns c =
+    let c5 = c .before .before .before .before .before in
+    let c10 = c5 .before .before .before .before .before in (
+      simp (← c10 .before .before .sin-cos .ensures) ((c .before .before .folds-range .ensures) .0),
+      simp (← c10 .before .before .sin-cos .ensures) (then (then (c10 .transverses .ensures) (c5 .before .axes-range .ensures))
+          ((c .before .before .folds-range .ensures) .1)),
+    )
 
 pub bend-slice-spec : {M : Type 1} → statement M
 bend-slice-spec = tie.close (tie.spec sin-cos-requires transverses-requires axes-range-requires folds-range-requires same-length returns)

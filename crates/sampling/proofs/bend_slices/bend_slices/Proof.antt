@@ -26,7 +26,14 @@ same-length c = search needs
 
 returns-2 : tie.Need-returns-2
 unfolding bend-slices bend-slices-hold
-returns-2 c = (simp (c .before .before .before .before .before .before .before .before .before .before .before .range5 .given .1) (rw (← (c .before .before .before .before .before .before .before .before .bend-slice .ensures) .0, ← (c .before .before .before .before .bend-slice2 .ensures) .0)), simp (c .before .before .before .before .before .before .before .before .before .before .before .range5 .given .1) (then ((c .before .before .before .before .before .before .before .before .bend-slice .ensures) .1) ((c .before .before .before .before .bend-slice2 .ensures) .1)))
+returns-2 c =
+    let c5 = c .before .before .before .before .before in
+    let c10 = c5 .before .before .before .before .before in (
+      simp (c10 .before .range5 .given .1)
+          (rw (← (c5 .before .before .before .bend-slice .ensures) .0, ← (c .before .before .before .before .bend-slice2 .ensures) .0)),
+      simp (c10 .before .range5 .given .1) (then ((c5 .before .before .before .bend-slice .ensures) .1)
+          ((c .before .before .before .before .bend-slice2 .ensures) .1)),
+    )
 
 pub bend-slices-spec : {M : Type 1} → statement M
 bend-slices-spec = tie.close (tie.spec enum-told enum-known-range5 bend-slice-requires bend-slice-requires-2 returns same-length returns-2)

@@ -24,7 +24,21 @@ same-length c = search needs
 
 returns : tie.Need-returns
 unfolding folds folds-hold
-returns c = (simp (← c .before .before .before .before .before .before .before .fold .ensures, ← c .before .before .before .before .before .before .across .ensures, ← c .before .before .before .before .before .vector-length .ensures, ← c .before .before .before .before .abs .ensures) ((c .before .before .norm-roots .ensures) .0), simp (← c .before .before .before .before .before .before .before .fold .ensures, ← c .before .before .before .before .before .before .across .ensures, ← c .before .before .before .before .before .vector-length .ensures, ← c .before .before .before .before .abs .ensures) ((c .before .before .norm-roots .ensures) .1))
+returns c =
+    let c5 = c .before .before .before .before .before in (
+      simp (
+        ← c5 .before .before .fold .ensures,
+        ← c5 .before .across .ensures,
+        ← c5 .vector-length .ensures,
+        ← c .before .before .before .before .abs .ensures,
+      ) ((c .before .before .norm-roots .ensures) .0),
+      simp (
+        ← c5 .before .before .fold .ensures,
+        ← c5 .before .across .ensures,
+        ← c5 .vector-length .ensures,
+        ← c .before .before .before .before .abs .ensures,
+      ) ((c .before .before .norm-roots .ensures) .1),
+    )
 
 pub folds-spec : {M : Type 1} → statement M
 folds-spec = tie.close (tie.spec fold-requires across-requires vector-length-requires abs-requires norm-roots-requires same-length returns)

@@ -26,7 +26,14 @@ same-length c = search needs
 
 returns-2 : tie.Need-returns-2
 unfolding folds-range folds-range-hold
-returns-2 c = (simp (c .before .before .before .before .before .before .before .before .before .before .before .range .given .1) (rw (← (c .before .before .before .before .before .before .before .before .folds .ensures) .0, ← (c .before .before .before .before .folds2 .ensures) .0)), simp (c .before .before .before .before .before .before .before .before .before .before .before .range .given .1) (then ((c .before .before .before .before .before .before .before .before .folds .ensures) .1) ((c .before .before .before .before .folds2 .ensures) .1)))
+returns-2 c =
+    let c5 = c .before .before .before .before .before in
+    let c10 = c5 .before .before .before .before .before in (
+      simp (c10 .before .range .given .1)
+          (rw (← (c5 .before .before .before .folds .ensures) .0, ← (c .before .before .before .before .folds2 .ensures) .0)),
+      simp (c10 .before .range .given .1) (then ((c5 .before .before .before .folds .ensures) .1)
+          ((c .before .before .before .before .folds2 .ensures) .1)),
+    )
 
 pub folds-range-spec : {M : Type 1} → statement M
 folds-range-spec = tie.close (tie.spec enum-told enum-known-range folds-requires folds-requires-2 returns same-length returns-2)

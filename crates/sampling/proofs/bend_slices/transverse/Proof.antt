@@ -47,4 +47,5 @@ unfolding transverse ofBits
 returns-2 c = simp (← c .before .abs .ensures, c .if1 .left) (none 2 _ _)
 
 pub transverse-spec : {M : Type 1} → statement M
-transverse-spec = tie.close (tie.spec abs-requires clamp-requires asin-requires wrapped-angle-requires push-requires wrapped-angle-requires-2 push-requires-2 same-length returns returns-2)
+transverse-spec = tie.close (tie.spec abs-requires clamp-requires asin-requires wrapped-angle-requires push-requires wrapped-angle-requires-2
+    push-requires-2 same-length returns returns-2)

@@ -32,7 +32,12 @@ same-length c = search needs
 
 returns-2 : tie.Need-returns-2
 unfolding transverse-range
-returns-2 c = simp (c .before .before .before .before .before .before .before .before .before .before .before .before .before .range .given .1, ← c .before .before .before .before .before .before .before .before .before .before .before .sin-cos .ensures, ← c .before .before .before .before .before .sin-cos2 .ensures) (then (c .before .before .before .before .before .before .before .before .transverse .ensures) (c .before .before .transverse2 .ensures))
+returns-2 c =
+    let c5 = c .before .before .before .before .before in
+    let c10 = c5 .before .before .before .before .before in
+    simp (c10 .before .before .before .range .given .1, ← c10 .before .sin-cos .ensures, ← c5 .sin-cos2 .ensures)
+    (then (c5 .before .before .before .transverse .ensures) (c .before .before .transverse2 .ensures))
 
 pub transverse-range-spec : {M : Type 1} → statement M
-transverse-range-spec = tie.close (tie.spec enum-told enum-known-range sin-cos-requires transverse-requires sin-cos-requires-2 transverse-requires-2 returns same-length returns-2)
+transverse-range-spec = tie.close
+    (tie.spec enum-told enum-known-range sin-cos-requires transverse-requires sin-cos-requires-2 transverse-requires-2 returns same-length returns-2)

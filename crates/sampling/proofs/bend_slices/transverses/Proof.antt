@@ -28,7 +28,16 @@ same-length c = search needs
 
 returns : tie.Need-returns
 unfolding transverses
-returns c = simp (← c .before .before .before .before .before .before .before .before .before .before .before .before .before .before .vector-length .ensures, ← c .before .before .before .before .before .before .before .before .before .before .before .before .before .hypot .ensures, ← c .before .before .before .before .before .before .before .before .before .before .before .before .atan2 .ensures) (then (then (c .before .before .before .before .before .before .before .before .before .before .transverse .ensures) (c .before .before .before .before .before .before .transverse2 .ensures)) (c .before .before .transverse-range .ensures))
+returns c =
+    let c5 = c .before .before .before .before .before in
+    let c10 = c5 .before .before .before .before .before in
+    simp (
+      ← c10 .before .before .before .before .vector-length .ensures,
+      ← c10 .before .before .before .hypot .ensures,
+      ← c10 .before .before .atan2 .ensures,
+    ) (then (then (c10 .transverse .ensures) (c5 .before .transverse2 .ensures))
+    (c .before .before .transverse-range .ensures))
 
 pub transverses-spec : {M : Type 1} → statement M
-transverses-spec = tie.close (tie.spec vector-length-requires hypot-requires atan2-requires transverse-requires transverse-requires-2 transverse-range-requires same-length returns)
+transverses-spec = tie.close (tie.spec vector-length-requires hypot-requires atan2-requires transverse-requires transverse-requires-2
+    transverse-range-requires same-length returns)

@@ -31,7 +31,17 @@ same-length c = search needs
 
 returns : tie.Need-returns
 unfolding all-roots all-roots-hold
-returns c = ((c .before .before .before .before .before .before .before .before .before .before .bend-marks .ensures) .0, then (then (then (then (then (c .before .before .before .before .before .before .before .before .before .before .before .before .before .before .before .before .before .before .before .before .before .before .push .ensures) (c .before .before .before .before .before .before .before .before .before .before .before .before .before .before .before .before .before .before .poles .ensures)) (c .before .before .before .before .before .before .before .before .before .before .before .before .before .before .ray-angles .ensures)) ((c .before .before .before .before .before .before .before .before .before .before .bend-marks .ensures) .1)) (c .before .before .before .before .before .before .sixth-angles .ensures)) (c .before .before .push2 .ensures))
+returns c =
+    let c5 = c .before .before .before .before .before in
+    let c10 = c5 .before .before .before .before .before in
+    let c15 = c10 .before .before .before .before .before in
+    let c20 = c15 .before .before .before .before .before in (
+      (c10 .bend-marks .ensures) .0,
+      then (then (then (then (then (c20 .before .before .push .ensures) (c15 .before .before .before .poles .ensures))
+          (c10 .before .before .before .before .ray-angles .ensures)) ((c10 .bend-marks .ensures) .1)) (c5 .before .sixth-angles .ensures))
+          (c .before .before .push2 .ensures),
+    )
 
 pub all-roots-spec : {M : Type 1} → statement M
-all-roots-spec = tie.close (tie.spec polar-requires push-requires poles-requires ray-angles-requires bend-marks-requires sixth-angles-requires push-requires-2 same-length returns)
+all-roots-spec = tie.close (tie.spec polar-requires push-requires poles-requires ray-angles-requires bend-marks-requires sixth-angles-requires
+    push-requires-2 same-length returns)

@@ -16,7 +16,11 @@ same-length c = search needs
 
 returns : tie.Need-returns
 unfolding bend-at bend-at-holds
-returns c = (simp (← c .before .before .before .before .before .is-finite .ensures, c .before .before .before .before .if1 .taken) ((c .before .before .bend-roots .ensures) .0), simp (← c .before .before .before .before .before .is-finite .ensures, c .before .before .before .before .if1 .taken) ((c .before .before .bend-roots .ensures) .1))
+returns c =
+    let c5 = c .before .before .before .before .before in (
+      simp (← c5 .is-finite .ensures, c .before .before .before .before .if1 .taken) ((c .before .before .bend-roots .ensures) .0),
+      simp (← c5 .is-finite .ensures, c .before .before .before .before .if1 .taken) ((c .before .before .bend-roots .ensures) .1),
+    )
 
 returns-2 : tie.Need-returns-2
 unfolding bend-at bend-at-holds

@@ -26,7 +26,14 @@ same-length c = search needs
 
 returns-2 : tie.Need-returns-2
 unfolding bend-range bend-range-holds
-returns-2 c = (simp (c .before .before .before .before .before .before .before .before .before .before .before .range .given .1) (rw (← (c .before .before .before .before .before .before .before .before .bend-at .ensures) .0, ← (c .before .before .before .before .bend-at2 .ensures) .0)), simp (c .before .before .before .before .before .before .before .before .before .before .before .range .given .1) (then ((c .before .before .before .before .before .before .before .before .bend-at .ensures) .1) ((c .before .before .before .before .bend-at2 .ensures) .1)))
+returns-2 c =
+    let c5 = c .before .before .before .before .before in
+    let c10 = c5 .before .before .before .before .before in (
+      simp (c10 .before .range .given .1)
+          (rw (← (c5 .before .before .before .bend-at .ensures) .0, ← (c .before .before .before .before .bend-at2 .ensures) .0)),
+      simp (c10 .before .range .given .1) (then ((c5 .before .before .before .bend-at .ensures) .1)
+          ((c .before .before .before .before .bend-at2 .ensures) .1)),
+    )
 
 pub bend-range-spec : {M : Type 1} → statement M
 bend-range-spec = tie.close (tie.spec enum-told enum-known-range bend-at-requires bend-at-requires-2 returns same-length returns-2)

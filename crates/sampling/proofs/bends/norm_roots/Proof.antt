@@ -51,4 +51,5 @@ returns-2 c =
     refused (a .x) (a .y) (a .norm) (a .n) (a .out .now) (g .result) _ (search needs) (g .ensures) (c .enum-told .given .1)
 
 pub norm-roots-spec : {M : Type 1} → statement M
-norm-roots-spec = tie.close (tie.spec mul-squared-norm-roots sub-squared-norm-roots part-squared-norm-roots-start part-squared-norm-roots-end squared-norm-roots-requires enum-known-answer add-t14 enum-told same-length returns same-length-2 returns-2)
+norm-roots-spec = tie.close (tie.spec mul-squared-norm-roots sub-squared-norm-roots part-squared-norm-roots-start part-squared-norm-roots-end
+    squared-norm-roots-requires enum-known-answer add-t14 enum-told same-length returns same-length-2 returns-2)

@@ -30,7 +30,12 @@ corner-curves-requires c = search needs
 
 returns : tie.Need-returns
 unfolding boundaries
-returns c = let p = then (then (then (then (then (c .before .before .before .before .before .second-curves .ensures) (c .before .before .before .before .pole-curves .ensures)) (c .before .before .before .fourth-curves .ensures)) (c .before .before .fifth-curves .ensures)) (c .before .sixth-curves .ensures)) (c .corner-curves .ensures) in (omega (arith, p .most, (c .before .before .before .before .before .before .empty .ensures)), p .front ∙ rw (c .before .before .before .before .before .before .empty .ensures))
+returns c =
+    let c5 = c .before .before .before .before .before in
+    let p = then (then (then (then (then (c5 .second-curves .ensures) (c .before .before .before .before .pole-curves .ensures))
+    (c .before .before .before .fourth-curves .ensures)) (c .before .before .fifth-curves .ensures)) (c .before .sixth-curves .ensures))
+    (c .corner-curves .ensures) in (omega (arith, p .most, (c5 .before .empty .ensures)), p .front ∙ rw (c5 .before .empty .ensures))
 
 pub boundaries-spec : {M : Type 1} → statement M
-boundaries-spec = tie.close (tie.spec empty-requires second-curves-requires pole-curves-requires fourth-curves-requires fifth-curves-requires sixth-curves-requires corner-curves-requires returns)
+boundaries-spec = tie.close (tie.spec empty-requires second-curves-requires pole-curves-requires fourth-curves-requires fifth-curves-requires
+    sixth-curves-requires corner-curves-requires returns)

@@ -45,7 +45,27 @@ curve-of-requires c = search needs
 
 returns : tie.Need-returns
 unfolding corner-curve
-returns c = simp (← c .before .before .before .before .before .before .before .before .before .before .before .before .before .before .before .before .before .before .before .before .sin-cos .ensures, ← c .before .before .before .before .before .before .before .before .before .before .before .before .before .before .before .before .before .before .before .along .ensures, ← c .before .before .before .before .before .before .before .before .before .before .before .before .before .before .before .before .before .times .ensures, ← c .before .before .before .before .before .before .before .before .before .before .before .before .before .before .before .before .along2 .ensures, ← c .before .before .before .before .before .before .before .before .before .before .before .before .before .before .times2 .ensures, ← c .before .before .before .before .before .before .before .before .before .before .before .before .before .plus .ensures, ← c .before .before .before .before .before .before .before .before .level .ensures, ← c .before .before .before .before .before .before .before .across .ensures, ← c .before .before .before .before .before .times3 .ensures, ← c .before .before .before .before .across2 .ensures, ← c .before .before .times4 .ensures, ← c .before .plus2 .ensures, ← c .curve-of .ensures)
+returns c =
+    let c5 = c .before .before .before .before .before in
+    let c10 = c5 .before .before .before .before .before in
+    let c15 = c10 .before .before .before .before .before in
+    let c20 = c15 .before .before .before .before .before in
+    simp (
+      ← c20 .sin-cos .ensures,
+      ← c15 .before .before .before .before .along .ensures,
+      ← c15 .before .before .times .ensures,
+      ← c15 .before .along2 .ensures,
+      ← c10 .before .before .before .before .times2 .ensures,
+      ← c10 .before .before .before .plus .ensures,
+      ← c5 .before .before .before .level .ensures,
+      ← c5 .before .before .across .ensures,
+      ← c5 .times3 .ensures,
+      ← c .before .before .before .before .across2 .ensures,
+      ← c .before .before .times4 .ensures,
+      ← c .before .plus2 .ensures,
+      ← c .curve-of .ensures,
+    )
 
 pub corner-curve-spec : {M : Type 1} → statement M
-corner-curve-spec = tie.close (tie.spec sin-cos-requires along-requires times-requires along-requires-2 times-requires-2 plus-requires level-requires across-requires times-requires-3 across-requires-2 times-requires-4 plus-requires-2 curve-of-requires returns)
+corner-curve-spec = tie.close (tie.spec sin-cos-requires along-requires times-requires along-requires-2 times-requires-2 plus-requires level-requires
+    across-requires times-requires-3 across-requires-2 times-requires-4 plus-requires-2 curve-of-requires returns)

@@ -34,7 +34,11 @@ returns-2 c = simp (c .before .before .before .range4 .given .1, c .enum-told2 .
 
 returns-3 : tie.Need-returns-3
 unfolding corner-curves ofBits
-returns-3 c = simp (c .before .before .before .before .before .before .range4 .given .1, c .before .before .before .range6 .given .1) (then (c .before .signed-corners .ensures) (c .signed-corners2 .ensures))
+returns-3 c =
+    let c5 = c .before .before .before .before .before in
+    simp (c5 .before .range4 .given .1, c .before .before .before .range6 .given .1)
+    (then (c .before .signed-corners .ensures) (c .signed-corners2 .ensures))
 
 pub corner-curves-spec : {M : Type 1} → statement M
-corner-curves-spec = tie.close (tie.spec enum-told enum-known-range4 enum-told-2 enum-known-range6 signed-corners-requires signed-corners-requires-2 returns returns-2 returns-3)
+corner-curves-spec = tie.close (tie.spec enum-told enum-known-range4 enum-told-2 enum-known-range6 signed-corners-requires signed-corners-requires-2
+    returns returns-2 returns-3)

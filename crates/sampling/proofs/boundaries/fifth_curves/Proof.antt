@@ -29,7 +29,10 @@ returns c = simp (c .enum-told .given .1) (none 2 _ _)
 
 returns-2 : tie.Need-returns-2
 unfolding fifth-curves
-returns-2 c = simp (c .before .before .before .before .before .range .given .1, ← c .before .before .before .fifth-curve .ensures, ← c .before .fifth-curve2 .ensures) (then (c .before .before .add .ensures) (c .add2 .ensures))
+returns-2 c =
+    let c5 = c .before .before .before .before .before in
+    simp (c5 .range .given .1, ← c .before .before .before .fifth-curve .ensures, ← c .before .fifth-curve2 .ensures)
+    (then (c .before .before .add .ensures) (c .add2 .ensures))
 
 pub fifth-curves-spec : {M : Type 1} → statement M
 fifth-curves-spec = tie.close (tie.spec enum-told enum-known-range fifth-curve-requires add-requires fifth-curve-requires-2 add-requires-2 returns returns-2)

@@ -27,7 +27,18 @@ curve-of-requires c = search needs
 
 returns : tie.Need-returns
 unfolding fourth-curve
-returns c = simp (← c .before .before .before .before .before .before .before .before .before .sin-cos .ensures, ← c .before .before .before .before .before .before .before .before .along .ensures, ← c .before .before .before .before .before .before .times .ensures, ← c .before .before .before .level .ensures, ← c .before .before .across .ensures, ← c .before .times2 .ensures, ← c .curve-of .ensures)
+returns c =
+    let c5 = c .before .before .before .before .before in
+    simp (
+      ← c5 .before .before .before .before .sin-cos .ensures,
+      ← c5 .before .before .before .along .ensures,
+      ← c5 .before .times .ensures,
+      ← c .before .before .before .level .ensures,
+      ← c .before .before .across .ensures,
+      ← c .before .times2 .ensures,
+      ← c .curve-of .ensures,
+    )
 
 pub fourth-curve-spec : {M : Type 1} → statement M
-fourth-curve-spec = tie.close (tie.spec sin-cos-requires along-requires times-requires level-requires across-requires times-requires-2 curve-of-requires returns)
+fourth-curve-spec = tie.close (tie.spec sin-cos-requires along-requires times-requires level-requires across-requires times-requires-2
+    curve-of-requires returns)

@@ -20,7 +20,8 @@ add-requires-2 c = search needs
 
 returns : tie.Need-returns
 unfolding pole-curves ofBits
-returns c = simp (← c .before .before .before .bend-curve .ensures, ← c .before .bend-curve2 .ensures) (then (c .before .before .add .ensures) (c .add2 .ensures))
+returns c = simp (← c .before .before .before .bend-curve .ensures, ← c .before .bend-curve2 .ensures)
+    (then (c .before .before .add .ensures) (c .add2 .ensures))
 
 pub pole-curves-spec : {M : Type 1} → statement M
 pole-curves-spec = tie.close (tie.spec bend-curve-requires add-requires bend-curve-requires-2 add-requires-2 returns)

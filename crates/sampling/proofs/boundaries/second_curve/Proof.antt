@@ -22,7 +22,15 @@ curve-of-requires c = search needs
 
 returns : tie.Need-returns
 unfolding second-curve ofBits
-returns c = simp (← c .before .before .before .before .before .sin-cos .ensures, ← c .before .before .before .level .ensures, ← c .before .before .level2 .ensures, ← c .before .level3 .ensures, ← c .curve-of .ensures)
+returns c =
+    let c5 = c .before .before .before .before .before in
+    simp (
+      ← c5 .sin-cos .ensures,
+      ← c .before .before .before .level .ensures,
+      ← c .before .before .level2 .ensures,
+      ← c .before .level3 .ensures,
+      ← c .curve-of .ensures,
+    )
 
 pub second-curve-spec : {M : Type 1} → statement M
 second-curve-spec = tie.close (tie.spec sin-cos-requires level-requires level-requires-2 level-requires-3 curve-of-requires returns)

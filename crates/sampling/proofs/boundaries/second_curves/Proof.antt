@@ -29,7 +29,10 @@ returns c = simp (c .enum-told .given .1) (none 2 _ _)
 
 returns-2 : tie.Need-returns-2
 unfolding second-curves
-returns-2 c = simp (c .before .before .before .before .before .range .given .1, ← c .before .before .before .second-curve .ensures, ← c .before .second-curve2 .ensures) (then (c .before .before .add .ensures) (c .add2 .ensures))
+returns-2 c =
+    let c5 = c .before .before .before .before .before in
+    simp (c5 .range .given .1, ← c .before .before .before .second-curve .ensures, ← c .before .second-curve2 .ensures)
+    (then (c .before .before .add .ensures) (c .add2 .ensures))
 
 pub second-curves-spec : {M : Type 1} → statement M
 second-curves-spec = tie.close (tie.spec enum-told enum-known-range second-curve-requires add-requires second-curve-requires-2 add-requires-2 returns returns-2)

@@ -31,7 +31,18 @@ add-requires-4 c = search needs
 
 returns : tie.Need-returns
 unfolding signed-corners
-returns c = simp (← c .before .before .before .before .before .before .before .corner-curve .ensures, ← c .before .before .before .before .before .corner-curve2 .ensures, ← c .before .before .before .corner-curve3 .ensures, ← c .before .corner-curve4 .ensures) (then (then (then (c .before .before .before .before .before .before .add .ensures) (c .before .before .before .before .add2 .ensures)) (c .before .before .add3 .ensures)) (c .add4 .ensures))
+returns c =
+    let c5 = c .before .before .before .before .before in
+    simp (
+      ← c5 .before .before .corner-curve .ensures,
+      ← c5 .corner-curve2 .ensures,
+      ← c .before .before .before .corner-curve3 .ensures,
+      ← c .before .corner-curve4 .ensures,
+    )
+    (then (then (then (c5 .before .add .ensures) (c .before .before .before .before .add2 .ensures)) (c .before .before .add3 .ensures))
+    (c .add4 .ensures))
 
 pub signed-corners-spec : {M : Type 1} → statement M
-signed-corners-spec = tie.close (tie.spec corner-curve-requires add-requires corner-curve-requires-2 add-requires-2 corner-curve-requires-3 add-requires-3 corner-curve-requires-4 add-requires-4 returns)
+signed-corners-spec = tie.close
+    (tie.spec corner-curve-requires add-requires corner-curve-requires-2 add-requires-2 corner-curve-requires-3 add-requires-3 corner-curve-requires-4
+    add-requires-4 returns)

@@ -34,7 +34,21 @@ curve-of-requires c = search needs
 
 returns : tie.Need-returns
 unfolding sixth-curve ofBits
-returns c = simp (← c .before .before .before .before .before .before .before .before .before .before .before .before .sin-cos .ensures, ← c .before .before .before .before .before .before .before .level .ensures, ← c .before .before .before .before .before .before .along .ensures, ← c .before .before .before .before .before .times .ensures, ← c .before .before .before .before .along2 .ensures, ← c .before .before .before .times2 .ensures, ← c .before .before .plus .ensures, ← c .before .level2 .ensures, ← c .curve-of .ensures)
+returns c =
+    let c5 = c .before .before .before .before .before in
+    let c10 = c5 .before .before .before .before .before in
+    simp (
+      ← c10 .before .before .sin-cos .ensures,
+      ← c5 .before .before .level .ensures,
+      ← c5 .before .along .ensures,
+      ← c5 .times .ensures,
+      ← c .before .before .before .before .along2 .ensures,
+      ← c .before .before .before .times2 .ensures,
+      ← c .before .before .plus .ensures,
+      ← c .before .level2 .ensures,
+      ← c .curve-of .ensures,
+    )
 
 pub sixth-curve-spec : {M : Type 1} → statement M
-sixth-curve-spec = tie.close (tie.spec sin-cos-requires level-requires along-requires times-requires along-requires-2 times-requires-2 plus-requires level-requires-2 curve-of-requires returns)
+sixth-curve-spec = tie.close (tie.spec sin-cos-requires level-requires along-requires times-requires along-requires-2 times-requires-2 plus-requires
+    level-requires-2 curve-of-requires returns)

@@ -29,7 +29,10 @@ returns c = simp (c .enum-told .given .1) (none 2 _ _)
 
 returns-2 : tie.Need-returns-2
 unfolding sixth-curves
-returns-2 c = simp (c .before .before .before .before .before .range .given .1, ← c .before .before .before .sixth-curve .ensures, ← c .before .sixth-curve2 .ensures) (then (c .before .before .add .ensures) (c .add2 .ensures))
+returns-2 c =
+    let c5 = c .before .before .before .before .before in
+    simp (c5 .range .given .1, ← c .before .before .before .sixth-curve .ensures, ← c .before .sixth-curve2 .ensures)
+    (then (c .before .before .add .ensures) (c .add2 .ensures))
 
 pub sixth-curves-spec : {M : Type 1} → statement M
 sixth-curves-spec = tie.close (tie.spec enum-told enum-known-range sixth-curve-requires add-requires sixth-curve-requires-2 add-requires-2 returns returns-2)

@@ -18,7 +18,12 @@ plus-requires c = search needs
 
 returns : tie.Need-returns
 unfolding line
-returns c = simp (← c .before .before .before .before .sin-cos .ensures, ← c .before .before .before .scaled .ensures, ← c .before .scaled2 .ensures, ← c .plus .ensures)
+returns c = simp (
+  ← c .before .before .before .before .sin-cos .ensures,
+  ← c .before .before .before .scaled .ensures,
+  ← c .before .scaled2 .ensures,
+  ← c .plus .ensures,
+)
 
 pub line-spec : {M : Type 1} → statement M
 line-spec = tie.close (tie.spec sin-cos-requires scaled-requires scaled-requires-2 plus-requires returns)

@@ -48,7 +48,8 @@ loop-again c =
     let a = l .before .before .before .args in (
       search needs,
       p .push .ensures .same ∙ l .loop .inv .1,
-      leads-next (l .loop .inv .2) (angles-next (a .origin) (a .roots .now) (l .loop .i) (a .n) (search needs) (search needs) ∙ rw (← p .before .atan .ensures)) (p .push .ensures),
+      leads-next (l .loop .inv .2) (angles-next (a .origin) (a .roots .now) (l .loop .i) (a .n) (search needs) (search needs)
+          ∙ rw (← p .before .atan .ensures)) (p .push .ensures),
     )
 
 same-length : tie.Need-same-length Inv-loop μ-loop
@@ -61,4 +62,5 @@ returns c =
     leads-end (l .loop .inv .2) (angles-end (a .origin) (a .roots .now) (l .loop .i) (a .n) (omega arith))
 
 pub angles-spec : {M : Type 1} → statement M
-angles-spec = tie.close (tie.spec Inv-loop μ-loop loop-holds mul-u shared-slice-read-u add-i atan-requires push-requires loop-less loop-again same-length returns)
+angles-spec = tie.close (tie.spec Inv-loop μ-loop loop-holds mul-u shared-slice-read-u add-i atan-requires push-requires loop-less loop-again
+    same-length returns)

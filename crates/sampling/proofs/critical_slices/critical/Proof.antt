@@ -8,7 +8,8 @@ use lib.ListN.{length, take}
 use lib.Seq.{slice}
 use Rattle.sampling.specs.CriticalSlices as Of
 use Rattle.sampling.proofs.Grown.{Leads, leads-all, leads-next, leads-end}
-use Rattle.sampling.proofs.CriticalSlices.{both-hold, both-grown, critical-next, critical-holds-next, critical-end, critical-holds-end, holds-next, holds-end}
+use Rattle.sampling.proofs.CriticalSlices.{both-hold, both-grown, critical-next, critical-holds-next}
+use Rattle.sampling.proofs.CriticalSlices.{critical-end, critical-holds-end, holds-next, holds-end}
 use Rattle.sampling.proofs.critical_slices.critical.Statement.{statement}
 use Rattle.sampling.proofs.critical_slices.critical.Tie as tie
 

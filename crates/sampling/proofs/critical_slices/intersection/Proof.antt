@@ -21,7 +21,8 @@ squares-requires : tie.Need-squares-requires
 squares-requires c = search needs
 
 threes : (s : tie.Start)
-    → (3 ≤ length (s .args .k .a)) × (3 ≤ length (s .args .k .b)) × (3 ≤ length (s .args .k .c)) × (3 ≤ length (s .args .l .a)) × (3 ≤ length (s .args .l .b)) × (3 ≤ length (s .args .l .c))
+    → (3 ≤ length (s .args .k .a)) × (3 ≤ length (s .args .k .b)) × (3 ≤ length (s .args .k .c)) × (3 ≤ length (s .args .l .a)) ×
+    (3 ≤ length (s .args .l .b)) × (3 ≤ length (s .args .l .c))
 threes s = search three
 
 returns : tie.Need-returns

@@ -13,7 +13,8 @@ use Rattle.sampling.specs.CriticalSlices as Of
 use Rattle.sampling.specs.Promises.Meetings as Met
 use Rattle.sampling.specs.Promises.Numerators.{first-three}
 use Rattle.sampling.proofs.Grown.{Leads, leads-all, leads-next, leads-end}
-use Rattle.sampling.proofs.CriticalSlices.{three, Threes, intersection-is, meetings-next, meetings-hold-next, meetings-end, meetings-hold-end, holds-next, holds-end}
+use Rattle.sampling.proofs.CriticalSlices.{three, Threes, intersection-is, meetings-next, meetings-hold-next}
+use Rattle.sampling.proofs.CriticalSlices.{meetings-end, meetings-hold-end, holds-next, holds-end}
 use Rattle.sampling.proofs.critical_slices.meetings.Statement.{statement}
 use Rattle.sampling.proofs.critical_slices.meetings.Tie as tie
 
@@ -66,8 +67,11 @@ loop-again c =
       search needs,
       l .loop .inv .1,
       r .1 .same ∙ l .loop .inv .2,
-      holds-next (l .loop .holds) (g .chart-roots .result .holds) _ _ _ _ (l .loop .inv .3) (meetings-hold-next (a .c) (a .t5) (l .loop .j) (a .n) _ (search needs) (omega arith) k) (r .0 ∙ ap (Of.chart-holds (a .c)) e),
-      leads-next (l .loop .inv .4) (meetings-next (a .c) (a .t5) (l .loop .j) (a .n) _ (search needs) (omega arith) k) (subst (λ (z : List Compensated). Grown (Of.chart-roots (a .c) z) (l .loop .work) (l .loop .state) (g .chart-roots .last .0) (g .chart-roots .result .cuts)) e (r .1)),
+      holds-next (l .loop .holds) (g .chart-roots .result .holds) _ _ _ _ (l .loop .inv .3)
+          (meetings-hold-next (a .c) (a .t5) (l .loop .j) (a .n) _ (search needs) (omega arith) k) (r .0 ∙ ap (Of.chart-holds (a .c)) e),
+      leads-next (l .loop .inv .4) (meetings-next (a .c) (a .t5) (l .loop .j) (a .n) _ (search needs) (omega arith) k)
+          (subst (λ (z : List Compensated). Grown (Of.chart-roots (a .c) z) (l .loop .work) (l .loop .state) (g .chart-roots .last .0)
+          (g .chart-roots .result .cuts)) e (r .1)),
     )
 
 same-length : tie.Need-same-length Inv-loop μ-loop
@@ -85,4 +89,5 @@ returns c =
 pub meetings-spec : {M : Type 1} → statement M
 meetings-spec =
     tie.close
-    (tie.spec Inv-loop μ-loop loop-holds mul-l array-copy-out-l add-j polynomials-requires intersection-requires chart-roots-requires loop-less loop-again same-length returns)
+    (tie.spec Inv-loop μ-loop loop-holds mul-l array-copy-out-l add-j polynomials-requires intersection-requires chart-roots-requires loop-less
+    loop-again same-length returns)

@@ -45,7 +45,8 @@ returns c =
     simp (
       ← multiply-front (x .multiply .result) (a .p) (a .p) (a .n) (a .n) (x .multiply .ensures) (omega arith) (omega arith),
       ← multiply-front (y .multiply2 .result) (a .q) (a .q) (a .n) (a .n) (y .multiply2 .ensures) (omega arith) (omega arith),
-      ← add-front (s .add .result) (x .multiply .result) (y .multiply2 .result) (a .n + a .n - 1) _ (s .add .ensures) (omega (arith, x .multiply .ok .1 .0 .1)) (omega (arith, y .multiply2 .ok .1 .0 .1)),
+      ← add-front (s .add .result) (x .multiply .result) (y .multiply2 .result) (a .n + a .n - 1) _ (s .add .ensures)
+          (omega (arith, x .multiply .ok .1 .0 .1)) (omega (arith, y .multiply2 .ok .1 .0 .1)),
       ← multiply-front (z .multiply3 .result) (a .r) (a .r) (a .n) (a .n) (z .multiply3 .ensures) (omega arith) (omega arith),
       ← c .add2 .ensures,
     )

@@ -40,7 +40,23 @@ new-requires-9 c = search needs
 
 returns : tie.Need-returns
 unfolding arm-axes ofBits
-returns c = simp (← c .before .before .before .before .before .before .before .before .before .before .before .sin-cos .ensures, ← c .before .before .before .before .before .before .before .before .before .before .new .ensures, ← c .before .before .before .before .before .before .before .before .before .new2 .ensures, ← c .before .before .before .before .before .before .before .before .new3 .ensures, ← c .before .before .before .before .before .before .new4 .ensures, ← c .before .before .before .before .before .new5 .ensures, ← c .before .before .before .before .negated .ensures, ← c .before .before .before .new6 .ensures, ← c .before .before .new7 .ensures, ← c .before .new8 .ensures, ← c .new9 .ensures)
+returns c =
+    let c5 = c .before .before .before .before .before in
+    let c10 = c5 .before .before .before .before .before in
+    simp (
+      ← c10 .before .sin-cos .ensures,
+      ← c10 .new .ensures,
+      ← c5 .before .before .before .before .new2 .ensures,
+      ← c5 .before .before .before .new3 .ensures,
+      ← c5 .before .new4 .ensures,
+      ← c5 .new5 .ensures,
+      ← c .before .before .before .before .negated .ensures,
+      ← c .before .before .before .new6 .ensures,
+      ← c .before .before .new7 .ensures,
+      ← c .before .new8 .ensures,
+      ← c .new9 .ensures,
+    )
 
 pub arm-axes-spec : {M : Type 1} → statement M
-arm-axes-spec = tie.close (tie.spec sin-cos-requires new-requires new-requires-2 new-requires-3 new-requires-4 new-requires-5 negated-requires new-requires-6 new-requires-7 new-requires-8 new-requires-9 returns)
+arm-axes-spec = tie.close (tie.spec sin-cos-requires new-requires new-requires-2 new-requires-3 new-requires-4 new-requires-5 negated-requires
+    new-requires-6 new-requires-7 new-requires-8 new-requires-9 returns)

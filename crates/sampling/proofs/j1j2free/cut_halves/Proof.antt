@@ -29,13 +29,15 @@ start-of-requires : tie.Need-start-of-requires
 start-of-requires c κs = search needs
 
 mul-half-cuts : tie.Need-mul-half-cuts
-mul-half-cuts c = let h = starts _ _ _ (c .before .before .before .half-cuts .result .cuts) _ (c .start-of .ensures) (c .before .before .before .half-cuts .ensures .1) in search (needs, h)
+mul-half-cuts c = let h = starts _ _ _ (c .before .before .before .half-cuts .result .cuts) _ (c .start-of .ensures)
+    (c .before .before .before .half-cuts .ensures .1) in search (needs, h)
 
 sub-half-cuts : tie.Need-sub-half-cuts
 sub-half-cuts c = starts _ _ _ (c .before .before .before .half-cuts .result .cuts) _ (c .start-of .ensures) (c .before .before .before .half-cuts .ensures .1)
 
 part-half-cuts-start : tie.Need-part-half-cuts-start
-part-half-cuts-start c = starts _ _ _ (c .before .before .before .half-cuts .result .cuts) _ (c .start-of .ensures) (c .before .before .before .half-cuts .ensures .1)
+part-half-cuts-start c = starts _ _ _ (c .before .before .before .half-cuts .result .cuts) _ (c .start-of .ensures)
+    (c .before .before .before .half-cuts .ensures .1)
 
 part-half-cuts-end : tie.Need-part-half-cuts-end
 part-half-cuts-end c = search needs
@@ -60,10 +62,12 @@ returns c =
     let found = first .before .before .before .before .before .before in
     let start = found .before .before .before in
     let a = start .args in
-    holds (a .t) (a .lower) (a .upper) _ (subst T (sym (start .good .1 .1 .0 .1)) tt) (subst T (sym (start .good .1 .1 .1 .0 .1)) tt) (first .before .before .before .middle .ensures)
+    holds (a .t) (a .lower) (a .upper) _ (subst T (sym (start .good .1 .1 .0 .1)) tt) (subst T (sym (start .good .1 .1 .1 .0 .1)) tt)
+    (first .before .before .before .middle .ensures)
     _ (first .before .before .before .before .boundaries .ensures .1) _ (found .bend-slices .ensures .1 .front)
     _ _ _ (found .bend-slices .ensures .0) (first .half-cuts .ensures .0) (second .half-cuts2 .ensures .0)
-    _ _ _ (first .half-cuts .result .cuts) (second .half-cuts2 .result .cuts) _ (second .before .before .before .start-of .ensures) (first .half-cuts .ensures .1) (second .half-cuts2 .ensures .1)
+    _ _ _ (first .half-cuts .result .cuts) (second .half-cuts2 .result .cuts) _ (second .before .before .before .start-of .ensures)
+    (first .half-cuts .ensures .1) (second .half-cuts2 .ensures .1)
     (c .before .if1 .taken) (c .halves-of .result) (c .halves-of .ensures)
 
 same-length-2 : tie.Need-same-length-2
@@ -77,7 +81,8 @@ returns-2 c =
     let found = first .before .before .before .before .before .before in
     let start = found .before .before .before in
     let a = start .args in (
-      refused (a .t) (a .lower) (a .upper) _ (subst T (sym (start .good .1 .1 .0 .1)) tt) (subst T (sym (start .good .1 .1 .1 .0 .1)) tt) (first .before .before .before .middle .ensures)
+      refused (a .t) (a .lower) (a .upper) _ (subst T (sym (start .good .1 .1 .0 .1)) tt) (subst T (sym (start .good .1 .1 .1 .0 .1)) tt)
+          (first .before .before .before .middle .ensures)
           _ (first .before .before .before .before .boundaries .ensures .1) _ (found .bend-slices .ensures .1 .front)
           _ _ _ (found .bend-slices .ensures .0) (first .half-cuts .ensures .0) (second .half-cuts2 .ensures .0)
           (c .if1 .left) _,

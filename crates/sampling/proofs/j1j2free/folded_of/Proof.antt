@@ -24,7 +24,17 @@ sixth-limits-requires c = search needs
 
 returns : tie.Need-returns
 unfolding folded
-returns c = simp (← c .before .before .before .before .before .model-reference .ensures, ← c .before .before .before .before .limits .ensures, ← c .before .before .before .limits2 .ensures, ← c .before .before .wrist-limits .ensures, ← c .before .wrist-limits2 .ensures, ← c .sixth-limits .ensures)
+returns c =
+    let c5 = c .before .before .before .before .before in
+    simp (
+      ← c5 .model-reference .ensures,
+      ← c .before .before .before .before .limits .ensures,
+      ← c .before .before .before .limits2 .ensures,
+      ← c .before .before .wrist-limits .ensures,
+      ← c .before .wrist-limits2 .ensures,
+      ← c .sixth-limits .ensures,
+    )
 
 pub folded-of-spec : {M : Type 1} → statement M
-folded-of-spec = tie.close (tie.spec model-reference-requires limits-requires limits-requires-2 wrist-limits-requires wrist-limits-requires-2 sixth-limits-requires returns)
+folded-of-spec = tie.close (tie.spec model-reference-requires limits-requires limits-requires-2 wrist-limits-requires wrist-limits-requires-2
+    sixth-limits-requires returns)

@@ -16,14 +16,22 @@ push-requires-2 c = search needs
 critical-requires : tie.Need-critical-requires
 critical-requires c = search needs
 
-all-turns-requires : tie.Need-all-turns-requires
-all-turns-requires c = search needs
+all-copies-requires : tie.Need-all-copies-requires
+all-copies-requires c = search needs
 
 same-length : tie.Need-same-length
 same-length c = search needs
 
 returns : tie.Need-returns
-returns c = simp (← c .before .before .before .before .before .before .before .before .before .before .before .before .before .before .before .before .before .chart-of .ensures) ((c .before .before .before .before .before .before .critical .ensures) .0, whole (then (then (then (c .before .before .before .before .before .before .before .before .before .before .before .before .before .before .before .push .ensures) (c .before .before .before .before .before .before .before .before .before .before .before .push2 .ensures)) ((c .before .before .before .before .before .before .critical .ensures) .1)) (c .before .before .all-turns .ensures)))
+returns c =
+    let c5 = c .before .before .before .before .before in
+    let c10 = c5 .before .before .before .before .before in
+    let c15 = c10 .before .before .before .before .before in
+    simp (← c15 .before .before .chart-of .ensures) (
+      (c5 .before .critical .ensures) .0,
+      whole (then (then (then (c15 .push .ensures) (c10 .before .push2 .ensures)) ((c5 .before .critical .ensures) .1))
+          (c .before .before .all-copies .ensures)),
+    )
 
 pub half-cuts-spec : {M : Type 1} → statement M
-half-cuts-spec = tie.close (tie.spec chart-of-requires push-requires push-requires-2 critical-requires all-turns-requires same-length returns)
+half-cuts-spec = tie.close (tie.spec chart-of-requires push-requires push-requires-2 critical-requires all-copies-requires same-length returns)

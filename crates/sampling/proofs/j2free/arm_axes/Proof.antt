@@ -28,7 +28,17 @@ z-axis-requires c = search needs
 
 returns : tie.Need-returns
 unfolding arm-axes ofBits
-returns c = simp (← c .before .before .before .before .before .before .before .sin-cos .ensures, ← c .before .before .before .before .before .before .sin-cos2 .ensures, ← c .before .before .before .before .before .new .ensures, ← c .before .before .before .before .new2 .ensures, ← c .before .before .before .x-axis .ensures, ← c .before .new3 .ensures, ← c .z-axis .ensures)
+returns c =
+    let c5 = c .before .before .before .before .before in
+    simp (
+      ← c5 .before .before .sin-cos .ensures,
+      ← c5 .before .sin-cos2 .ensures,
+      ← c5 .new .ensures,
+      ← c .before .before .before .before .new2 .ensures,
+      ← c .before .before .before .x-axis .ensures,
+      ← c .before .new3 .ensures,
+      ← c .z-axis .ensures,
+    )
 
 pub arm-axes-spec : {M : Type 1} → statement M
 arm-axes-spec = tie.close (tie.spec sin-cos-requires sin-cos-requires-2 new-requires new-requires-2 x-axis-requires new-requires-3 z-axis-requires returns)

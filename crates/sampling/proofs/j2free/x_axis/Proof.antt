@@ -34,7 +34,20 @@ new-requires-2 c = search needs
 
 returns : tie.Need-returns
 unfolding x-axis ofBits
-returns c = simp (← c .before .before .before .before .before .before .before .before .new .ensures, ← c .before .before .before .before .before .before .before .times .ensures, ← c .before .before .before .before .before .before .negated .ensures, ← c .before .before .before .before .before .times2 .ensures, ← c .before .before .before .before .times3 .ensures, ← c .before .before .before .minus .ensures, ← c .before .before .times4 .ensures, ← c .before .minus2 .ensures, ← c .new2 .ensures)
+returns c =
+    let c5 = c .before .before .before .before .before in
+    simp (
+      ← c5 .before .before .before .new .ensures,
+      ← c5 .before .before .times .ensures,
+      ← c5 .before .negated .ensures,
+      ← c5 .times2 .ensures,
+      ← c .before .before .before .before .times3 .ensures,
+      ← c .before .before .before .minus .ensures,
+      ← c .before .before .times4 .ensures,
+      ← c .before .minus2 .ensures,
+      ← c .new2 .ensures,
+    )
 
 pub x-axis-spec : {M : Type 1} → statement M
-x-axis-spec = tie.close (tie.spec new-requires times-requires negated-requires times-requires-2 times-requires-3 minus-requires times-requires-4 minus-requires-2 new-requires-2 returns)
+x-axis-spec = tie.close (tie.spec new-requires times-requires negated-requires times-requires-2 times-requires-3 minus-requires times-requires-4
+    minus-requires-2 new-requires-2 returns)

@@ -31,7 +31,19 @@ new-requires-2 c = search needs
 
 returns : tie.Need-returns
 unfolding z-axis ofBits
-returns c = simp (← c .before .before .before .before .before .before .before .new .ensures, ← c .before .before .before .before .before .before .times .ensures, ← c .before .before .before .before .before .times2 .ensures, ← c .before .before .before .before .times3 .ensures, ← c .before .before .before .plus .ensures, ← c .before .before .times4 .ensures, ← c .before .minus .ensures, ← c .new2 .ensures)
+returns c =
+    let c5 = c .before .before .before .before .before in
+    simp (
+      ← c5 .before .before .new .ensures,
+      ← c5 .before .times .ensures,
+      ← c5 .times2 .ensures,
+      ← c .before .before .before .before .times3 .ensures,
+      ← c .before .before .before .plus .ensures,
+      ← c .before .before .times4 .ensures,
+      ← c .before .minus .ensures,
+      ← c .new2 .ensures,
+    )
 
 pub z-axis-spec : {M : Type 1} → statement M
-z-axis-spec = tie.close (tie.spec new-requires times-requires times-requires-2 times-requires-3 plus-requires times-requires-4 minus-requires new-requires-2 returns)
+z-axis-spec = tie.close (tie.spec new-requires times-requires times-requires-2 times-requires-3 plus-requires times-requires-4 minus-requires
+    new-requires-2 returns)

@@ -59,7 +59,8 @@ returns c =
     let s = c .before .before .before .before in
     let a = s .args in
     let n = c .before .before .sample-count in
-    in-first (a .work .now) (a .n .first) (a .n .second) (a .n .third) (s .pre) (a .i) (c .part-at .result) (n .result) (n .ensures) (c .before .if1 .taken) (c .part-at .ensures)
+    in-first (a .work .now) (a .n .first) (a .n .second) (a .n .third) (s .pre) (a .i) (c .part-at .result) (n .result) (n .ensures)
+    (c .before .if1 .taken) (c .part-at .ensures)
 
 add-start : tie.Need-add-start
 add-start c = search needs
@@ -82,7 +83,8 @@ returns-2 c =
     let a = s .args in
     let n = c .before .before .before .before .before .sample-count in
     let m = c .before .before .sample-count2 in
-    in-second (a .work .now) (a .n .first) (a .n .second) (a .n .third) (s .pre) (a .i) (c .part-at2 .result) (n .result) (m .result) (n .ensures) (m .ensures) (c .before .before .before .before .if1 .left) (c .before .if2 .taken) (c .part-at2 .ensures)
+    in-second (a .work .now) (a .n .first) (a .n .second) (a .n .third) (s .pre) (a .i) (c .part-at2 .result) (n .result) (m .result) (n .ensures)
+    (m .ensures) (c .before .before .before .before .if1 .left) (c .before .if2 .taken) (c .part-at2 .ensures)
 
 add-part-at : tie.Need-add-part-at
 add-part-at c = search needs
@@ -96,7 +98,9 @@ returns-3 c =
     let a = s .args in
     let n = c .before .before .before .before .before .before .sample-count in
     let m = c .before .before .before .sample-count2 in
-    in-third (a .work .now) (a .n .first) (a .n .second) (a .n .third) (s .pre) (a .i) (c .part-at3 .result) (n .result) (m .result) (n .ensures) (m .ensures) (c .before .before .if2 .left) (c .part-at3 .ensures)
+    in-third (a .work .now) (a .n .first) (a .n .second) (a .n .third) (s .pre) (a .i) (c .part-at3 .result) (n .result) (m .result) (n .ensures)
+    (m .ensures) (c .before .before .if2 .left) (c .part-at3 .ensures)
 
 pub angle-at-spec : {M : Type 1} → statement M
-angle-at-spec = tie.close (tie.spec sample-count-requires part-at-requires returns add-start sample-count-requires-2 add-both part-at-requires-2 returns-2 add-part-at part-at-requires-3 returns-3)
+angle-at-spec = tie.close (tie.spec sample-count-requires part-at-requires returns add-start sample-count-requires-2 add-both part-at-requires-2
+    returns-2 add-part-at part-at-requires-3 returns-3)

@@ -14,7 +14,14 @@ sample-count-requires-2 c = search needs
 add-result : tie.Need-add-result
 add-result c =
     let s = c .before .before in
-    omega (arith, s .pre, c .before .sample-count .ensures, c .sample-count2 .ensures, sample-count-most (s .args .n .first), sample-count-most (s .args .n .second))
+    omega (
+      arith,
+      s .pre,
+      c .before .sample-count .ensures,
+      c .sample-count2 .ensures,
+      sample-count-most (s .args .n .first),
+      sample-count-most (s .args .n .second),
+    )
 
 sample-count-requires-3 : tie.Need-sample-count-requires-3
 sample-count-requires-3 c = search needs

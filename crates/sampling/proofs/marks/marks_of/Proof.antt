@@ -19,7 +19,13 @@ ends-requires c = search needs
 
 returns : tie.Need-returns
 unfolding marks ofBits
-returns c = simp (← c .before .before .before .before .model-angle .ensures, c .before .before .before .if1 .taken, ← c .before .before .compute-center .ensures, ← c .before .model-angle2 .ensures, ← c .ends .ensures)
+returns c = simp (
+  ← c .before .before .before .before .model-angle .ensures,
+  c .before .before .before .if1 .taken,
+  ← c .before .before .compute-center .ensures,
+  ← c .before .model-angle2 .ensures,
+  ← c .ends .ensures,
+)
 
 returns-2 : tie.Need-returns-2
 unfolding marks ofBits

@@ -33,14 +33,19 @@ count-requires c κs =
     let s = c .before .before .before .before in
     let a = s .args in (
       s .pre .first,
-      (subst (λ (k : ℕ). Woven (take k (drop (a .h .first) (a .work .now)))) (sym (add-sub-cancel-left (a .h .first) (a .h .second))) (s .pre .second), s .pre .number),
+      (
+        subst (λ (k : ℕ). Woven (take k (drop (a .h .first) (a .work .now)))) (sym (add-sub-cancel-left (a .h .first) (a .h .second)))
+            (s .pre .second),
+        s .pre .number,
+      ),
     )
 
 returns : tie.Need-returns
 returns c =
     let a = c .before .before .before .before .before .args in
     let w = a .work .now in
-    c .count .ensures ∙ ap (λ (k : ℕ). length (distinct (take (a .h .first) w) (take k (drop (a .h .first) w)) (a .h .reference) start)) (add-sub-cancel-left (a .h .first) (a .h .second))
+    c .count .ensures ∙ ap (λ (k : ℕ). length (distinct (take (a .h .first) w) (take k (drop (a .h .first) w)) (a .h .reference) start))
+    (add-sub-cancel-left (a .h .first) (a .h .second))
 
 pub count-slices-spec : {M : Type 1} → statement M
 count-slices-spec = tie.close (tie.spec add-end slice-aggregate-count mul-count sub-count part-count-start part-count-end count-requires returns)

@@ -23,7 +23,9 @@ same-length : tie.Need-same-length
 same-length c = search needs
 
 returns-2 : tie.Need-returns-2
-returns-2 c = simp (c .before .before .before .before .before .before .before .before .before .p .given .1) (then (c .before .before .before .before .before .before .push .ensures) (c .before .before .push2 .ensures))
+returns-2 c =
+    let c5 = c .before .before .before .before .before in
+    simp (c5 .before .before .before .before .p .given .1) (then (c5 .before .push .ensures) (c .before .before .push2 .ensures))
 
 pub push-crossings-spec : {M : Type 1} → statement M
 push-crossings-spec = tie.close (tie.spec enum-told enum-known-p push-requires push-requires-2 returns same-length returns-2)

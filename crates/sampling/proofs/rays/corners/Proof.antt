@@ -1,6 +1,6 @@
 -- `sampling::rays::corners` meets its contract: at each return, what the calls and the tests on the way to it say.
 use borrow.Author.Needs.{needs}
-use Rattle.sampling.proofs.Questions.{none, then}
+use Rattle.sampling.proofs.Deferrals.{none, then}
 use Rattle.sampling.specs.Rays.{corners}
 use Rattle.sampling.proofs.rays.corners.Statement.{statement}
 use Rattle.sampling.proofs.rays.corners.Tie as tie
@@ -42,7 +42,15 @@ same-length c = search needs
 
 returns-3 : tie.Need-returns-3
 unfolding corners
-returns-3 c = simp (c .before .before .before .before .before .before .before .before .before .before .before .before .before .before .before .before .before .before .before .before .fourth .given .1, c .before .before .before .before .before .before .before .before .before .before .before .before .before .before .before .before .before .sixth .given .1) (then (then (then (c .before .before .before .before .before .before .before .before .before .before .before .before .before .before .corner .ensures) (c .before .before .before .before .before .before .before .before .before .before .corner2 .ensures)) (c .before .before .before .before .before .before .corner3 .ensures)) (c .before .before .corner4 .ensures))
+returns-3 c =
+    let c5 = c .before .before .before .before .before in
+    let c10 = c5 .before .before .before .before .before in
+    let c15 = c10 .before .before .before .before .before in
+    let c20 = c15 .before .before .before .before .before in
+    simp (c20 .fourth .given .1, c15 .before .before .sixth .given .1)
+    (then (then (then (c10 .before .before .before .before .corner .ensures) (c10 .corner2 .ensures)) (c5 .before .corner3 .ensures))
+    (c .before .before .corner4 .ensures))
 
 pub corners-spec : {M : Type 1} → statement M
-corners-spec = tie.close (tie.spec enum-told enum-known-fourth enum-told-2 enum-known-sixth corner-requires corner-requires-2 corner-requires-3 corner-requires-4 returns returns-2 same-length returns-3)
+corners-spec = tie.close (tie.spec enum-told enum-known-fourth enum-told-2 enum-known-sixth corner-requires corner-requires-2 corner-requires-3
+    corner-requires-4 returns returns-2 same-length returns-3)

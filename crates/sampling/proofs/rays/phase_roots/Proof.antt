@@ -1,6 +1,6 @@
 -- `sampling::rays::phase_roots` meets its contract: at each return, what the calls and the tests on the way to it say.
 use borrow.Author.Needs.{needs}
-use Rattle.sampling.proofs.Questions.{then}
+use Rattle.sampling.proofs.Deferrals.{then}
 use Rattle.sampling.specs.Rays.{phase-roots}
 use Rattle.sampling.proofs.rays.phase_roots.Statement.{statement}
 use Rattle.sampling.proofs.rays.phase_roots.Tie as tie

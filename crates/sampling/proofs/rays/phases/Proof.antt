@@ -1,7 +1,7 @@
 -- `sampling::rays::phases` meets its contract: at each return, what the calls and the tests on the way to it say.
 use lib.Ieee.{ofBits}
 use borrow.Author.Needs.{needs}
-use Rattle.sampling.proofs.Questions.{then}
+use Rattle.sampling.proofs.Deferrals.{then}
 use Rattle.sampling.specs.Rays.{phases}
 use Rattle.sampling.proofs.rays.phases.Statement.{statement}
 use Rattle.sampling.proofs.rays.phases.Tie as tie

@@ -1,6 +1,6 @@
 -- `sampling::rays::ray_at` meets its contract: at each return, what the calls and the tests on the way to it say.
 use borrow.Author.Needs.{needs}
-use Rattle.sampling.proofs.Questions.{none}
+use Rattle.sampling.proofs.Deferrals.{none}
 use Rattle.sampling.specs.Rays.{ray-at}
 use Rattle.sampling.proofs.rays.ray_at.Statement.{statement}
 use Rattle.sampling.proofs.rays.ray_at.Tie as tie
@@ -16,7 +16,9 @@ same-length c = search needs
 
 returns : tie.Need-returns
 unfolding ray-at
-returns c = simp (← c .before .before .before .before .before .is-finite .ensures, c .before .before .before .before .if1 .taken) (c .before .before .ray-roots .ensures)
+returns c =
+    let c5 = c .before .before .before .before .before in
+    simp (← c5 .is-finite .ensures, c .before .before .before .before .if1 .taken) (c .before .before .ray-roots .ensures)
 
 returns-2 : tie.Need-returns-2
 unfolding ray-at

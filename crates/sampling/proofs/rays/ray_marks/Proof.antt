@@ -1,6 +1,6 @@
 -- `sampling::rays::ray_marks` meets its contract: at each return, what the calls and the tests on the way to it say.
 use borrow.Author.Needs.{needs}
-use Rattle.sampling.proofs.Questions.{none, then}
+use Rattle.sampling.proofs.Deferrals.{none, then}
 use Rattle.sampling.specs.Rays.{ray-marks}
 use Rattle.sampling.proofs.rays.ray_marks.Statement.{statement}
 use Rattle.sampling.proofs.rays.ray_marks.Tie as tie
@@ -19,7 +19,11 @@ same-length c = search needs
 
 returns : tie.Need-returns
 unfolding ray-marks
-returns c = simp (c .before .before .before .before .before .before .before .before .if1 .taken) (then (c .before .before .before .before .before .before .before .before .before .before .before .ray-at .ensures) (then (c .before .before .before .before .before .before .ray-at2 .ensures) (c .before .before .ray-range .ensures)))
+returns c =
+    let c5 = c .before .before .before .before .before in
+    let c10 = c5 .before .before .before .before .before in
+    simp (c5 .before .before .before .if1 .taken) (then (c10 .before .ray-at .ensures)
+    (then (c5 .before .ray-at2 .ensures) (c .before .before .ray-range .ensures)))
 
 same-length-2 : tie.Need-same-length-2
 same-length-2 c = search needs

@@ -1,6 +1,6 @@
 -- `sampling::rays::ray_range` meets its contract: at each return, what the calls and the tests on the way to it say.
 use borrow.Author.Needs.{needs}
-use Rattle.sampling.proofs.Questions.{none, then}
+use Rattle.sampling.proofs.Deferrals.{none, then}
 use Rattle.sampling.specs.Rays.{ray-range}
 use Rattle.sampling.proofs.rays.ray_range.Statement.{statement}
 use Rattle.sampling.proofs.rays.ray_range.Tie as tie
@@ -26,7 +26,9 @@ same-length c = search needs
 
 returns-2 : tie.Need-returns-2
 unfolding ray-range
-returns-2 c = simp (c .before .before .before .before .before .before .before .before .before .range .given .1) (then (c .before .before .before .before .before .before .ray-at .ensures) (c .before .before .ray-at2 .ensures))
+returns-2 c =
+    let c5 = c .before .before .before .before .before in
+    simp (c5 .before .before .before .before .range .given .1) (then (c5 .before .ray-at .ensures) (c .before .before .ray-at2 .ensures))
 
 pub ray-range-spec : {M : Type 1} → statement M
 ray-range-spec = tie.close (tie.spec enum-told enum-known-range ray-at-requires ray-at-requires-2 returns same-length returns-2)

@@ -8,15 +8,15 @@ use Rattle.sampling.proofs.rays.ray_roots.Tie as tie
 line-requires : tie.Need-line-requires
 line-requires c = search needs
 
-ask-requires : tie.Need-ask-requires
-ask-requires c = search needs
+defer-requires : tie.Need-defer-requires
+defer-requires c = search needs
 
 same-length : tie.Need-same-length
 same-length c = search needs
 
 returns : tie.Need-returns
 unfolding ray-roots ofBits
-returns c = simp (← c .before .before .before .before .line .ensures) (c .before .before .ask .ensures)
+returns c = simp (← c .before .before .before .before .line .ensures) (c .before .before .defer .ensures)
 
 pub ray-roots-spec : {M : Type 1} → statement M
-ray-roots-spec = tie.close (tie.spec line-requires ask-requires same-length returns)
+ray-roots-spec = tie.close (tie.spec line-requires defer-requires same-length returns)

@@ -36,15 +36,26 @@ returns : tie.Need-returns
 unfolding hold cut-count first-cuts second-cuts third-cuts free-plan free-cuts roots intervals ofBits
 returns c =
     let found = c .before .before .before .before .before .before .before .before .all-roots .ensures in
-    simp (← c .before .before .before .before .before .before .before .before .before .before .before .is-finite .ensures, c .before .before .before .before .before .before .before .before .before .before .if1 .taken, ← found .0, c .before .before .before .before .before .before .if2 .taken, ← found .1 .front, ← c .before .before .before .before .before .wrist-limit-intervals .ensures) (c .before .before .cut-intervals .ensures)
+    simp (
+      ← c .before .before .before .before .before .before .before .before .before .before .before .is-finite .ensures,
+      c .before .before .before .before .before .before .before .before .before .before .if1 .taken,
+      ← found .0,
+      c .before .before .before .before .before .before .if2 .taken,
+      ← found .1 .front,
+      ← c .before .before .before .before .before .wrist-limit-intervals .ensures,
+    ) (c .before .before .cut-intervals .ensures)
 
 returns-2 : tie.Need-returns-2
 unfolding hold
-returns-2 c = (simp (← c .before .before .before .before .before .is-finite .ensures, c .before .before .before .before .if1 .taken, ← c .before .before .all-roots .ensures .0, c .if2 .left), refl)
+returns-2 c =
+    let c5 = c .before .before .before .before .before in
+    (simp (← c5 .is-finite .ensures, c .before .before .before .before .if1 .taken, ← c .before .before .all-roots .ensures .0, c .if2 .left), refl)
 
 returns-3 : tie.Need-returns-3
 unfolding hold cut-count first-cuts second-cuts third-cuts free-plan free-cuts
-returns-3 c = simp (← c .before .is-finite .ensures, c .if1 .left) (all-three [] [] [] (length (c .before .before .before .args .work .now)) 0 0 0 refl refl refl (omega arith), refl)
+returns-3 c = simp (← c .before .is-finite .ensures, c .if1 .left)
+    (all-three [] [] [] (length (c .before .before .before .args .work .now)) 0 0 0 refl refl refl (omega arith), refl)
 
 pub cut-spec : {M : Type 1} → statement M
-cut-spec = tie.close (tie.spec is-finite-requires slice-aggregate-all-roots all-roots-requires wrist-limit-intervals-requires slice-aggregate-cut-intervals cut-intervals-requires same-length returns returns-2 returns-3)
+cut-spec = tie.close (tie.spec is-finite-requires slice-aggregate-all-roots all-roots-requires wrist-limit-intervals-requires
+    slice-aggregate-cut-intervals cut-intervals-requires same-length returns returns-2 returns-3)

@@ -57,7 +57,8 @@ module _ (c : tie.After-known-told2) where
   abbrev after : List Float
   after = replaced (m before) (then before) (c .before .before .before .before .before .interval-cuts2 .last .0)
 
-  two : Laid (of (start before) (start before .args .three .first) ++ of (start before) (start before .args .three .second)) (work (start before)) after (m before + n)
+  two : Laid (of (start before) (start before .args .three .first) ++ of (start before) (start before .args .three .second))
+      (work (start before)) after (m before + n)
   unfolding interval-cuts
   two = laid-next _ _ _ _ (one before) _ _ _ (c .before .before .before .before .before .interval-cuts2 .ensures) _ (c .before .second .given .1)
 
@@ -173,4 +174,7 @@ returns-4 c =
 pub cut-intervals-spec : {M : Type 1} → statement M
 cut-intervals-spec =
     tie.close
-    (tie.spec interval-cuts-requires enum-known-first enum-told same-length returns mul-interval-cuts sub-interval-cuts part-interval-cuts-start part-interval-cuts-end interval-cuts-requires-2 enum-known-second enum-told-2 same-length-2 returns-2 add-interval-cuts mul-interval-cuts-2 sub-interval-cuts-2 part-interval-cuts-start-2 part-interval-cuts-end-2 interval-cuts-requires-3 enum-known-third enum-told-3 same-length-3 returns-3 same-length-4 returns-4)
+    (tie.spec interval-cuts-requires enum-known-first enum-told same-length returns mul-interval-cuts sub-interval-cuts part-interval-cuts-start
+    part-interval-cuts-end interval-cuts-requires-2 enum-known-second enum-told-2 same-length-2 returns-2 add-interval-cuts mul-interval-cuts-2
+    sub-interval-cuts-2 part-interval-cuts-start-2 part-interval-cuts-end-2 interval-cuts-requires-3 enum-known-third enum-told-3 same-length-3
+    returns-3 same-length-4 returns-4)

@@ -24,7 +24,16 @@ sixth-of-requires c = search needs
 
 returns : tie.Need-returns
 unfolding free
-returns c = simp (← c .before .before .before .before .before .model-angle .ensures, ← c .before .before .before .before .free-limits .ensures, ← c .before .before .before .wrist-of .ensures, ← c .before .before .marks-of .ensures, ← c .before .marks-of2 .ensures, ← c .sixth-of .ensures)
+returns c =
+    let c5 = c .before .before .before .before .before in
+    simp (
+      ← c5 .model-angle .ensures,
+      ← c .before .before .before .before .free-limits .ensures,
+      ← c .before .before .before .wrist-of .ensures,
+      ← c .before .before .marks-of .ensures,
+      ← c .before .marks-of2 .ensures,
+      ← c .sixth-of .ensures,
+    )
 
 pub free-of-spec : {M : Type 1} → statement M
 free-of-spec = tie.close (tie.spec model-angle-requires free-limits-requires wrist-of-requires marks-of-requires marks-of-requires-2 sixth-of-requires returns)

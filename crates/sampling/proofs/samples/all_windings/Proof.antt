@@ -14,7 +14,8 @@ use Rattle.sampling.proofs.samples.all_windings.Statement.{statement}
 use Rattle.sampling.proofs.samples.all_windings.Tie as tie
 
 abbrev Inv-loop : tie.InvT-loop
-Inv-loop work₀ cuts lower upper roots n state₀ i₀ work state i = Grown (all-windings lower upper (take i roots)) work₀ (counted cuts work₀) work (counted state work) × (i ≤ n)
+Inv-loop work₀ cuts lower upper roots n state₀ i₀ work state i = Grown (all-windings lower upper (take i roots)) work₀ (counted cuts work₀) work
+    (counted state work) × (i ≤ n)
 
 abbrev μ-loop : tie.MeasureT-loop
 μ-loop work₀ cuts lower upper roots n state₀ i₀ work state i = n - i
@@ -44,7 +45,8 @@ loop-again c =
     let l = w .before .before .before .before in
     let a = l .before .before .before .args in
     let e = windings-more (a .lower) (a .upper) (a .roots .now) (l .loop .i) (search needs) in (
-      subst (λ (x : List Float). Grown x (a .work .now) (counted (a .cuts) (a .work .now)) (w .windings .last .0) (counted (w .windings .result) (w .windings .last .0))) e (then (l .loop .inv .0) (w .windings .ensures)),
+      subst (λ (x : List Float). Grown x (a .work .now) (counted (a .cuts) (a .work .now)) (w .windings .last .0)
+          (counted (w .windings .result) (w .windings .last .0))) e (then (l .loop .inv .0) (w .windings .ensures)),
       search needs,
     )
 
@@ -56,7 +58,8 @@ returns c =
     let l = c .before in
     let a = l .before .before .before .args in
     let e : l .loop .i ≡ a .n = omega (arith, l .loop .inv .1, c .loop-test .left) in
-    subst (λ (k : ℕ). Grown (all-windings (a .lower) (a .upper) (take k (a .roots .now))) (a .work .now) (counted (a .cuts) (a .work .now)) (l .loop .work) (counted (l .loop .state) (l .loop .work))) e (l .loop .inv .0)
+    subst (λ (k : ℕ). Grown (all-windings (a .lower) (a .upper) (take k (a .roots .now))) (a .work .now) (counted (a .cuts) (a .work .now))
+    (l .loop .work) (counted (l .loop .state) (l .loop .work))) e (l .loop .inv .0)
 
 pub all-windings-spec : {M : Type 1} → statement M
 all-windings-spec =

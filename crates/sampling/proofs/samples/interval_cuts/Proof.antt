@@ -35,7 +35,11 @@ returns-2 : tie.Need-returns-2
 unfolding interval-values
 returns-2 c =
     let a = c .before .before .before in
-    simp (a .before .before .before .before .before .before .before .before .before .before .before .range .given .1) (whole-counted (a .all-windings .result) (then (then (a .before .before .before .before .before .before .before .before .put-in .ensures) (a .before .before .before .before .put-in2 .ensures)) (a .all-windings .ensures)) (c .put-of .ensures))
+    simp (a .before .before .before .before .before .before .before .before .before .before .before .range .given .1)
+    (whole-counted (a .all-windings .result)
+    (then (then (a .before .before .before .before .before .before .before .before .put-in .ensures)
+    (a .before .before .before .before .put-in2 .ensures)) (a .all-windings .ensures)) (c .put-of .ensures))
 
 pub interval-cuts-spec : {M : Type 1} → statement M
-interval-cuts-spec = tie.close (tie.spec enum-told enum-known-range put-in-requires put-in-requires-2 all-windings-requires put-of-requires returns same-length returns-2)
+interval-cuts-spec = tie.close (tie.spec enum-told enum-known-range put-in-requires put-in-requires-2 all-windings-requires put-of-requires returns
+    same-length returns-2)

@@ -53,4 +53,5 @@ returns-3 c =
     c .between-at .ensures ∙ sym (sample-between (a .list .now) (a .i) (m / 3) (m % 3) (omega arith) (omega arith) (omega arith))
 
 pub sample-at-spec : {M : Type 1} → statement M
-sample-at-spec = tie.close (tie.spec mul-result shared-slice-read-result returns add-if2 returns-2 mul-lower shared-slice-read-lower add-upper mul-upper shared-slice-read-upper between-at-requires returns-3)
+sample-at-spec = tie.close (tie.spec mul-result shared-slice-read-result returns add-if2 returns-2 mul-lower shared-slice-read-lower add-upper
+    mul-upper shared-slice-read-upper between-at-requires returns-3)

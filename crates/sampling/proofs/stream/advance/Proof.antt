@@ -15,7 +15,7 @@ use Rattle.sampling.specs.Promises.Stream.{weave, least, advance}
 use Rattle.sampling.specs.Laws.Weave.{weave-length}
 use Rattle.sampling.specs.Laws.Heads.{number-index}
 use Rattle.sampling.specs.declared.stream.Step.{Step}
-use Rattle.sampling.proofs.stream.Turn.{first-none, first-some, second-none, second-some, third-none, third-some}
+use Rattle.sampling.proofs.stream.Steps.{first-none, first-some, second-none, second-some, third-none, third-some}
 use Rattle.sampling.proofs.stream.advance.Statement.{statement}
 use Rattle.sampling.proofs.stream.advance.Tie as tie
 
@@ -62,9 +62,9 @@ module _ (c : tie.Joined1) where
       ⊎-elim (λ w. w .2 ∙ w .1 .ensures ∙ ap (λ (b : Bool). cond b nan r) (sym (w .0 .taken)))
       (λ w. w .1 ∙ ap (λ (b : Bool). cond b nan r) (sym (w .0 .left))) (c .if1 .came)
 
-  told : (s : Step) → s ≡ least x y z (start .args .c) → s ≡ advance a b r (start .args .c)
+  least-is : (s : Step) → s ≡ least x y z (start .args .c) → s ≡ advance a b r (start .args .c)
   unfolding advance
-  told s e = e ∙ (λ k. least (ex k) (ey k) (ez k) (start .args .c))
+  least-is s e = e ∙ (λ k. least (ex k) (ey k) (ez k) (start .args .c))
 
 -- what the tests of the order say
 xy : (c : tie.Then2) → total-le (x (c .before .before)) (y (c .before .before)) ≡ true
@@ -96,8 +96,8 @@ woven-requires c κs = search needs
 woven-requires-2 : tie.Need-woven-requires-2
 woven-requires-2 c κs = search needs
 
-nothing-requires : tie.Need-nothing-requires
-nothing-requires c κs = search needs
+none-left-requires : tie.Need-none-left-requires
+none-left-requires c κs = search needs
 
 total-le-requires : tie.Need-total-le-requires
 total-le-requires c κs = search needs
@@ -108,7 +108,7 @@ total-le-requires-2 c κs = search needs
 returns : tie.Need-returns
 returns c =
     let d = c .before .before .before .before .before in
-    told d _ (first-none (x d) (y d) (z d) (start d .args .c) (xy (c .before .before .before)) (xz (c .before)) (c .if4 .taken))
+    least-is d _ (first-none (x d) (y d) (z d) (start d .args .c) (xy (c .before .before .before)) (xz (c .before)) (c .if4 .taken))
 
 add-to : tie.Need-add-to
 add-to c =
@@ -120,7 +120,7 @@ add-to c =
 returns-2 : tie.Need-returns-2
 returns-2 c =
     let d = c .before .before .before .before .before in
-    told d _ (first-some (x d) (y d) (z d) (start d .args .c) (xy (c .before .before .before)) (xz (c .before)) (c .if4 .left))
+    least-is d _ (first-some (x d) (y d) (z d) (start d .args .c) (xy (c .before .before .before)) (xz (c .before)) (c .if4 .left))
 
 total-le-requires-3 : tie.Need-total-le-requires-3
 total-le-requires-3 c κs = search needs
@@ -128,7 +128,7 @@ total-le-requires-3 c κs = search needs
 returns-3 : tie.Need-returns-3
 returns-3 c =
     let d = c .before .before .before .before .before in
-    told d _ (second-none (x d) (y d) (z d) (start d .args .c) (not-x (c .before .before .before)) (yz (c .before)) (c .if6 .taken))
+    least-is d _ (second-none (x d) (y d) (z d) (start d .args .c) (not-x (c .before .before .before)) (yz (c .before)) (c .if6 .taken))
 
 add-to-2 : tie.Need-add-to-2
 add-to-2 c =
@@ -140,17 +140,17 @@ add-to-2 c =
 returns-4 : tie.Need-returns-4
 returns-4 c =
     let d = c .before .before .before .before .before in
-    told d _ (second-some (x d) (y d) (z d) (start d .args .c) (not-x (c .before .before .before)) (yz (c .before)) (c .if6 .left))
+    least-is d _ (second-some (x d) (y d) (z d) (start d .args .c) (not-x (c .before .before .before)) (yz (c .before)) (c .if6 .left))
 
 returns-5 : tie.Need-returns-5
 returns-5 c =
     let d = c .before .before .before .before .before in
-    told d _ (third-none (x d) (y d) (z d) (start d .args .c) (not-x (c .before .before .before)) (zy (c .before)) (c .if7 .taken))
+    least-is d _ (third-none (x d) (y d) (z d) (start d .args .c) (not-x (c .before .before .before)) (zy (c .before)) (c .if7 .taken))
 
 returns-6 : tie.Need-returns-6
 returns-6 c =
     let d = c .before .before .before .before .before in
-    told d _ (third-some (x d) (y d) (z d) (start d .args .c) (not-x (c .before .before .before)) (zy (c .before)) (c .if7 .left))
+    least-is d _ (third-some (x d) (y d) (z d) (start d .args .c) (not-x (c .before .before .before)) (zy (c .before)) (c .if7 .left))
 
 pub advance-spec : {M : Type 1} → statement M
 advance-spec =
@@ -158,7 +158,7 @@ advance-spec =
     (tie.spec
     woven-requires
     woven-requires-2
-    nothing-requires
+    none-left-requires
     total-le-requires
     total-le-requires-2
     returns

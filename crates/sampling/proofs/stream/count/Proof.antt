@@ -13,7 +13,7 @@ use Rattle.sampling.specs.declared.stream.Step.{Step}
 use Rattle.sampling.specs.Promises.Stream.{distinct, start, Steps, next}
 use Rattle.sampling.specs.Laws.Step.{next-steps}
 use Rattle.sampling.specs.Laws.Slices.{distinct-few}
-use Rattle.sampling.proofs.stream.Turn.{turn-less}
+use Rattle.sampling.proofs.stream.Steps.{step-less}
 use Rattle.sampling.proofs.stream.count.Statement.{statement}
 use Rattle.sampling.proofs.stream.count.Tie as tie
 
@@ -52,7 +52,8 @@ start-requires c κs = tt
 loop-holds : tie.Need-loop-holds Inv-loop μ-loop
 loop-holds c =
     let p = c .before .before .before .args in
-    zero-add (length (distinct (p .a .now) (p .b .now) (p .r) (c .start .result))) ∙ ap (λ (z : Cursor). length (distinct (p .a .now) (p .b .now) (p .r) z)) (c .start .ensures)
+    zero-add (length (distinct (p .a .now) (p .b .now) (p .r) (c .start .result)))
+    ∙ ap (λ (z : Cursor). length (distinct (p .a .now) (p .b .now) (p .r) z)) (c .start .ensures)
 
 next-requires : tie.Need-next-requires Inv-loop μ-loop
 next-requires c κs = tt
@@ -84,7 +85,7 @@ add-n c =
     omega (arith, first v .good)
 
 loop-less : tie.Need-loop-less Inv-loop μ-loop
-loop-less c = let v = c .before in turn-less (y v) _ _ (came v)
+loop-less c = let v = c .before in step-less (y v) _ _ (came v)
 
 loop-again : tie.Need-loop-again Inv-loop μ-loop
 loop-again c =

@@ -1,4 +1,5 @@
--- `sampling::stream::next` meets its contract. The loop's invariant: from here on the definition gives what it gives at the start. The measure is how many values are left.
+-- `sampling::stream::next` meets its contract. The loop's invariant: from here on the definition
+-- gives what it gives at the start. The measure is how many values are left.
 use Prim.Native.Nat.{ℕ, suc}
 use native.Mathlib.Omega.{arith}
 use mathlib.Core.Path.{_≡_, refl, sym, ap, subst, _∙_}
@@ -10,7 +11,7 @@ use Rattle.sampling.specs.declared.stream.Step.{Step}
 use Rattle.sampling.specs.declared.stream.Step.the-variants.{Yield, Done}
 use Rattle.sampling.specs.Promises.Stream as Of
 use Rattle.sampling.specs.Laws.Step.{Drops, advance-drops}
-use Rattle.sampling.proofs.stream.Turn.{next-end, next-keep, next-skip}
+use Rattle.sampling.proofs.stream.Steps.{next-end, next-keep, next-skip}
 use Rattle.sampling.proofs.stream.next.Statement.{statement}
 use Rattle.sampling.proofs.stream.next.Tie as tie
 

@@ -7,11 +7,11 @@ use Rattle.sampling.specs.declared.stream.Cursor.{Cursor}
 use Rattle.sampling.proofs.stream.start.Statement.{statement}
 use Rattle.sampling.proofs.stream.start.Tie as tie
 
-nothing-requires : tie.Need-nothing-requires
-nothing-requires c = search needs
+none-left-requires : tie.Need-none-left-requires
+none-left-requires c = search needs
 
 returns : tie.Need-returns
-returns c = ap {B = Cursor} (λ (z : Float). record { i = 0; j = 0; used = false; last = z }) (c .nothing .ensures)
+returns c = ap {B = Cursor} (λ (z : Float). record { i = 0; j = 0; used = false; last = z }) (c .none-left .ensures)
 
 pub start-spec : {M : Type 1} → statement M
-start-spec = tie.close (tie.spec nothing-requires returns)
+start-spec = tie.close (tie.spec none-left-requires returns)

@@ -10,14 +10,14 @@ use Rattle.sampling.specs.Promises.Stream.{weave}
 use Rattle.sampling.proofs.stream.woven.Statement.{statement}
 use Rattle.sampling.proofs.stream.woven.Tie as tie
 
-nothing-requires : tie.Need-nothing-requires
-nothing-requires c κs = search needs
+none-left-requires : tie.Need-none-left-requires
+none-left-requires c κs = search needs
 
 returns : tie.Need-returns
 returns c =
     let a = c .before .before .before .args in
     let l = weave-length (a .list .now) in
-    c .nothing .ensures ∙ sym (List·getD-eq-default (weave (a .list .now)) nan {n = a .k} (omega (arith, c .before .if1 .taken)))
+    c .none-left .ensures ∙ sym (List·getD-eq-default (weave (a .list .now)) nan {n = a .k} (omega (arith, c .before .if1 .taken)))
 
 mul-x : tie.Need-mul-x
 mul-x c = search needs
@@ -31,13 +31,13 @@ returns-2 c = let a = c .before .before .before .before .args in sym (weave-even
 add-next : tie.Need-add-next
 add-next c = search needs
 
-nothing-requires-2 : tie.Need-nothing-requires-2
-nothing-requires-2 c κs = search needs
+none-left-requires-2 : tie.Need-none-left-requires-2
+none-left-requires-2 c κs = search needs
 
 returns-3 : tie.Need-returns-3
 returns-3 c =
     let a = c .before .before .before .before .before .before .args in
-    c .nothing2 .ensures ∙ sym (weave-past (a .list .now) (a .k) (a .k / 2) (omega arith) (omega arith))
+    c .none-left2 .ensures ∙ sym (weave-past (a .list .now) (a .k) (a .k / 2) (omega arith) (omega arith))
 
 mul-middle : tie.Need-mul-middle
 mul-middle c = search needs
@@ -57,13 +57,13 @@ pub woven-spec : {M : Type 1} → statement M
 woven-spec =
     tie.close
     (tie.spec
-    nothing-requires
+    none-left-requires
     returns
     mul-x
     shared-slice-read-x
     returns-2
     add-next
-    nothing-requires-2
+    none-left-requires-2
     returns-3
     mul-middle
     shared-slice-read-middle

@@ -10,7 +10,9 @@ enum-known-cuts : tie.Need-enum-known-cuts
 enum-known-cuts c = search needs
 
 returns : tie.Need-returns
-returns c = simp (c .before .before .cuts .given .1) (beyond _ _ _ (subst T (sym (c .before .before .before .before .before .good .1 .1 .0 .1)) tt) (search needs))
+returns c =
+    let c5 = c .before .before .before .before .before in
+    simp (c .before .before .cuts .given .1) (beyond _ _ _ (subst T (sym (c5 .good .1 .1 .0 .1)) tt) (search needs))
 
 insert-requires : tie.Need-insert-requires
 insert-requires c = search needs
@@ -22,7 +24,10 @@ same-length : tie.Need-same-length
 same-length c = search needs
 
 returns-2 : tie.Need-returns-2
-returns-2 c = simp (c .before .before .before .before .before .before .cuts .given .1) (one _ _ _ _ _ (subst T (sym (c .before .before .before .before .before .before .before .before .before .good .1 .1 .0 .1)) tt) (c .before .before .insert .kept .0) ((c .before .before .insert .ensures) .0) ((c .before .before .insert .ensures) .1))
+returns-2 c =
+    let c5 = c .before .before .before .before .before in
+    simp (c5 .before .cuts .given .1) (one _ _ _ _ _ (subst T (sym (c5 .before .before .before .before .good .1 .1 .0 .1)) tt)
+    (c .before .before .insert .kept .0) ((c .before .before .insert .ensures) .0) ((c .before .before .insert .ensures) .1))
 
 returns-3 : tie.Need-returns-3
 returns-3 c = simp (c .enum-told .given .1) (one _ _ _ _ _ (subst T (sym (c .before .before .before .good .1 .1 .0 .1)) tt) refl refl refl)

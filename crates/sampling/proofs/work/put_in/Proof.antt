@@ -30,7 +30,8 @@ returns-2 : tie.Need-returns-2
 returns-2 c =
     let i = c .before .before .before .before .before in
     let s = i .before .before .before .before in
-    one-put _ _ _ _ _ (subst T (sym (s .good .1 .1 .0 .1)) tt) (i .before .before .if1 .left) (i .insert .kept .0) (sym (c .before .answer .given .1) ∙ i .insert .ensures .0) (i .insert .ensures .1)
+    one-put _ _ _ _ _ (subst T (sym (s .good .1 .1 .0 .1)) tt) (i .before .before .if1 .left) (i .insert .kept .0)
+    (sym (c .before .answer .given .1) ∙ i .insert .ensures .0) (i .insert .ensures .1)
 
 same-length-2 : tie.Need-same-length-2
 same-length-2 c = search needs
@@ -39,7 +40,8 @@ returns-3 : tie.Need-returns-3
 returns-3 c =
     let i = c .before .before .before .before in
     let s = i .before .before .before .before in
-    one-full _ _ _ _ _ (subst T (sym (s .good .1 .1 .0 .1)) tt) (i .before .before .if1 .left) (i .insert .kept .0) refl (sym (c .enum-told .given .1) ∙ i .insert .ensures .0) (i .insert .ensures .1)
+    one-full _ _ _ _ _ (subst T (sym (s .good .1 .1 .0 .1)) tt) (i .before .before .if1 .left) (i .insert .kept .0) refl
+    (sym (c .enum-told .given .1) ∙ i .insert .ensures .0) (i .insert .ensures .1)
 
 pub put-in-spec : {M : Type 1} → statement M
 put-in-spec = tie.close (tie.spec returns insert-requires enum-known-answer enum-told add-result same-length returns-2 same-length-2 returns-3)

@@ -34,7 +34,20 @@ plus-requires-2 c = search needs
 
 returns : tie.Need-returns
 unfolding phase ofBits
-returns c = simp (← c .before .before .before .before .before .before .before .before .dot .ensures, ← c .before .before .before .before .before .before .before .scaled .ensures, ← c .before .before .before .before .before .before .dot2 .ensures, ← c .before .before .before .before .before .scaled2 .ensures, ← c .before .before .before .before .plus .ensures, ← c .before .before .before .dot3 .ensures, ← c .before .before .dot4 .ensures, ← c .before .scaled3 .ensures, ← c .plus2 .ensures)
+returns c =
+    let c5 = c .before .before .before .before .before in
+    simp (
+      ← c5 .before .before .before .dot .ensures,
+      ← c5 .before .before .scaled .ensures,
+      ← c5 .before .dot2 .ensures,
+      ← c5 .scaled2 .ensures,
+      ← c .before .before .before .before .plus .ensures,
+      ← c .before .before .before .dot3 .ensures,
+      ← c .before .before .dot4 .ensures,
+      ← c .before .scaled3 .ensures,
+      ← c .plus2 .ensures,
+    )
 
 pub phase-spec : {M : Type 1} → statement M
-phase-spec = tie.close (tie.spec dot-requires scaled-requires dot-requires-2 scaled-requires-2 plus-requires dot-requires-3 dot-requires-4 scaled-requires-3 plus-requires-2 returns)
+phase-spec = tie.close (tie.spec dot-requires scaled-requires dot-requires-2 scaled-requires-2 plus-requires dot-requires-3 dot-requires-4
+    scaled-requires-3 plus-requires-2 returns)

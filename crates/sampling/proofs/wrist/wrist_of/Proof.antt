@@ -31,7 +31,19 @@ phase-requires-2 c = search needs
 
 returns : tie.Need-returns
 unfolding wrist ofBits
-returns c = simp (← c .before .before .before .before .before .before .before .dot .ensures, ← c .before .before .before .before .before .before .dot2 .ensures, ← c .before .before .before .before .before .dot3 .ensures, ← c .before .before .before .before .scaled .ensures, ← c .before .before .before .dot4 .ensures, ← c .before .before .dot5 .ensures, ← c .before .phase .ensures, ← c .phase2 .ensures)
+returns c =
+    let c5 = c .before .before .before .before .before in
+    simp (
+      ← c5 .before .before .dot .ensures,
+      ← c5 .before .dot2 .ensures,
+      ← c5 .dot3 .ensures,
+      ← c .before .before .before .before .scaled .ensures,
+      ← c .before .before .before .dot4 .ensures,
+      ← c .before .before .dot5 .ensures,
+      ← c .before .phase .ensures,
+      ← c .phase2 .ensures,
+    )
 
 pub wrist-of-spec : {M : Type 1} → statement M
-wrist-of-spec = tie.close (tie.spec dot-requires dot-requires-2 dot-requires-3 scaled-requires dot-requires-4 dot-requires-5 phase-requires phase-requires-2 returns)
+wrist-of-spec = tie.close (tie.spec dot-requires dot-requires-2 dot-requires-3 scaled-requires dot-requires-4 dot-requires-5 phase-requires
+    phase-requires-2 returns)

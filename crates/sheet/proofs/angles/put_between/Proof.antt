@@ -9,7 +9,7 @@ use lib.Seq.{sets}
 use borrow.Author.Needs.{needs}
 use Rattle.sampling.specs.Samples.{all-between}
 use Rattle.sheet.specs.Promises.Floats.{floats-bytes}
-use Rattle.sheet.proofs.angles.Runs.{between-turn, between-end}
+use Rattle.sheet.proofs.angles.Runs.{between-step, between-end}
 use Rattle.sheet.proofs.angles.put_between.Statement.{statement}
 use Rattle.sheet.proofs.angles.put_between.Tie as tie
 
@@ -65,7 +65,7 @@ loop-again c =
       search needs,
       p .put-three .kept .0 ∙ l .loop .inv .1,
       ap (λ (o : List ℕ). sets o (a .at + 24 * (l .loop .i + 1)) (floats-bytes (all-between (drop (l .loop .i + 1) (a .list .now))))) (p .put-three .ensures)
-          ∙ between-turn (l .loop .output) (a .at) (l .loop .i) (a .list .now) (p .before .before .before .before .loop-test .taken)
+          ∙ between-step (l .loop .output) (a .at) (l .loop .i) (a .list .now) (p .before .before .before .before .loop-test .taken)
           ∙ l .loop .inv .2,
     )
 

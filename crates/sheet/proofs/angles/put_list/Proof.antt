@@ -9,7 +9,7 @@ use lib.Seq.{sets}
 use borrow.Author.Needs.{needs}
 use Rattle.sheet.specs.Promises.Floats.{floats-bytes}
 use Rattle.sheet.specs.Laws.Sampling.{floats-end}
-use Rattle.sheet.proofs.angles.Runs.{list-turn}
+use Rattle.sheet.proofs.angles.Runs.{list-step}
 use Rattle.sheet.proofs.angles.put_list.Statement.{statement}
 use Rattle.sheet.proofs.angles.put_list.Tie as tie
 
@@ -52,7 +52,7 @@ loop-again c =
       search needs,
       p .put-float .kept .0 ∙ l .loop .inv .1,
       ap (λ (o : List ℕ). sets o (a .at + 8 * (l .loop .i + 1)) (floats-bytes (drop (l .loop .i + 1) (a .list .now)))) (p .put-float .ensures)
-          ∙ list-turn (l .loop .output) (a .at) (l .loop .i) (a .list .now) (p .before .before .before .loop-test .taken)
+          ∙ list-step (l .loop .output) (a .at) (l .loop .i) (a .list .now) (p .before .before .before .loop-test .taken)
           ∙ l .loop .inv .2,
     )
 

@@ -51,7 +51,12 @@ put-part-requires-2 c κs =
       (
         omega (arith, s .pre .0),
         rw q
-            (omega (arith, room s, c .before .before .before .before .before .before .before .sample-count .ensures, c .before .before .before .put-part .kept .0)),
+            (omega (
+              arith,
+              room s,
+              c .before .before .before .before .before .before .before .sample-count .ensures,
+              c .before .before .before .put-part .kept .0,
+            )),
       ),
     )
 

@@ -18,7 +18,7 @@ Inv-loop out₀ at k v w₀ i₀ out w i =
 abbrev μ-loop : tie.MeasureT-loop
 μ-loop out₀ at k v w₀ i₀ out w i = k - i
 
--- a turn stores the first byte of those that are left
+-- a step stores the first byte of those that are left
 step : (out : List ℕ) (at k w i : ℕ) → i < k
     → sets (set out (at + i) (w % 256)) (at + (i + 1)) (bytes (k - (i + 1)) (w / 256)) ≡ sets out (at + i) (bytes (k - i) w)
 step out at k w i h =

@@ -5,7 +5,7 @@ use native.Mathlib.Nat.{add-zero, sub-zero}
 use mathlib.Core.Path.{_≡_, _∙_}
 use lib.ListN.{length, drop}
 use Rattle.sheet.specs.Bytes.{part, same-bytes}
-use Rattle.sheet.proofs.bytes.Same.{at-turn, at-stop, at-end}
+use Rattle.sheet.proofs.bytes.Same.{at-step, at-stop, at-end}
 use Rattle.sheet.proofs.bytes.same_at.Statement.{statement}
 use Rattle.sheet.proofs.bytes.same_at.Tie as tie
 
@@ -43,7 +43,7 @@ loop-again : tie.Need-loop-again Inv-loop μ-loop
 loop-again c =
     let b = c .before .before .before .before in
     let a = b .before in
-    (omega arith, at-turn (a .args .s .now) (a .args .t .now) (a .args .at) (b .loop .i) (a .pre) (omega arith) (c .if1 .left) ∙ b .loop .inv .1)
+    (omega arith, at-step (a .args .s .now) (a .args .t .now) (a .args .at) (b .loop .i) (a .pre) (omega arith) (c .if1 .left) ∙ b .loop .inv .1)
 
 returns-2 : tie.Need-returns-2 Inv-loop μ-loop
 returns-2 c =

@@ -64,7 +64,8 @@ returns-3 c =
     let p = length (a .work .now) in
     let n = c .before .before .before .before .before .before .before .before .count-of in
     let h = c .before .before .before .before .before .before .before .before .before .if1 .left in
-    let e = sym (c .before .before .before .before .before .before .before .formed .ensures) ∙ not-false _ (c .before .before .before .before .before .before .if2 .left) in
+    let c5 = c .before .before .before .before .before in
+    let e = sym (c5 .before .before .formed .ensures) ∙ not-false _ (c5 .before .if2 .left) in
     let r = c .before .before .check-request .ensures in
     let i = request-is s _ refl in (
       r .0 ∙ ap (λ (q : List ℕ). checked q (items-of s) (n .result) p) i ∙ ap (λ (m : ℕ). checked (request-of s) (items-of s) m p) (n .ensures .0)

@@ -13,7 +13,7 @@ use Rattle.sampling.specs.declared.stream.Cursor.{Cursor}
 use Rattle.sheet.specs.Bytes.{same-bytes}
 use Rattle.sheet.specs.Laws.Plan.{step-yields, step-done}
 use Rattle.sheet.specs.Promises.Floats.{floats-bytes}
-use Rattle.sheet.proofs.check.Floats.{float-short, float-turn, float-stop, float-end}
+use Rattle.sheet.proofs.check.Floats.{float-short, float-step, float-stop, float-end}
 use Rattle.sheet.proofs.check.same_angles.Statement.{statement}
 use Rattle.sheet.proofs.check.same_angles.Tie as tie
 
@@ -105,7 +105,7 @@ loop-again c =
     let v = c .before .before .before .before in
     let l = at v .loop in (
       omega (arith, c .before .before .if1 .left, l .inv .0),
-      float-turn (first v .args .s .now) (l .at) (y v) (left v (l .c)) (left v (d v)) (came v) (omega (arith, c .before .before .if1 .left, l .inv .0))
+      float-step (first v .args .s .now) (l .at) (y v) (left v (l .c)) (left v (d v)) (came v) (omega (arith, c .before .before .if1 .left, l .inv .0))
           (sym (c .before .same-float .ensures) ∙ not-false _ (c .if2 .left))
           ∙ l .inv .1,
     )

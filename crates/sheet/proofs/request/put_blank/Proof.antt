@@ -9,7 +9,7 @@ use lib.Seq.{sets}
 use borrow.Author.Needs.{needs}
 use Rattle.sheet.specs.declared.request.Shape.{Shape}
 use Rattle.sheet.specs.Request.{request-size, byte-read, blank-from}
-use Rattle.sheet.proofs.request.Turns.{put-turn, put-end, same-field}
+use Rattle.sheet.proofs.request.Steps.{put-step, put-end, same-field}
 use Rattle.sheet.proofs.request.put_blank.Statement.{statement}
 use Rattle.sheet.proofs.request.put_blank.Tie as tie
 
@@ -55,7 +55,7 @@ loop-again c =
     let k : b .loop .i < length (a .request .now) = omega arith in (
       omega arith,
       simp length-set (b .loop .inv .1),
-      put-turn (b .loop .out) (a .request .now) (a .at) (b .loop .i) (c .kept .result) (b .before .shape-of .result) k
+      put-step (b .loop .out) (a .request .now) (a .at) (b .loop .i) (c .kept .result) (b .before .shape-of .result) k
           (c .kept .ensures ∙ ap (λ (t : Bool). cond t (getD (a .request .now) (b .loop .i) 0) 0) (c .before .before .read-on .ensures))
           ∙ b .loop .inv .2,
       λ h m. c .before .before .read-on .ensures ∙ same-field (b .before .shape-of .result) (b .loop .i) (omega (arith, h)) m,

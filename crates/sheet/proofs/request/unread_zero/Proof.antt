@@ -8,7 +8,7 @@ use borrow.Author.Needs.{needs}
 use Rattle.sheet.specs.declared.request.Shape.{Shape}
 use Rattle.sheet.specs.Bytes.{same-bytes}
 use Rattle.sheet.specs.Request.{request-size, blank-from}
-use Rattle.sheet.proofs.request.Turns.{blank-turn, blank-stop, blank-end}
+use Rattle.sheet.proofs.request.Steps.{blank-step, blank-stop, blank-end}
 use Rattle.sheet.proofs.request.unread_zero.Statement.{statement}
 use Rattle.sheet.proofs.request.unread_zero.Tie as tie
 
@@ -59,7 +59,7 @@ loop-again c =
     let s = b .before .shape-of .result in
     let h : b .loop .i < length r = omega arith in
     let e = c .before .before .kept .ensures ∙ ap (λ (t : Bool). cond t (getD r (b .loop .i) 0) 0) (c .before .before .before .before .byte-read .ensures) in
-    (omega arith, blank-turn s r (b .loop .i) h (sym e ∙ c .if1 .left) ∙ b .loop .inv .1)
+    (omega arith, blank-step s r (b .loop .i) h (sym e ∙ c .if1 .left) ∙ b .loop .inv .1)
 
 returns-2 : tie.Need-returns-2 Inv-loop μ-loop
 returns-2 c =

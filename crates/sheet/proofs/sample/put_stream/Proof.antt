@@ -13,7 +13,7 @@ use Rattle.sampling.specs.Promises.Plan.{to-come}
 use Rattle.sampling.specs.declared.stream.Cursor.{Cursor}
 use Rattle.sheet.specs.Laws.Plan.{step-yields, step-done}
 use Rattle.sheet.specs.Promises.Floats.{floats-bytes}
-use Rattle.sheet.specs.Laws.Sampling.{floats-turn, floats-end}
+use Rattle.sheet.specs.Laws.Sampling.{floats-step, floats-end}
 use Rattle.sheet.proofs.sample.put_stream.Statement.{statement}
 use Rattle.sheet.proofs.sample.put_stream.Tie as tie
 
@@ -105,7 +105,7 @@ loop-again c =
     let n = c .before .before .put-float .kept .0 in (
       n ∙ l .inv .0,
       omega (arith, n),
-      ap (λ (o : List ℕ). sets o (l .at + 8) (floats-bytes (left v (v .s .given .0 .1 .0)))) (c .before .before .put-float .ensures) ∙ floats-turn (l .output)
+      ap (λ (o : List ℕ). sets o (l .at + 8) (floats-bytes (left v (v .s .given .0 .1 .0)))) (c .before .before .put-float .ensures) ∙ floats-step (l .output)
           (l .at) (y v) (left v (l .c)) _ (came v) ∙ l .inv .2,
     )
 

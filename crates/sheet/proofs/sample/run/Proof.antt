@@ -28,7 +28,8 @@ finish-requires c =
     λ κs. (
       g .whole,
       planned-for _ g (p .result)
-          (c .before .before .before .before .before .before .before .before .before .before .before .before .before .args .work .now) (p .last .0) (p .ensures .0)
+          (c .before .before .before .before .before .before .before .before .before .before .before .before .before .args .work .now) (p .last .0)
+          (p .ensures .0)
           (p .ensures .1) (p .kept .0),
     )
 

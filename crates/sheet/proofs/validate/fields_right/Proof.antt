@@ -6,7 +6,7 @@ use borrow.Author.Tests.{not-true, not-false}
 use borrow.Author.Needs.{needs}
 use Rattle.sheet.specs.declared.request.Shape.{Shape}
 use Rattle.sheet.specs.Validate.{all-from, field-right}
-use Rattle.sheet.proofs.validate.Turns.{all-turn, all-stop, all-end}
+use Rattle.sheet.proofs.validate.Steps.{all-step, all-stop, all-end}
 use Rattle.sheet.proofs.validate.fields_right.Statement.{statement}
 use Rattle.sheet.proofs.validate.fields_right.Tie as tie
 
@@ -50,7 +50,7 @@ loop-again c =
     let s = b .before .shape-of .result in (
       omega arith,
       omega arith,
-      all-turn (field-right s (a .f) (a .request .now)) _ _ _ _ (omega arith) (omega arith)
+      all-step (field-right s (a .f) (a .request .now)) _ _ _ _ (omega arith) (omega arith)
           (sym (c .before .field-right .ensures) ∙ not-false _ (c .if1 .left)) ∙ b .loop .inv .2,
     )
 

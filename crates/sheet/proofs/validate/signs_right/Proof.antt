@@ -6,7 +6,7 @@ use borrow.Author.Tests.{not-true, not-false}
 use borrow.Author.Needs.{needs}
 use Rattle.sheet.specs.declared.request.Shape.{Shape}
 use Rattle.sheet.specs.Validate.{all-from, sign-right, signs-right}
-use Rattle.sheet.proofs.validate.Turns.{all-turn, all-stop, all-end}
+use Rattle.sheet.proofs.validate.Steps.{all-step, all-stop, all-end}
 use Rattle.sheet.proofs.validate.signs_right.Statement.{statement}
 use Rattle.sheet.proofs.validate.signs_right.Tie as tie
 
@@ -47,7 +47,7 @@ loop-again c =
     let s = b .before .shape-of .result in (
       omega arith,
       omega arith,
-      all-turn (sign-right s r) _ _ _ _ (omega arith) (omega arith) (sym (c .before .sign-right .ensures) ∙ not-false _ (c .if1 .left)) ∙ b .loop .inv .2,
+      all-step (sign-right s r) _ _ _ _ (omega arith) (omega arith) (sym (c .before .sign-right .ensures) ∙ not-false _ (c .if1 .left)) ∙ b .loop .inv .2,
     )
 
 returns-2 : tie.Need-returns-2 Inv-loop μ-loop

@@ -5,7 +5,7 @@ use native.Mathlib.Nat.{add-zero, sub-zero}
 use mathlib.Core.Path.{_≡_, sym, _∙_}
 use borrow.Author.Tests.{eq-eqb, ne-eqb}
 use Rattle.sheet.specs.Validate.{all-from, zero-at}
-use Rattle.sheet.proofs.validate.Turns.{all-turn, all-stop, all-end}
+use Rattle.sheet.proofs.validate.Steps.{all-step, all-stop, all-end}
 use Rattle.sheet.proofs.validate.zeros_from.Statement.{statement}
 use Rattle.sheet.proofs.validate.zeros_from.Tie as tie
 
@@ -42,7 +42,7 @@ loop-again c =
     let b = c .before .before .before in
     let a = b .before .before .args in (
       omega arith,
-      all-turn (zero-at (a .request .now)) _ _ _ _ (omega arith) (omega arith) (eq-eqb _ _ (sym (c .before .byte-at .ensures) ∙ c .if1 .left)) ∙
+      all-step (zero-at (a .request .now)) _ _ _ _ (omega arith) (omega arith) (eq-eqb _ _ (sym (c .before .byte-at .ensures) ∙ c .if1 .left)) ∙
           b .loop .inv .1,
     )
 

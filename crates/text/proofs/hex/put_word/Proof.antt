@@ -16,7 +16,7 @@ Inv-loop out₀ w left₀ i₀ out left i =
 abbrev μ-loop : tie.MeasureT-loop
 μ-loop out₀ w left₀ i₀ out left i = i
 
--- a turn stores the last digit of those that are left
+-- a step stores the last digit of those that are left
 step : (out : List ℕ) (m w v : ℕ) → m < length out → v ≡ letter (w % 16)
     → spelled m (w / 16) ++ drop m (set out m v) ≡ spelled (suc m) w ++ drop (suc m) out
 unfolding spelled
@@ -50,8 +50,12 @@ loop-again : tie.Need-loop-again Inv-loop μ-loop
 loop-again c =
     let b = c .before .before in
     let h : b .loop .i - 1 < length (b .loop .out) = omega (arith, b .loop .inv .1) in
-    let f : b .loop .i ≡ suc (b .loop .i - 1) = omega arith in
-    (omega arith, simp length-set (b .loop .inv .1), step (b .loop .out) (b .loop .i - 1) (b .loop .left) (c .letter .result) h (c .letter .ensures) ∙ rw (sym f) (b .loop .inv .2))
+    let f : b .loop .i ≡ suc (b .loop .i - 1) = omega arith in (
+      omega arith,
+      simp length-set (b .loop .inv .1),
+      step (b .loop .out) (b .loop .i - 1) (b .loop .left) (c .letter .result) h (c .letter .ensures)
+          ∙ rw (sym f) (b .loop .inv .2),
+    )
 
 same-length : tie.Need-same-length Inv-loop μ-loop
 same-length c = c .before .loop .inv .1

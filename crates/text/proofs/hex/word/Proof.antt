@@ -39,7 +39,13 @@ add-w : tie.Need-add-w Inv-loop μ-loop
 add-w c =
     let p = c .before .before .before in
     let q = p .before .before in
-    omega (arith, p .loop .inv .1, c .digit .ensures, more-fits (q .args .s .now) (q .args .at) (p .loop .i) (getD (q .args .s .now) (q .args .at + p .loop .i) 0) (omega arith))
+    omega (
+      arith,
+      p .loop .inv .1,
+      c .digit .ensures,
+      more-fits (q .args .s .now) (q .args .at) (p .loop .i)
+          (getD (q .args .s .now) (q .args .at + p .loop .i) 0) (omega arith),
+    )
 
 add-i : tie.Need-add-i Inv-loop μ-loop
 add-i c = search needs

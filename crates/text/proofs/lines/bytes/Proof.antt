@@ -17,7 +17,7 @@ Inv-loop s at k n out₀ i₀ out i = (i ≤ n) × (length out ≡ length out₀
 abbrev μ-loop : tie.MeasureT-loop
 μ-loop s at k n out₀ i₀ out i = n - i
 
--- a turn stores the first byte of those that are left
+-- a step stores the first byte of those that are left
 step : (out s : List ℕ) (at n i v : ℕ) → i < n → v ≡ value s (at + 17 * (i / 8) + 2 * (i % 8)) 2
     → sets (set out i v) (i + 1) (bytes s at (i + 1) (n - (i + 1))) ≡ sets out i (bytes s at i (n - i))
 unfolding bytes

@@ -17,7 +17,7 @@ Inv-loop s h₀ i₀ h i = (i ≤ length s) × (digest-from h (drop i s) ≡ dig
 abbrev μ-loop : tie.MeasureT-loop
 μ-loop s h₀ i₀ h i = length s - i
 
--- a turn takes the first byte of those that are left
+-- a step takes the first byte of those that are left
 step : (s : List ℕ) (i h b k : ℕ) → i < length s → b ≡ getD s i 0 → k ≡ times-prime (bitXor h b)
     → digest-from k (drop (i + 1) s) ≡ digest-from h (drop i s)
 unfolding digest-from

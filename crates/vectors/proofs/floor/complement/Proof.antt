@@ -14,16 +14,16 @@ use Rattle.vectors.proofs.floor.complement.Statement.{statement}
 use Rattle.vectors.proofs.floor.complement.Tie as tie
 
 -- -1 - z, for a z below 0
-turned : (k : ℕ) → negsuc 0 -ℤ negsuc k ≡ pos k
-turned k = let e : suc k - 1 ≡ k = omega arith in let l : 1 ≤ suc k = omega arith in rw (le-ltb (suc k) 1 l, e)
+complemented : (k : ℕ) → negsuc 0 -ℤ negsuc k ≡ pos k
+complemented k = let e : suc k - 1 ≡ k = omega arith in let l : 1 ≤ suc k = omega arith in rw (le-ltb (suc k) 1 l, e)
 
 above : (z : ℤ) → ltZ z (pos 0) ≡ true → T (nonNeg (negsuc 0 -ℤ z))
 above (pos n) h = absurd (let l : n < 0 = ltb-true n 0 h in omega arith)
-above (negsuc k) h = rw (turned k) tt
+above (negsuc k) h = rw (complemented k) tt
 
 fitted : (z : ℤ) → SFits w64 z → ltZ z (pos 0) ≡ true → SFits w64 (negsuc 0 -ℤ z)
 fitted (pos n) f h = absurd (let l : n < 0 = ltb-true n 0 h in omega arith)
-fitted (negsuc k) f h = rw (turned k) (record { sfits = f .sfits })
+fitted (negsuc k) f h = rw (complemented k) (record { sfits = f .sfits })
 
 from-zero : (z : ℤ) → ltZ z (pos 0) ≡ false → T (nonNeg z)
 from-zero (pos n) h = tt

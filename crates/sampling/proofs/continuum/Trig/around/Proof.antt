@@ -18,7 +18,14 @@ wrapped-angle-requires-2 c = search needs
 
 returns : tie.Need-returns
 unfolding around
-returns c = simp (← c .before .before .before .before .before .clamp .ensures, ← c .before .before .before .before .acos .ensures, ← c .before .before .wrapped-angle .ensures, ← c .wrapped-angle2 .ensures)
+returns c =
+    let c5 = c .before .before .before .before .before in
+    simp (
+      ← c5 .clamp .ensures,
+      ← c .before .before .before .before .acos .ensures,
+      ← c .before .before .wrapped-angle .ensures,
+      ← c .wrapped-angle2 .ensures,
+    )
 
 pub around-spec : {M : Type 1} → statement M
 around-spec = tie.close (tie.spec clamp-requires acos-requires wrapped-angle-requires wrapped-angle-requires-2 returns)

@@ -12,10 +12,12 @@ around-requires : tie.Need-around-requires
 around-requires c = search needs
 
 returns : tie.Need-returns
-returns c = (c .around .ensures) ∙ met (c .before .before .before .args .self) (c .before .before .before .args .target) (c .before .before .before .args .polar) _ (search needs) (c .before .before .meets .ensures) (c .before .if1 .taken)
+returns c = (c .around .ensures) ∙ met (c .before .before .before .args .self) (c .before .before .before .args .target)
+    (c .before .before .before .args .polar) _ (search needs) (c .before .before .meets .ensures) (c .before .if1 .taken)
 
 returns-2 : tie.Need-returns-2
-returns-2 c = missed (c .before .before .args .self) (c .before .before .args .target) (c .before .before .args .polar) _ (search needs) (c .before .meets .ensures) (c .if1 .left)
+returns-2 c = missed (c .before .before .args .self) (c .before .before .args .target) (c .before .before .args .polar) _ (search needs)
+    (c .before .meets .ensures) (c .if1 .left)
 
 pub crossings-by-spec : {M : Type 1} → statement M
 crossings-by-spec = tie.close (tie.spec meets-requires around-requires returns returns-2)

@@ -25,7 +25,8 @@ unfolding meets ofBits
 returns c =
     let e = c .before .before .before in
     let radius = e .before .before .args .radius in
-    λ i. ((c .before .before .is-finite .ensures i && c .before .is-finite2 .ensures i) && not (eq radius zero-float)) && not (lt (radius ⊕ e .error .ensures i) (c .abs .ensures i))
+    λ i. ((c .before .before .is-finite .ensures i && c .before .is-finite2 .ensures i) && not (eq radius zero-float)) && not
+    (lt (radius ⊕ e .error .ensures i) (c .abs .ensures i))
 
 pub meets-spec : {M : Type 1} → statement M
 meets-spec = tie.close (tie.spec error-requires is-finite-requires is-finite-requires-2 abs-requires returns)

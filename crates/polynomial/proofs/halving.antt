@@ -1,2 +1,0 @@
--- What the proofs of the halving share.
-mod Turns

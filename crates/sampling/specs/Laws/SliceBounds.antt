@@ -1,0 +1,156 @@
+-- Where the ends of a half are in order and lie within ±8, as those of a joint's interval do, all its values lie within ±64, so that its cuts can be streamed.
+use mathlib.Core.Path.{_≡_, refl}
+use mathlib.Core.Bool.{Bool, true, false, _&&_, cond}
+use mathlib.Core.List.{List, [], _∷_, _++_, flatMap}
+use lib.IntN.{pos}
+use lib.Dec.{T, leb, lit<}
+use lib.ListN.{length}
+use lib.Ieee.{Float, fin, binary64, neg, le, fits}
+use lib.Ieee.Scale.{finite}
+use lib.Ieee.Fits.{div-fits, and-i}
+use Rattle.float.specs.Laws.Tests.{three}
+use Rattle.float.specs.Number.{_⊕_, _⊖_, _⊗_, _⊘_, middle, zero-float, one-float, two-float}
+use Rattle.float.specs.Trig.{sin, cos, tan}
+use Rattle.float.specs.Promises.Order.{Within}
+use Rattle.float.specs.Laws.Within.{weaken, numeral, add-within, mul-within, within→Le, Le→within}
+use Rattle.float.specs.Laws.Interval.{in-of, Le-trans}
+use Rattle.float.specs.Promises.Order.{Span}
+use Rattle.float.specs.Laws.Middle.{middle-within, left-half, right-half}
+use Rattle.float.specs.Laws.Arctangent.{atan-within}
+use Rattle.polynomial.specs.Angle.{two-pi}
+use Rattle.polynomial.specs.Curve.{inner-holds, all-hold}
+use Rattle.polynomial.specs.Operation.{bounds-hold}
+use Rattle.polynomial.specs.Roots.{roots}
+use Rattle.polynomial.specs.Laws.Bounds.{bounds-span}
+use Rattle.polynomial.specs.Laws.Enclosed.{all-in, between-number}
+use Rattle.polynomial.specs.Laws.Bisection.{Between}
+use Rattle.polynomial.specs.declared.compensated.Compensated.{Compensated}
+use Rattle.polynomial.specs.declared.curve.Curve.{Curve}
+use Rattle.polynomial.specs.Promises.Lists.{All}
+use Rattle.polynomial.specs.Laws.Lists.{all-append}
+use Rattle.sampling.specs.Samples.{inside, copies, all-copies}
+use Rattle.sampling.specs.CriticalSlices.{chart, angles, chart-roots, calls, critical}
+use Rattle.sampling.specs.Promises.Halves.{half-values}
+use Rattle.sampling.specs.J1j2free.{curves, bends, half-cuts, first-half, second-half}
+use Rattle.sampling.specs.Promises.Stream.{Woven}
+use Rattle.sampling.specs.Laws.J1j2free.{half-fit, half-cuts-are}
+use Rattle.sampling.specs.Laws.Limits.{Ends}
+use Rattle.sampling.specs.Laws.Woven.{Small, cuts-woven}
+use Rattle.sampling.specs.declared.critical_slices.Chart.{Chart}
+use Rattle.sampling.specs.declared.j1j2free.Folded.{Folded}
+
+abbrev eight : Float
+eight = fin false 1 (pos 3)
+
+ends-span : {lower upper : Float} → Ends lower upper → Span 3 lower upper
+ends-span e = record {
+  room = lit< tt;
+  lo-fits = e .lower-fits;
+  hi-fits = e .upper-fits;
+  lo-within = weaken eight tt (e .lower-within);
+  hi-within = weaken eight tt (e .upper-within);
+  order = e .order;
+}
+
+-- ---- what the curves give
+
+-- a chart whose bounds fit and whose origin lies within ±8
+record Charted (c : Chart) : Type 0 where
+  origin-within : Within eight (c .origin)
+  lower-fits : T (fits binary64 (c .lower))
+  upper-fits : T (fits binary64 (c .upper))
+
+tan-fits : (x : Float) → T (fits binary64 (tan x))
+unfolding tan
+tan-fits x = div-fits binary64 (sin x) (cos x)
+
+charted : (lower upper : Float) → Span 3 lower upper → Charted (chart lower upper)
+unfolding chart
+charted lower upper s =
+    let origin = middle lower upper in
+    record { origin-within = middle-within s; lower-fits = tan-fits ((lower ⊖ origin) ⊘ two-float); upper-fits = tan-fits ((upper ⊖ origin) ⊘ two-float) }
+
+inner-bounds : (p : List Compensated) (lower upper : Float) → inner-holds p lower upper ≡ true → bounds-hold lower upper ≡ true
+unfolding inner-holds
+inner-bounds p lower upper e = three (bounds-hold lower upper) (all-hold p) (leb (length (roots p lower upper)) 509) e .0
+
+angles-small : (origin lower upper : Float) → Within eight origin → (l : List Float) → All (Between lower upper) l → All Small (angles origin l)
+unfolding angles
+angles-small origin lower upper o [] h = tt
+angles-small origin lower upper o (u ∷ l) h =
+    let a = mul-within binary64 eight tt (numeral two-float two-float tt) (atan-within u (between-number (h .0))) in
+    (add-within binary64 (fin false 1 (pos 6)) tt o a, angles-small origin lower upper o l (h .1))
+
+module _ (c : Chart) (g : Charted c) where
+  chart-roots-small : (p : List Compensated) → All Small (chart-roots c p)
+  unfolding chart-roots
+  chart-roots-small p = go (inner-holds p (c .lower) (c .upper)) refl
+    where
+      go : (b : Bool) → inner-holds p (c .lower) (c .upper) ≡ b → All Small (cond b (angles (c .origin) (roots p (c .lower) (c .upper))) [])
+      go true e =
+          let s = bounds-span (c .lower) (c .upper) (g .lower-fits) (g .upper-fits) (inner-bounds p (c .lower) (c .upper) e) in
+          angles-small (c .origin) (c .lower) (c .upper) (g .origin-within) (roots p (c .lower) (c .upper)) (all-in (c .lower) (c .upper) s p)
+      go false e = tt
+
+  calls-small : (ps : List (List Compensated)) → All Small (flatMap (chart-roots c) ps)
+  unfolding flatMap
+  calls-small [] = tt
+  calls-small (p ∷ ps) = all-append Small (chart-roots c p) (flatMap (chart-roots c) ps) (chart-roots-small p) (calls-small ps)
+
+  critical-small : (l : List Curve) → All Small (critical c l)
+  unfolding critical
+  critical-small l = calls-small (calls (c .origin) l)
+
+-- ---- copies
+
+module _ (lower upper : Float) (s : Span 3 lower upper) where
+  between-small : (x : Float) → T (le lower x) → T (le x upper) → Small x
+  between-small x a b =
+      let i = in-of lower upper x (and-i (finite lower) (finite upper) (s .lo-within .real) (s .hi-within .real)) a b in
+      let w : Within eight x = Le→within tt (Le-trans (i .upper) (within→Le tt tt (s .hi-within) .0))
+      (Le-trans (within→Le tt tt (s .lo-within) .1) (i .lower)) in
+      weaken (fin false 1 (pos 6)) tt w
+
+  inside-small : (x : Float) → All Small (inside lower upper x)
+  unfolding inside
+  inside-small x = go (le lower x) (le x upper) (between-small x)
+    where
+      go : (a b : Bool) → (T a → T b → Small x) → All Small (cond (a && b) (x ∷ []) [])
+      go true true f = (f tt tt, tt)
+      go true false f = tt
+      go false b f = tt
+
+  copies-small : (angle : Float) → All Small (copies lower upper angle)
+  unfolding copies
+  copies-small angle =
+      let at : Float → List Float = λ w. inside lower upper (angle ⊕ w ⊗ two-pi) in
+      let small : (w : Float) → All Small (at w) = λ w. inside-small (angle ⊕ w ⊗ two-pi) in
+      all-append Small (at (neg one-float) ++ at zero-float) (at one-float)
+      (all-append Small (at (neg one-float)) (at zero-float) (small (neg one-float)) (small zero-float)) (small one-float)
+
+  all-copies-small : (l : List Float) → All Small (all-copies lower upper l)
+  unfolding all-copies
+  all-copies-small [] = tt
+  all-copies-small (a ∷ l) = all-append Small (copies lower upper a) (all-copies lower upper l) (copies-small a) (all-copies-small l)
+
+  -- ---- a half
+
+  module _ (t : Folded) where
+    half-small : All Small (half-values (curves t) (bends t) lower upper)
+    half-small =
+        let ends = lower ∷ [] ++ upper ∷ [] in
+        let c = critical (chart lower upper) (curves t) in
+        let small : All Small ends = (weaken (fin false 1 (pos 6)) tt (s .lo-within), (weaken (fin false 1 (pos 6)) tt (s .hi-within), tt)) in
+        all-append Small (ends ++ c) (all-copies lower upper (bends t))
+        (all-append Small ends c small (critical-small (chart lower upper) (charted lower upper s) (curves t))) (all-copies-small (bends t))
+
+    pub half-woven : Woven (half-cuts t lower upper)
+    half-woven = rw (half-cuts-are t lower upper (s .lo-fits) (s .hi-fits))
+        (cuts-woven (half-values (curves t) (bends t) lower upper) (half-fit t lower upper (s .lo-fits) (s .hi-fits)) half-small)
+
+-- The cuts of both halves of a joint's interval can be streamed.
+pub halves-woven : (t : Folded) {lower upper : Float} → Ends lower upper → Woven (first-half t lower upper) × Woven (second-half t lower upper)
+unfolding first-half second-half
+halves-woven t {lower} {upper} e =
+    let s = ends-span e in
+    (half-woven lower (middle lower upper) (left-half s) t, half-woven (middle lower upper) upper (right-half s) t)
