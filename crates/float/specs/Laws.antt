@@ -2,11 +2,12 @@
 -- Negation: `Sign` (minus goes through each operation), `Like` (equal as numbers; `Opp`, opposite), `MulAdd` (the same of the fused product).
 -- Order: `Total` (the order of `total_cmp` is total, transitive and antisymmetric up to bits),
 -- `Tests` (the code's tests), `Le` (one linear inequality; rounding is monotone).
--- Ranges: `Within` and `Beyond` (bounds by closed tests), `Interval` (with signs), `Range` (from the code's tests), `Zero` (what is zero, what
+-- Ranges: `Within` and `Beyond` (bounds by closed tests), `Remainder` (within its divisor),
+-- `Interval` (with signs), `Range` (from the code's tests), `Zero` (what is zero, what
 -- is finite), `Extremes` (the largest value), `Literals` (constants of the code), `Operand` (an operand in its halves).
 -- Exactness: `Units` (values as whole numbers of units, and their order), `Near` (half a unit),
 -- `Whole` (the counts of units as functions), `Close` (errors of rounding, in units).
--- Halving: `Middle` (the middle of an interval lies in it, and each half is narrower), `Between` (it stands between the ends in the order of `total_cmp`).
+-- Bisection: `Middle` (the middle of an interval lies in it, and each half is narrower), `Between` (it stands between the ends in the order of `total_cmp`).
 -- Roots: `Grow` (what is not negative: squares, sums that do not go down), `Root` (bounds through the square root; normalized parts are within 2).
 -- Module 2: `Floor`, `Reduce` (the whole number of quarter turns and the reduced argument), `Sine`, `Trigonometry`, `Arctangent` (bounds on the results).
 pub mod Sign
@@ -16,6 +17,7 @@ pub mod Total
 pub mod Tests
 pub mod Le
 pub mod Within
+pub mod Remainder
 pub mod Interval
 pub mod Range
 pub mod Zero

@@ -36,7 +36,7 @@ two-float = fin false 1 (pos 1)
 abbrev pub end-float : Float
 end-float = fin false 1 (pos 63)
 
--- Magnitude.
+-- The magnitude: of -0.0 it is +0.0, and a NaN stays one.
 unfoldable pub abs : Float → Float
 abs nan = nan
 abs (inf s) = inf false

@@ -31,7 +31,9 @@ pub extern "C" fn polynomial_roots(
     result: &mut [f64],
 ) -> i64
     ensures { λ r. ⌜ r ≡ Operation.number (Operation.answer (now (coefficients .entry)) lower upper (length (now (result .entry)))) ⌝ }
-    ensures { λ _. ⌜ now (result .exit) ≡ Operation.filled (Operation.answer (now (coefficients .entry)) lower upper (length (now (result .entry)))) (Roots.roots (Operation.pairs (now (coefficients .entry))) lower upper) (now (result .entry)) ⌝ }
+    ensures { λ _. ⌜ now (result .exit) ≡
+        Operation.filled (Operation.answer (now (coefficients .entry)) lower upper (length (now (result .entry))))
+        (Roots.roots (Operation.pairs (now (coefficients .entry))) lower upper) (now (result .entry)) ⌝ }
 {
     number(polynomial::operation::roots(coefficients, lower, upper, result))
 }

@@ -39,7 +39,9 @@ fn checked_number(a: Checked) -> i64
 #[no_mangle]
 pub extern "C" fn sheet_sample(request: &[u8], work: &mut [f64], output: &mut [u8]) -> i64
     ensures { λ r. ⌜ r ≡ Refusals.signed (Sampling.answer (now (request .entry)) (length (now (work .entry))) (length (now (output .entry)))) ⌝ }
-    ensures { λ _. ⌜ now (output .exit) ≡ Sampling.output-after (Sampling.answer (now (request .entry)) (length (now (work .entry))) (length (now (output .entry)))) (now (request .entry)) (now (output .entry)) ⌝ }
+    ensures { λ _. ⌜ now (output .exit) ≡
+        Sampling.output-after (Sampling.answer (now (request .entry)) (length (now (work .entry))) (length (now (output .entry))))
+        (now (request .entry)) (now (output .entry)) ⌝ }
     ensures { λ _. ⌜ now (work .exit) ≡ Bytes.zeros (length (now (work .entry))) ⌝ }
 {
     let a = sample(request, work, output);

@@ -58,7 +58,8 @@ pub(crate) fn numerator(h: Harmonic, origin: f64) -> [Compensated; 9]
 impl Curve {
     // The J1 harmonics as polynomial numerators around the origin.
     pub fn polynomials(self, origin: f64) -> Numerators
-        ensures { λ r. ⌜ (r .a ≡ nine (Of.numerator (Of.harmonic-a self) origin)) × (r .b ≡ nine (Of.numerator (Of.harmonic-b self) origin)) × (r .c ≡ nine (Of.numerator (Of.harmonic-c self) origin)) ⌝ }
+        ensures { λ r. ⌜ (r .a ≡ nine (Of.numerator (Of.harmonic-a self) origin)) ×
+            (r .b ≡ nine (Of.numerator (Of.harmonic-b self) origin)) × (r .c ≡ nine (Of.numerator (Of.harmonic-c self) origin)) ⌝ }
     {
         let a = numerator(
             Harmonic {

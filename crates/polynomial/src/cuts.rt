@@ -9,7 +9,7 @@ ghost use Rattle.float.specs.Number as Number;
 ghost use Rattle.polynomial.specs.Promises.Insert.{passed, putAnswer, putRoom, Found};
 use float::number::is_sign_positive;
 
-// The sign's bit.
+// Whether the sign's bit is set, of a zero as well.
 fn negative(x: f64) -> bool
     ensures { λ r. ⌜ r ≡ Number.negative x ⌝ }
 {

@@ -21,7 +21,8 @@ use float::trig::P;
 fn chart(found: &[f64], count: usize, origin: f64, out: &mut [f64], k: usize) -> usize
     requires { ⌜ (count ≤ length (now found)) × (k + count ≤ length (now out)) ⌝ }
     ensures { λ r. ⌜ r ≡ length (put-all (Of.chart-angles origin (take count (now (found .entry)))) (take k (now (out .entry)))) ⌝ }
-    ensures { λ r. ⌜ now (out .exit) ≡ put-all (Of.chart-angles origin (take count (now (found .entry)))) (take k (now (out .entry))) ++ drop r (now (out .entry)) ⌝ }
+    ensures { λ r. ⌜ now (out .exit) ≡ put-all (Of.chart-angles origin (take count (now (found .entry)))) (take k (now (out .entry)))
+        ++ drop r (now (out .entry)) ⌝ }
 {
     let mut n = k;
     let mut i = 0;

@@ -77,7 +77,8 @@ fn quotient(a: Compensated, b: Compensated, lower: f64, upper: f64, out: &mut [f
 fn touch(p: [Compensated; 9], n: usize, x: f64, v: f64, out: &mut [f64], k: usize) -> usize
     requires { ⌜ (n ≤ 9) × (k < length (now out)) ⌝ }
     ensures { λ r. ⌜ r ≡ length (cond (Of.value-near (take n p) x v) (put x (take k (now (out .entry)))) (take k (now (out .entry)))) ⌝ }
-    ensures { λ r. ⌜ now (out .exit) ≡ cond (Of.value-near (take n p) x v) (put x (take k (now (out .entry)))) (take k (now (out .entry))) ++ drop r (now (out .entry)) ⌝ }
+    ensures { λ r. ⌜ now (out .exit) ≡ cond (Of.value-near (take n p) x v) (put x (take k (now (out .entry)))) (take k (now (out .entry)))
+        ++ drop r (now (out .entry)) ⌝ }
 {
     if value_near(p, n, x, v) {
         return keep(out, k, x);
@@ -128,8 +129,11 @@ fn look(p: [Compensated; 9], n: usize, tidy: bool, x: f64, out: &mut [f64], k: u
 // points, as cuts in the first places of out. Each point is looked at once.
 fn scan(p: [Compensated; 9], n: usize, points: &[f64], count: usize, out: &mut [f64]) -> usize
     requires { ⌜ (n ≤ 9) × (0 < count) × (count ≤ length (now points)) × (count + count ≤ length (now out)) × Ready (take count (now points)) ⌝ }
-    ensures { λ r. ⌜ r ≡ length (cuts (Roots.touches (take n p) (take count (now (points .entry))) ++ Roots.crossings (take n p) (take count (now (points .entry))))) ⌝ }
-    ensures { λ r. ⌜ now (out .exit) ≡ cuts (Roots.touches (take n p) (take count (now (points .entry))) ++ Roots.crossings (take n p) (take count (now (points .entry)))) ++ drop r (now (out .entry)) ⌝ }
+    ensures { λ r. ⌜ r ≡ length (cuts (Roots.touches (take n p) (take count (now (points .entry)))
+        ++ Roots.crossings (take n p) (take count (now (points .entry))))) ⌝ }
+    ensures { λ r. ⌜ now (out .exit) ≡ cuts
+        (Roots.touches (take n p) (take count (now (points .entry))) ++ Roots.crossings (take n p) (take count (now (points .entry))))
+        ++ drop r (now (out .entry)) ⌝ }
 {
     let tidy = all_tidy(p, n);
     let mut lo = points[0];
@@ -153,7 +157,8 @@ fn scan(p: [Compensated; 9], n: usize, points: &[f64], count: usize, out: &mut [
 // The roots of the first n coefficients, in the first places of out. What stands behind them is left.
 pub(crate) fn roots(p: [Compensated; 9], n: usize, lower: f64, upper: f64, out: &mut [f64]) -> usize
     requires { ⌜ (n ≤ 9) × (2 ^ n ≤ length (now out)) × Span 2 lower upper ⌝ }
-    ensures { λ r. ⌜ (r ≡ length (Roots.roots-at n (take n p) lower upper)) × (now (out .exit) ≡ Roots.roots-at n (take n p) lower upper ++ drop r (now (out .entry))) ⌝ }
+    ensures { λ r. ⌜ (r ≡ length (Roots.roots-at n (take n p) lower upper)) ×
+        (now (out .exit) ≡ Roots.roots-at n (take n p) lower upper ++ drop r (now (out .entry))) ⌝ }
 {
     let m = trimmed(p, n);
     if m < 2 {
@@ -188,7 +193,9 @@ pub(crate) fn partitions(
     points: &mut [f64],
 ) -> usize
     requires { ⌜ (2 < n) × (n ≤ 9) × (2 ^ n ≤ length (now points)) × Span 2 lower upper ⌝ }
-    ensures { λ r. ⌜ (r ≡ length (Roots.partitions lower upper (Roots.roots-at (n - 1) (Of.derivative (take n p)) lower upper))) × (now (points .exit) ≡ Roots.partitions lower upper (Roots.roots-at (n - 1) (Of.derivative (take n p)) lower upper) ++ drop r (now (points .entry))) ⌝ }
+    ensures { λ r. ⌜ (r ≡ length (Roots.partitions lower upper (Roots.roots-at (n - 1) (Of.derivative (take n p)) lower upper))) ×
+        (now (points .exit) ≡ Roots.partitions lower upper (Roots.roots-at (n - 1) (Of.derivative (take n p)) lower upper)
+        ++ drop r (now (points .entry))) ⌝ }
 {
     let d = derivative(p, n);
     let k = roots(d, n - 1, lower, upper, points);

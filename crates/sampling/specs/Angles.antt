@@ -20,7 +20,7 @@ first-free job = SampleAngles.free (J1free.arm-axes (job .arm)) job (job .j1)
 unfoldable pub second-free : Job → Free
 second-free job = SampleAngles.free (J2free.arm-axes (job .arm)) job (job .j2)
 
--- what a kind has
+-- the first for kind 1, the second for kind 2, the last for kind 3
 abbrev pub by-kind : {A : Type 0} → Kind → A → A → A → A
 by-kind J1free first second both = first
 by-kind J2free first second both = second

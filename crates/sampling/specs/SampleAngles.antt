@@ -63,7 +63,7 @@ second-cuts f = cond (finite (f .near)) (interval-cuts (f .near) (roots f) (inte
 unfoldable pub third-cuts : Free → List Float
 third-cuts f = cond (finite (f .near)) (interval-cuts (f .near) (roots f) (intervals f .third)) []
 
--- their lengths added
+-- the number of cuts: the three lists' lengths, added
 unfoldable pub cut-count : Free → ℕ
 cut-count f = length (first-cuts f) + length (second-cuts f) + length (third-cuts f)
 

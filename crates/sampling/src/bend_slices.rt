@@ -83,7 +83,7 @@ fn arm_axis(m: Matrix, q5: SinCos, q6: SinCos) -> Vector
     x.plus(y).plus(m.z.times(q5.cosine))
 }
 
-// Both directions of joint 1.
+// The two angles at which joint 1 points along a vector, or against it.
 fn axis_angles(v: Vector, out: &mut [f64], n: usize) -> usize
     requires { ⌜ n + 2 ≤ length (now out) ⌝ }
     ensures { λ r. ⌜ Pushed 2 (Of.axis-angles v) n (now (out .entry)) r (now (out .exit)) ⌝ }
@@ -131,7 +131,8 @@ fn folds(z: Vector, q3: f64, s5: f64, angle2: f64, out: &mut [f64], n: usize) ->
 
 fn folds_range(z: Vector, q3: f64, s5: f64, range: Range, out: &mut [f64], n: usize) -> Counted
     requires { ⌜ n + 116 ≤ length (now out) ⌝ }
-    ensures { λ r. ⌜ (r .holds ≡ Of.folds-range-hold z q3 s5 range) × Pushed 116 (Of.folds-range z q3 s5 range) n (now (out .entry)) (r .count) (now (out .exit)) ⌝ }
+    ensures { λ r. ⌜ (r .holds ≡ Of.folds-range-hold z q3 s5 range) ×
+        Pushed 116 (Of.folds-range z q3 s5 range) n (now (out .entry)) (r .count) (now (out .exit)) ⌝ }
 {
     match range {
         Range::Nothing => Counted {
@@ -161,7 +162,8 @@ fn bend_slice(
     n: usize,
 ) -> Counted
     requires { ⌜ n + 128 ≤ length (now out) ⌝ }
-    ensures { λ r. ⌜ (r .holds ≡ Of.bend-slice-holds (m .z) q3 range2 angle5) × Pushed 128 (Of.bend-slice m q3 range2 range4 range6 angle5) n (now (out .entry)) (r .count) (now (out .exit)) ⌝ }
+    ensures { λ r. ⌜ (r .holds ≡ Of.bend-slice-holds (m .z) q3 range2 angle5) ×
+        Pushed 128 (Of.bend-slice m q3 range2 range4 range6 angle5) n (now (out .entry)) (r .count) (now (out .exit)) ⌝ }
 {
     let q5 = sin_cos(angle5);
     let n1 = transverses(m.z, q5.sine, range4, out, n);
@@ -182,7 +184,8 @@ pub(crate) fn bend_slices(
     n: usize,
 ) -> Counted
     requires { ⌜ n + 256 ≤ length (now out) ⌝ }
-    ensures { λ r. ⌜ (r .holds ≡ Of.bend-slices-hold (m .z) q3 range2 range5) × Pushed 256 (Of.bend-slices m q3 range2 range4 range5 range6) n (now (out .entry)) (r .count) (now (out .exit)) ⌝ }
+    ensures { λ r. ⌜ (r .holds ≡ Of.bend-slices-hold (m .z) q3 range2 range5) ×
+        Pushed 256 (Of.bend-slices m q3 range2 range4 range5 range6) n (now (out .entry)) (r .count) (now (out .exit)) ⌝ }
 {
     match range5 {
         Range::Nothing => Counted {

@@ -60,7 +60,7 @@ fn harmonic(t: Trig) -> Harmonic
     }
 }
 
-// Close to a pole.
+// Whether a bend of joint 5, by its sine, is close to a pole, not at it: its cosine hardly changes there.
 fn narrow(sine: f64) -> bool
     ensures { λ r. ⌜ r ≡ Of.narrow sine ⌝ }
 {
@@ -151,7 +151,8 @@ pub(crate) fn all_roots(
     out: &mut [f64],
 ) -> Counted
     requires { ⌜ 300 ≤ length (now out) ⌝ }
-    ensures { λ r. ⌜ (r .holds ≡ Of.all-roots-hold w fifth) × Pushed 300 (Of.all-roots w near fourth fifth sixth center) 0 (now (out .entry)) (r .count) (now (out .exit)) ⌝ }
+    ensures { λ r. ⌜ (r .holds ≡ Of.all-roots-hold w fifth) ×
+        Pushed 300 (Of.all-roots w near fourth fifth sixth center) 0 (now (out .entry)) (r .count) (now (out .exit)) ⌝ }
 {
     let cos5 = w.cos5;
     let polar = cos5.polar();

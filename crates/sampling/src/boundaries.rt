@@ -16,7 +16,7 @@ use float::trig::sin_cos;
 use polynomial::curve::Curve;
 use polynomial::curve::Harmonic;
 
-// The first `count` curves.
+// Boundary curves, by value: the first `count` of them.
 pub struct Curves {
     pub count: usize,
     pub at: [Curve; 18],
@@ -104,7 +104,7 @@ fn second_curve(q3: f64, angle: f64) -> Curve
     curve_of(a, b, c)
 }
 
-// The cosine of joint 5.
+// The curve along which the cosine of joint 5 has a value.
 fn bend_curve(z: Vector, cosine: f64) -> Curve
     ensures { λ r. ⌜ r ≡ Of.bend-curve z cosine ⌝ }
 {

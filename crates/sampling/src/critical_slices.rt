@@ -134,7 +134,8 @@ fn meetings(
     n: usize,
 ) -> Grew
     requires { ⌜ (first ≤ n) × (n ≤ 18) ⌝ }
-    ensures { λ r. ⌜ (r .holds ≡ Met.meetings-hold c (first-three k) (slice first n at)) × Grown (Met.meetings c (first-three k) (slice first n at)) (now (work .entry)) cuts (now (work .exit)) (r .cuts) ⌝ }
+    ensures { λ r. ⌜ (r .holds ≡ Met.meetings-hold c (first-three k) (slice first n at)) ×
+        Grown (Met.meetings c (first-three k) (slice first n at)) (now (work .entry)) cuts (now (work .exit)) (r .cuts) ⌝ }
 {
     let mut state = cuts;
     let mut holds = true;

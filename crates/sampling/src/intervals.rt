@@ -15,7 +15,7 @@ pub enum Range {
     Between(f64, f64),
 }
 
-// Three at most.
+// Allowed displacements: the range shifted by a turn down, as it is, and by a turn up.
 pub struct Intervals {
     pub first: Range,
     pub second: Range,

@@ -91,7 +91,9 @@ fn half_cuts(
     upper: f64,
 ) -> Grew
     requires { ⌜ (curves .count ≤ 18) × (n ≤ length (now bends)) ⌝ }
-    ensures { λ r. ⌜ (r .holds ≡ critical-holds (chart lower upper) (take (curves .count) (curves .at))) × Kept (half-values (take (curves .count) (curves .at)) (take n (now (bends .entry))) lower upper) (now (work .entry)) (now (work .exit)) (r .cuts) ⌝ }
+    ensures { λ r. ⌜ (r .holds ≡ critical-holds (chart lower upper) (take (curves .count) (curves .at))) ×
+        Kept (half-values (take (curves .count) (curves .at)) (take n (now (bends .entry))) lower upper) (now (work .entry))
+        (now (work .exit)) (r .cuts) ⌝ }
 {
     let c = chart_of(lower, upper);
     let first = push(work, Put::Count(0), lower);
@@ -138,8 +140,12 @@ fn halves_of(reference: f64, first: Put, second: Put) -> Plan
 // The cuts of both halves, one list after the other in the front of work. Every inner call of the
 // root finder is made, whether or not there are places.
 fn cut_halves(work: &mut [f64], t: Folded, lower: f64, upper: f64) -> Plan
-    ensures { λ r. ⌜ r ≡ granted (Of.halves-hold t lower upper) (length (Of.first-half t lower upper) + length (Of.second-half t lower upper)) (halves-of (t .reference) (Of.first-half t lower upper) (Of.second-half t lower upper)) (length (now (work .entry))) ⌝ }
-    ensures { λ r. ⌜ where-laid r (now (work .exit)) [] ≡ where-laid r ((Of.first-half t lower upper ++ Of.second-half t lower upper) ++ drop (length (Of.first-half t lower upper) + length (Of.second-half t lower upper)) (now (work .entry))) [] ⌝ }
+    ensures { λ r. ⌜ r ≡ granted (Of.halves-hold t lower upper)
+        (length (Of.first-half t lower upper) + length (Of.second-half t lower upper))
+        (halves-of (t .reference) (Of.first-half t lower upper) (Of.second-half t lower upper)) (length (now (work .entry))) ⌝ }
+    ensures { λ r. ⌜ where-laid r (now (work .exit)) [] ≡
+        where-laid r ((Of.first-half t lower upper ++ Of.second-half t lower upper)
+        ++ drop (length (Of.first-half t lower upper) + length (Of.second-half t lower upper)) (now (work .entry))) [] ⌝ }
 {
     let range2 = t.range2;
     let range4 = t.range4;

@@ -23,7 +23,7 @@ fn x_axis(radial: Vector, third: SinCos) -> TrigVector
     }
 }
 
-// The third column.
+// The arm's third column, by the direction of joint 1 and the angle of joint 3.
 fn z_axis(radial: Vector, third: SinCos) -> TrigVector
     ensures { λ r. ⌜ r ≡ Of.z-axis radial third ⌝ }
 {

@@ -61,7 +61,9 @@ fn part_at(work: &[f64], start: usize, end: usize, i: usize) -> f64
 // The i-th sample of all, or a NaN behind the last.
 pub(crate) fn angle_at(work: &[f64], n: Lists, i: usize) -> f64
     requires { ⌜ n .first + n .second + n .third ≤ length (now work) ⌝ }
-    ensures { λ r. ⌜ r ≡ getD (Of.three-samples (take (n .first) (now (work .entry))) (take (n .second) (drop (n .first) (now (work .entry)))) (take (n .third) (drop (n .first + n .second) (now (work .entry))))) i nan ⌝ }
+    ensures { λ r. ⌜ r ≡ getD (Of.three-samples (take (n .first) (now (work .entry)))
+        (take (n .second) (drop (n .first) (now (work .entry))))
+        (take (n .third) (drop (n .first + n .second) (now (work .entry))))) i nan ⌝ }
 {
     let first = sample_count(n.first);
     if i < first {

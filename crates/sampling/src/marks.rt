@@ -41,7 +41,7 @@ fn ends(center: f64, tolerance: f64) -> Range
     Range::Nothing
 }
 
-// What counts of a joint.
+// A wrist joint's angles that count: its reference and, with limits, their centre and ends.
 pub(crate) fn marks_of(limited: bool, j: Joint) -> Marks
     ensures { λ r. ⌜ r ≡ Of.marks limited j ⌝ }
 {

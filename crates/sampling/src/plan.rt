@@ -51,21 +51,22 @@ fn next_slice(work: &[f64], h: Halves, c: Cursor) -> Step
 
 fn count_slices(work: &[f64], h: Halves) -> usize
     requires { ⌜ Streamable h (now work) ⌝ }
-    ensures { λ r. ⌜ r ≡ length (distinct (take (h .first) (now (work .entry))) (take (h .second) (drop (h .first) (now (work .entry)))) (h .reference) start) ⌝ }
+    ensures { λ r. ⌜ r ≡ length (distinct (take (h .first) (now (work .entry))) (take (h .second) (drop (h .first) (now (work .entry))))
+        (h .reference) start) ⌝ }
 {
     let first = h.first;
     let end = first + h.second;
     stream::count(&work[..first], &work[first..end], h.reference)
 }
 
-// Where the angles start.
+// The cursor before the first angle of a plan.
 pub fn start() -> Cursor
     ensures { λ r. ⌜ r ≡ start ⌝ }
 {
     stream::start()
 }
 
-// The next angle.
+// The next angle of a plan, read off the cuts in work, and the cursor after it.
 pub fn next(work: &[f64], plan: Plan, c: Cursor) -> Step
     requires { ⌜ Ready plan (now work) ⌝ }
     ensures { λ s. ⌜ s ≡ Of.step plan (now (work .entry)) c ⌝ }
@@ -78,7 +79,7 @@ pub fn next(work: &[f64], plan: Plan, c: Cursor) -> Step
     }
 }
 
-// How many angles there are.
+// How many angles a plan has.
 pub fn count(work: &[f64], plan: Plan) -> usize
     requires { ⌜ Ready plan (now work) ⌝ }
     ensures { λ r. ⌜ r ≡ length (to-come plan (now (work .entry)) start) ⌝ }

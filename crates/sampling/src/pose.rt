@@ -65,7 +65,7 @@ impl Vector {
     }
 }
 
-// Three columns.
+// A rotation matrix, by its three columns.
 pub struct Matrix {
     pub x: Vector,
     pub y: Vector,

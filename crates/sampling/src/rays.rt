@@ -158,7 +158,7 @@ fn sixth_roots(w: Wrist, fourth: Marks, sixth: Sixth, deferred: &mut [f64], n: u
     }
 }
 
-// The angles of a ray.
+// The angles at which a ray meets a joint's marks, worked out together.
 pub(crate) fn ray_angles(ray: Ray, marks: Marks, out: &mut [f64], n: usize) -> usize
     requires { ⌜ n + 12 ≤ length (now out) ⌝ }
     ensures { λ r. ⌜ Pushed 12 (Of.ray-marks ray marks) n (now (out .entry)) r (now (out .exit)) ⌝ }
@@ -168,7 +168,7 @@ pub(crate) fn ray_angles(ray: Ray, marks: Marks, out: &mut [f64], n: usize) -> u
     angles_of(&deferred[..k], out, n)
 }
 
-// The angles of joint 6.
+// The angles at which joint 6, or its sum or difference with joint 4, meets their marks.
 pub(crate) fn sixth_angles(
     w: Wrist,
     fourth: Marks,

@@ -89,7 +89,9 @@ pub(crate) fn free_of(axes: Axes, job: Job, j: Joint) -> Free
 // The cuts of three intervals, one list after the other in the front of work.
 fn cut_intervals(work: &mut [f64], near: f64, three: Intervals, roots: &[f64], n: usize) -> Plan
     requires { ⌜ n ≤ length (now roots) ⌝ }
-    ensures { λ r. ⌜ ListsLaid (interval-cuts near (take n (now (roots .entry))) (three .first)) (interval-cuts near (take n (now (roots .entry))) (three .second)) (interval-cuts near (take n (now (roots .entry))) (three .third)) (now (work .entry)) r (now (work .exit)) ⌝ }
+    ensures { λ r. ⌜ ListsLaid (interval-cuts near (take n (now (roots .entry))) (three .first))
+        (interval-cuts near (take n (now (roots .entry))) (three .second))
+        (interval-cuts near (take n (now (roots .entry))) (three .third)) (now (work .entry)) r (now (work .exit)) ⌝ }
 {
     let range1 = three.first;
     let Put::Count(first) = interval_cuts(work, near, range1, roots, n) else {

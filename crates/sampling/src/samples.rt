@@ -23,7 +23,8 @@ use polynomial::cuts::Put;
 
 // An angle counts where it lies in the interval.
 fn inside(work: &mut [f64], cuts: usize, lower: f64, upper: f64, angle: f64) -> usize
-    ensures { λ r. ⌜ Grown (Of.inside lower upper angle) (now (work .entry)) (counted cuts (now (work .entry))) (now (work .exit)) (counted r (now (work .exit))) ⌝ }
+    ensures { λ r. ⌜ Grown (Of.inside lower upper angle) (now (work .entry)) (counted cuts (now (work .entry))) (now (work .exit))
+        (counted r (now (work .exit))) ⌝ }
 {
     if (lower <= angle) & (angle <= upper) {
         return put_in(work, cuts, angle);
@@ -33,7 +34,8 @@ fn inside(work: &mut [f64], cuts: usize, lower: f64, upper: f64, angle: f64) -> 
 
 // An angle, a turn below, as it is and a turn above.
 fn copies(work: &mut [f64], cuts: usize, lower: f64, upper: f64, angle: f64) -> usize
-    ensures { λ r. ⌜ Grown (Of.copies lower upper angle) (now (work .entry)) (counted cuts (now (work .entry))) (now (work .exit)) (counted r (now (work .exit))) ⌝ }
+    ensures { λ r. ⌜ Grown (Of.copies lower upper angle) (now (work .entry)) (counted cuts (now (work .entry))) (now (work .exit))
+        (counted r (now (work .exit))) ⌝ }
 {
     let below = inside(work, cuts, lower, upper, angle + -1.0 * TWO_PI);
     let same = inside(work, below, lower, upper, angle + 0.0 * TWO_PI);
@@ -64,7 +66,8 @@ pub(crate) fn all_copies(
 
 // A root counts if it is finite.
 fn windings(work: &mut [f64], cuts: usize, lower: f64, upper: f64, root: f64) -> usize
-    ensures { λ r. ⌜ Grown (Of.windings lower upper root) (now (work .entry)) (counted cuts (now (work .entry))) (now (work .exit)) (counted r (now (work .exit))) ⌝ }
+    ensures { λ r. ⌜ Grown (Of.windings lower upper root) (now (work .entry)) (counted cuts (now (work .entry))) (now (work .exit))
+        (counted r (now (work .exit))) ⌝ }
 {
     if is_finite(root) {
         return copies(work, cuts, lower, upper, root);
@@ -82,7 +85,8 @@ fn all_windings(
     n: usize,
 ) -> usize
     requires { ⌜ n ≤ length (now roots) ⌝ }
-    ensures { λ r. ⌜ Grown (Of.all-windings lower upper (take n (now (roots .entry)))) (now (work .entry)) (counted cuts (now (work .entry))) (now (work .exit)) (counted r (now (work .exit))) ⌝ }
+    ensures { λ r. ⌜ Grown (Of.all-windings lower upper (take n (now (roots .entry)))) (now (work .entry))
+        (counted cuts (now (work .entry))) (now (work .exit)) (counted r (now (work .exit))) ⌝ }
 {
     let mut state = cuts;
     let mut i = 0;
@@ -126,7 +130,7 @@ fn inset(lower: f64, upper: f64) -> f64
     minimum(most, (upper - lower) / 4.0)
 }
 
-// Three samples.
+// The three samples between two neighbouring cuts: near each end, and the middle.
 pub struct Three {
     pub first: f64,
     pub second: f64,

@@ -60,7 +60,8 @@ fn put_part(output: &mut [u8], at: usize, work: &[f64], start: usize, end: usize
     requires { ⌜ start ≤ end ⌝ }
     requires { ⌜ end ≤ length (now work) ⌝ }
     requires { ⌜ at + 8 * Samples.sample-count (end - start) ≤ length (now output) ⌝ }
-    ensures { λ _. ⌜ now (output .exit) ≡ sets (now (output .entry)) at (Floats.floats-bytes (Samples.samples (take (end - start) (drop start (now (work .entry)))))) ⌝ }
+    ensures { λ _. ⌜ now (output .exit) ≡
+        sets (now (output .entry)) at (Floats.floats-bytes (Samples.samples (take (end - start) (drop start (now (work .entry)))))) ⌝ }
 {
     put_samples(output, at, &work[start..end]);
 }

@@ -18,7 +18,7 @@ use sampling::job::Kind;
 use sampling::pose::Matrix;
 use sampling::pose::Quaternion;
 
-// The sign of a byte.
+// The sign that a byte stands for: 1.0 for 1, else -1.0; refusal 3 looks at read signs beforehand.
 fn sign_of(b: u8) -> f64
     ensures { λ r. ⌜ r ≡ Fields.sign-of b ⌝ }
 {
@@ -51,7 +51,7 @@ fn joint_at(request: &[u8], j: usize) -> Joint
     }
 }
 
-// The rotation.
+// The rotation of a request, as given: x, y, z, w.
 pub(crate) fn rotation_of(request: &[u8]) -> Quaternion
     requires { ⌜ Request.core-size ≤ length (now request) ⌝ }
     ensures { λ r. ⌜ r ≡ Fields.rotation-of (now (request .entry)) ⌝ }
@@ -64,7 +64,7 @@ pub(crate) fn rotation_of(request: &[u8]) -> Quaternion
     }
 }
 
-// The arm's angles.
+// The arm's angles of a request: q1, q2, q3, as given.
 fn arm_of(request: &[u8]) -> Arm
     requires { ⌜ Request.core-size ≤ length (now request) ⌝ }
     ensures { λ r. ⌜ r ≡ Fields.arm-of (now (request .entry)) ⌝ }

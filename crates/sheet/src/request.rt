@@ -84,7 +84,7 @@ pub(crate) fn shape_from(kind: u8, limits: u8, fixed: u8) -> Shape
     }
 }
 
-// The shape of a request.
+// The shape of a request: its kind and flags, on which it depends what is read.
 pub(crate) fn shape_of(request: &[u8]) -> Shape
     requires { ⌜ Request.core-size ≤ length (now request) ⌝ }
     ensures { λ r. ⌜ r ≡ Request.shape-of (now (request .entry)) ⌝ }

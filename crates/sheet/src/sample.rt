@@ -80,7 +80,9 @@ fn fill(output: &mut [u8], request: &[u8], work: &[f64], plan: Plan, n: usize)
     requires { ⌜ Ready plan (now work) ⌝ }
     requires { ⌜ n ≡ length (to-come plan (now work) start) ⌝ }
     requires { ⌜ Sampling.sheet-size n ≤ length (now output) ⌝ }
-    ensures { λ _. ⌜ now (output .exit) ≡ sets (now (output .entry)) 0 (Floats.floats-bytes (to-come plan (now (work .entry)) start) ++ (Request.blank (now (request .entry)) ++ Sheet.trailer n)) ⌝ }
+    ensures { λ _. ⌜ now (output .exit) ≡
+        sets (now (output .entry)) 0 (Floats.floats-bytes (to-come plan (now (work .entry)) start)
+        ++ (Request.blank (now (request .entry)) ++ Sheet.trailer n)) ⌝ }
 {
     put_angles(output, work, plan);
     put_blank(output, 8 * n, request);

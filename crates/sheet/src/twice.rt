@@ -17,7 +17,8 @@ pub fn twice(r: &[u8], s: &[u8], v: &mut [f64], w: &mut [f64], x: &mut [u8], y: 
     ensures { λ t. ⌜ now (y .exit) ≡ Sampling.output-after (Sampling.answer-of (t .1)) (now (s .entry)) (now (y .entry)) ⌝ }
     ensures { λ _. ⌜ now (v .exit) ≡ Bytes.zeros (length (now (v .entry))) ⌝ }
     ensures { λ _. ⌜ now (w .exit) ≡ Bytes.zeros (length (now (w .entry))) ⌝ }
-    ensures { λ t. ⌜ Together (now (r .entry)) (now (s .entry)) (length (now (v .entry))) (length (now (w .entry))) (Sampling.answer-of (t .0)) (Sampling.answer-of (t .1)) (now (x .exit)) (now (y .exit)) ⌝ }
+    ensures { λ t. ⌜ Together (now (r .entry)) (now (s .entry)) (length (now (v .entry))) (length (now (w .entry)))
+        (Sampling.answer-of (t .0)) (Sampling.answer-of (t .1)) (now (x .exit)) (now (y .exit)) ⌝ }
 {
     let first = sample(r, v, x);
     let second = sample(s, w, y);

@@ -159,7 +159,7 @@ fn validate_fields(request: &[u8], q: Quaternion) -> Tested
     Tested::Passed(q)
 }
 
-// 4 to 8.
+// Refusals 4 and 5, of the rotation, and then 6 to 8; where none is met, the normalized rotation.
 fn validate_rotation(request: &[u8]) -> Tested
     requires { ⌜ Request.core-size ≤ length (now request) ⌝ }
     ensures { λ t. ⌜ t ≡ Promise.tested-rotation (now (request .entry)) (Pose.try-normalize (Fields.rotation-of (now (request .entry)))) ⌝ }
@@ -172,7 +172,7 @@ fn validate_rotation(request: &[u8]) -> Tested
     }
 }
 
-// 1 to 8.
+// Refusals 1 to 8, in order; where none is met, the normalized rotation.
 pub(crate) fn validate(request: &[u8]) -> Tested
     ensures { λ t. ⌜ t ≡ Promise.tested (now (request .entry)) ⌝ }
 {

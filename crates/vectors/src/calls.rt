@@ -52,7 +52,7 @@ fn sampled_number(a: Sampled) -> u64 {
     }
 }
 
-// The same for Check.
+// The number of Check's answer, as it is stored.
 fn checked_number(a: Checked) -> u64 {
     match a {
         Checked::Accepted(n) => n as u64,

@@ -3,7 +3,8 @@ use mathlib.Core.Path.{_≡_, refl, sym, ap, subst, _∙_}
 use mathlib.Core.Bool.{Bool, true, false, true≢false, false≢true}
 use Prim.Native.Nat.{ℕ, zero, suc, _+_, _-_, _*_, _/_, _%_, _^_, _≤_, _<_, min}
 use native.Mathlib.Nat.{le-trans, le-of-lt, le-of-eq, lt-of-le-of-lt, lt-of-lt-of-le, lt-irrefl, zero-lt-suc, mul-pos, mul-one}
-use native.Mathlib.Nat.{one-mul, zero-mul, mul-right-comm, le-of-mul-le-mul-right, lt-of-mul-lt-mul-right, eq-of-mul-eq-mul-right, div-add-mod', div-le-self, mod-one}
+use native.Mathlib.Nat.{one-mul, zero-mul, mul-right-comm, le-of-mul-le-mul-right, lt-of-mul-lt-mul-right}
+use native.Mathlib.Nat.{eq-of-mul-eq-mul-right, div-add-mod', div-le-self, mod-one}
 use native.Mathlib.Omega.{arith}
 use lib.IntN.{ℤ, pos, negsuc, negℤ, _-ℤ_}
 use lib.Dec.{T, ltb, eqb, ltb→lt, eqb→eq}

@@ -4,7 +4,8 @@
 use mathlib.Core.Path.{_≡_, sym, ap, _∙_, subst}
 use Prim.Native.Nat.{ℕ, zero, suc, _+_, _-_, _*_, _^_, _≤_, _<_}
 use native.Mathlib.Nat.{le-trans, le-of-eq, lt-of-lt-of-le, lt-of-le-of-lt, lt-of-not-le, lt-irrefl, not-le-of-lt, mul-one, one-mul}
-use native.Mathlib.Nat.{zero-mul, mul-assoc, mul-comm, mul-left-comm, mul-right-comm, le-of-mul-le-mul-right, mul-le-mul-right, mul-lt-mul-of-pos-right, add-zero}
+use native.Mathlib.Nat.{zero-mul, mul-assoc, mul-comm, mul-left-comm, mul-right-comm}
+use native.Mathlib.Nat.{le-of-mul-le-mul-right, mul-le-mul-right, mul-lt-mul-of-pos-right, add-zero}
 use native.Mathlib.Omega.{arith}
 use mathlib.Core.Bool.{true, false, _&&_}
 use lib.IntN.{negsuc}

@@ -6,7 +6,7 @@ use lib.Ieee.{nan, inf, binary64, ofBits, toBits}
 use Rattle.float.specs.MulAdd.{mul-add}
 use Rattle.float.specs.Sqrt.{sqrt}
 
--- by patterns
+-- the fused product from bits to bits
 mul-add-of : ℕ → ℕ → ℕ → ℕ
 mul-add-of a b c = toBits binary64 (mul-add binary64 (ofBits binary64 a) (ofBits binary64 b) (ofBits binary64 c))
 

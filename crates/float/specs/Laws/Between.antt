@@ -2,7 +2,8 @@
 -- sign of a zero counts: where the lower end has no minus sign the middle has none,
 -- and where the upper end has one the middle has one, since half of what lies between is less than the lower end's size.
 use Prim.Native.Nat.{ℕ, zero, suc, _+_, _-_, _*_, _^_, _≤_, _<_, suc-le-suc}
-use native.Mathlib.Nat.{le-of-eq, le-trans, lt-of-le-of-lt, lt-of-lt-of-le, mul-pos, mul-le-mul-right, mul-lt-mul-of-pos-right, lt-of-mul-lt-mul-right, mul-right-comm, mul-mul-mul-comm}
+use native.Mathlib.Nat.{le-of-eq, le-trans, lt-of-le-of-lt, lt-of-lt-of-le, mul-pos}
+use native.Mathlib.Nat.{mul-le-mul-right, mul-lt-mul-of-pos-right, lt-of-mul-lt-mul-right, mul-right-comm, mul-mul-mul-comm}
 use native.Mathlib.Nat.{mul-assoc, mul-one, lt-trans, lt-suc-self, le-suc, pow-suc, mul-le-mul-left, sub-le, not-suc-le-zero}
 use native.Mathlib.Decide.{decLt}
 use native.Mathlib.Omega.{arith}

@@ -4,7 +4,8 @@
 use mathlib.Core.Path.{_≡_, sym, ap, _∙_, subst}
 use Prim.Native.Nat.{ℕ, suc, _+_, _-_, _*_, _/_, _%_, _^_, _≤_, _<_, compare, Ordering, Ordering·lt, Ordering·eq, Ordering·gt}
 use native.Mathlib.Nat.{le-trans, le-of-eq, lt-of-lt-of-le, lt-of-le-of-lt, lt-of-not-le, not-le-of-lt, mul-pos, mul-assoc, mul-comm, add-mul}
-use native.Mathlib.Nat.{lt-irrefl, le-of-mul-le-mul-right, mul-le-mul-right, mul-lt-mul-of-pos-right, mul-div-cancel, div-add-mod', mod-lt, div-lt-iff-lt-mul, zero-add}
+use native.Mathlib.Nat.{lt-irrefl, le-of-mul-le-mul-right, mul-le-mul-right, mul-lt-mul-of-pos-right, mul-div-cancel}
+use native.Mathlib.Nat.{div-add-mod', mod-lt, div-lt-iff-lt-mul, zero-add}
 use native.Mathlib.Omega.{arith}
 use mathlib.Core.Bool.{Bool, true, false, not, cond}
 use lib.Dec.{T, isLe, isEq, leb, eqb, leb→le, nleb→lt, eqb→eq, eqb-refl}

@@ -7,7 +7,8 @@ use Prim.Native.Nat.{ℕ, zero, suc, _+_, _-_, _*_, _/_, _%_, _^_, _≤_, _<_, z
 use native.Mathlib.Nat.{le-trans, le-of-eq, le-of-lt, lt-of-lt-of-le, lt-of-le-of-lt, lt-of-not-le, not-le-of-lt, le-of-suc-le-suc}
 use native.Mathlib.Nat.{lt-irrefl, eq-or-lt-of-le, zero-lt-suc, mul-pos, mul-one, one-mul, zero-mul, zero-add}
 use native.Mathlib.Nat.{mul-assoc, mul-comm, mul-left-comm, mul-right-comm, mul-mul-mul-comm, mul-le-mul, mul-le-mul-right, mul-le-mul-left}
-use native.Mathlib.Nat.{mul-lt-mul-of-pos-right, le-of-mul-le-mul-right, le-div-iff-mul-le, div-lt-iff-lt-mul, div-mul-le-self, div-div-eq-div-mul, pow-succ', le-mul-of-pos-right}
+use native.Mathlib.Nat.{mul-lt-mul-of-pos-right, le-of-mul-le-mul-right, le-div-iff-mul-le, div-lt-iff-lt-mul}
+use native.Mathlib.Nat.{div-mul-le-self, div-div-eq-div-mul, pow-succ', le-mul-of-pos-right}
 use native.Mathlib.Omega.{arith}
 use lib.IntN.{ℤ, pos}
 use lib.Dec.{T, isLe, isEq, leb, ltb, leb→le, nleb→lt, ltb→lt, eqb→eq, lit≤, lit<}

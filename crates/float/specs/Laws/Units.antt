@@ -4,7 +4,8 @@
 use mathlib.Core.Path.{_≡_, refl, sym, ap, ap₂, _∙_, subst}
 use Prim.Native.Nat.{ℕ, zero, suc, _+_, _-_, _*_, _^_, _≤_, _<_}
 use native.Mathlib.Nat.{le-trans, le-of-eq, le-of-lt, lt-of-lt-of-le, zero-mul, mul-one, mul-pos, mul-assoc, mul-comm, mul-left-comm}
-use native.Mathlib.Nat.{mul-right-comm, add-mul, mul-add, mul-sub, zero-lt-suc, lt-irrefl, le-of-mul-le-mul-right, mul-le-mul-right, mul-lt-mul-of-pos-right, eq-of-mul-eq-mul-right}
+use native.Mathlib.Nat.{mul-right-comm, add-mul, mul-add, mul-sub, zero-lt-suc}
+use native.Mathlib.Nat.{lt-irrefl, le-of-mul-le-mul-right, mul-le-mul-right, mul-lt-mul-of-pos-right, eq-of-mul-eq-mul-right}
 use native.Mathlib.Omega.{arith}
 use mathlib.Core.Bool.{Bool, true, false, not, cond}
 use lib.Dec.{T, leb, leb→le, nleb→lt}

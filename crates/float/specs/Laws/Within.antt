@@ -6,13 +6,13 @@ use mathlib.Core.Path.{_≡_, refl, sym, ap, ap₂, _∙_, subst}
 use Prim.Native.Nat.{ℕ, zero, suc, _+_, _-_, _*_, _%_, _^_, _≤_, _<_}
 use native.Mathlib.Nat.{le-trans, le-of-eq, lt-of-lt-of-le, lt-of-le-of-lt, zero-mul, mul-one, one-mul, mul-pos, mul-assoc}
 use native.Mathlib.Nat.{mul-comm, mul-left-comm, mul-right-comm, add-mul, mul-sub, zero-lt-suc, lt-irrefl, le-of-mul-le-mul-right, mul-le-mul-right}
-use native.Mathlib.Nat.{mul-le-mul, mul-lt-mul-of-pos-right, lt-of-mul-lt-mul-right, sub-add-cancel, add-le-add, le-of-lt, mod-lt}
+use native.Mathlib.Nat.{mul-le-mul, mul-lt-mul-of-pos-right, lt-of-mul-lt-mul-right, sub-add-cancel, add-le-add, le-of-lt}
 use native.Mathlib.Omega.{arith}
 use mathlib.Core.Bool.{Bool, true, false, not, _&&_, Bool·beq, cond}
 use lib.IntN.{ℤ, pos, negsuc}
 use lib.Dec.{T, ltb, eqb, leb, ltb→lt, lt→ltb, leb→le, le→leb, nleb→lt, eqb→eq}
 use lib.Pow.{pow-add, pow-pos, pow-lt}
-use lib.Ieee.{Float, nan, inf, fin, Format, prec, emax, low, unlike, up, down, round, neg, sum, add, sub, mul, div, le, fits, rem}
+use lib.Ieee.{Float, nan, inf, fin, Format, prec, emax, low, unlike, up, down, round, neg, sum, add, sub, mul, div, le, fits}
 use lib.Ieee.Fits.{down-pos, and-l, and-r, and-i}
 use lib.Ieee.Exact.{HasValue, round-exact}
 use lib.Ieee.Order.{round-mono}
@@ -493,21 +493,3 @@ beyond→Le {B = fin false m e} {x = nan} p q r h = absurd r
 beyond→Le {B = fin false m e} {x = inf s} p q r h = absurd (h .real)
 beyond→Le {B = fin false m e} {x = fin true n d} p q r h = absurd r
 beyond→Le {B = fin false m e} {x = fin false n d} p q r h = record { first = tt; second = tt; cross = let k = h .size in omega arith }
-
--- ---- a remainder is no larger than its divisor
-rem-size : (a b n d e : ℕ) → 0 < b → b ≡ n * e → a % b * d ≤ n * (e * d)
-rem-size a b n d e B h = le-trans (mul-le-mul-right d (le-of-lt (mod-lt a B))) (le-of-eq (ap (λ (z : ℕ). z * d) h ∙ mul-assoc n e d))
-
-pub rem-within : (f : Format) (x y : Float) → T (held f y) → T (finite x) → 0 < num y → Within y (rem f x y)
-unfolding rem
-rem-within f x nan t p h = absurd t
-rem-within f x (inf u) t p h = absurd t
-rem-within f nan (fin u n d) t p h = absurd p
-rem-within f (inf s) (fin u n d) t p h = absurd p
-rem-within f (fin s m e) (fin u n d) t p h = go (eqb n 0) (eqb→eq n 0)
-  where
-    go : (b : Bool) → (T b → n ≡ 0) → Within (fin u n d) (cond b nan (round f s (m * up e * down d % (n * up d * down e)) (down e * down d)))
-    go true z = absurd (not-none n d h (z tt))
-    go false z =
-        round-within f s (m * up e * down d % (n * up d * down e)) (down e * down d) (fin u n d) (mul-pos (down-pos e) (down-pos d)) t
-        (rem-size (m * up e * down d) (n * up d * down e) (n * up d) (down d) (down e) (mul-pos h (down-pos e)) refl)

@@ -130,7 +130,7 @@ module _ (n m : ℕ) (p q : List Compensated) (lower upper : Float) (e : q ≡ t
         ∙ count-low q lower upper m (λ _. roots-at (n - 1) (derivative q) lower upper) s
   ]
 
-  -- a line
+  -- two coefficients: the root of a line is a quotient
   pub two-left : m ≡ 2 → roots-at n p lower upper ≡ quotient (getD q 0 zero-pair) (getD q 1 zero-pair) lower upper
   two-left s =
       let f = fewer in

@@ -9,7 +9,8 @@ use Rattle.float.specs.Number.{_⊕_, abs, rem-euclid, zero-float}
 use Rattle.float.specs.Trig.{P}
 use Rattle.float.specs.Promises.Order.{Le}
 use Rattle.float.specs.Promises.Order.{Within}
-use Rattle.float.specs.Laws.Within.{held, within→Le, rem-within}
+use Rattle.float.specs.Laws.Within.{held, within→Le}
+use Rattle.float.specs.Laws.Remainder.{rem-within}
 use Rattle.float.specs.Laws.Interval.{In, in-self, in-wider, in-within, within-in, add-in, sub-in}
 use Rattle.float.specs.Laws.Range.{lt→Le, nlt→Le}
 use Rattle.float.specs.Laws.Extremes.{largest, held-largest}

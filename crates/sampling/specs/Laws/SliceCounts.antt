@@ -229,7 +229,7 @@ half-cuts-few t lower upper =
     let h = length-append (lower ∷ [] ++ upper ∷ []) c in
     omega (arith, a, b, d, e, f, g, h)
 
--- two halves
+-- the most cuts of both halves together
 abbrev pub most-both-cuts : ℕ
 most-both-cuts = 175618
 

@@ -25,7 +25,7 @@ use Rattle.float.specs.Laws.Tests.{finite-number}
 abbrev pub Small : Float → Type 0
 Small x = Within (fin false 1 (pos 6)) x
 
--- two neighbours
+-- the middle of two neighbours stands between them
 record Pair (x y : Float) : Type 0 where
   above : T (total-le x (middle x y))
   below : T (total-le (middle x y) y)
