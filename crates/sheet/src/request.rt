@@ -2,13 +2,15 @@
 // field zero.
 ghost use mathlib.Core.Path.{_≡_};
 ghost use mathlib.Core.Bool.{cond};
-ghost use Prim.Native.Nat.{_+_, _%_, _<_, _≤_};
-ghost use lib.ListN.{length};
+ghost use Prim.Native.Nat.{_+_, _<_, _≤_};
+ghost use lib.ListN.{length, drop};
 ghost use lib.Seq.{sets};
 ghost use Rattle.sheet.specs.Bytes as Bytes;
 ghost use Rattle.sheet.specs.Request as Request;
 ghost use Rattle.sheet.specs.declared.request.Shape.the-variants.{Right};
 use crate::bytes::byte_at;
+use crate::bytes::put;
+use crate::bytes::word;
 use sampling::job::Kind;
 use sampling::reads::arm_read;
 use sampling::reads::joint_read;
@@ -173,20 +175,41 @@ fn kept(read: bool, b: u8) -> u8
     0
 }
 
-// Whether byte i is read, where `before` says it of the byte before: from the rotation on, the eight
-// bytes of a field are read or not together.
-fn read_on(s: Shape, i: usize, before: bool) -> bool
-    requires { ⌜ i < Request.request-size ⌝ }
-    requires { ⌜ (16 < i → 0 < i % 8 → before ≡ Request.byte-read s i) ⌝ }
-    ensures { λ r. ⌜ r ≡ Request.byte-read s i ⌝ }
+// A field of eight bytes, or zero where it is not read.
+fn kept_word(read: bool, w: u64) -> u64
+    ensures { λ r. ⌜ r ≡ cond read w 0 ⌝ }
 {
-    if i < ROTATION {
-        return byte_read(s, i);
+    if read {
+        return w;
     }
-    if i % 8 == 0 {
-        return byte_read(s, i);
+    0
+}
+
+// The first sixteen bytes of the request, each zero where it is not read, written from `at` on. What
+// is left to write then is what stands behind them.
+fn put_head(out: &mut [u8], at: usize, request: &[u8], s: Shape)
+    requires { ⌜ (length (now request) ≡ Request.request-size) × (at + Request.request-size ≤ length (now out)) ⌝ }
+    ensures { λ _. ⌜ sets (now (out .exit)) (at + 16) (Request.blank-from s 16 (drop 16 (now (request .entry)))) ≡
+        sets (now (out .entry)) at (Request.blank-from s 0 (now (request .entry))) ⌝ }
+{
+    let mut i = 0usize;
+    while i < ROTATION {
+        out[at + i] = kept(byte_read(s, i), request[i]);
+        i += 1;
     }
-    before
+}
+
+// The fields from the rotation on, eight bytes each, which are read or not together.
+fn put_fields(out: &mut [u8], at: usize, request: &[u8], s: Shape)
+    requires { ⌜ (length (now request) ≡ Request.request-size) × (at + Request.request-size ≤ length (now out)) ⌝ }
+    ensures { λ _. ⌜ now (out .exit) ≡ sets (now (out .entry)) (at + 16) (Request.blank-from s 16 (drop 16 (now (request .entry)))) ⌝ }
+{
+    let mut i = ROTATION;
+    while i < REQUEST {
+        let w = kept_word(byte_read(s, i), word(request, i));
+        put(out, at + i, 8, w);
+        i += 8;
+    }
 }
 
 // The request with every unread field zero, written from `at` on.
@@ -195,13 +218,8 @@ pub(crate) fn put_blank(out: &mut [u8], at: usize, request: &[u8])
     ensures { λ _. ⌜ now (out .exit) ≡ sets (now (out .entry)) at (Request.blank (now (request .entry))) ⌝ }
 {
     let s = shape_of(request);
-    let mut read = true;
-    let mut i = 0usize;
-    while i < REQUEST {
-        read = read_on(s, i, read);
-        out[at + i] = kept(read, request[i]);
-        i += 1;
-    }
+    put_head(out, at, request, s);
+    put_fields(out, at, request, s);
 }
 
 // Whether every unread field is zero: the request is its own blank.

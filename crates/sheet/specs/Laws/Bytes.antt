@@ -73,6 +73,18 @@ unfolding little-endian bytes
 little-endian-bytes zero v h = omega arith
 little-endian-bytes (suc k) v h = rw (little-endian-bytes k (v / 256) (omega arith)) (omega arith)
 
+-- the number of bytes at a position has these bytes
+pub bytes-part : (s : List ℕ) (at k : ℕ) → at + k ≤ length s → ((i : ℕ) → i < length s → getD s i 0 < 256) → bytes k (little-endian (part at k s)) ≡ part at k s
+unfolding little-endian bytes
+bytes-part s at zero h b = refl
+bytes-part s at (suc k) h b =
+    let x = getD s at 0 in
+    let m = little-endian (part (suc at) k s) in
+    let below : x < 256 = b at (omega arith) in
+    let low : (x + 256 * m) % 256 ≡ x = omega arith in
+    let rest : (x + 256 * m) / 256 ≡ m = omega arith in
+    rw (part-cons s at k (omega arith), low, rest, bytes-part s (suc at) k (omega arith) b)
+
 -- four bytes hold every number below 2 ^ 32
 pub little-endian-half : (n : ℕ) → n < 2 ^ 32 → little-endian (bytes 4 n) ≡ n
 little-endian-half n h = little-endian-bytes 4 n h
