@@ -3,7 +3,7 @@
 -- `PlainProducts`, `PlainStep` (one step of Horner arithmetic), `PlainSize` (a coefficient in units), `PlainScale` (the
 -- sum of magnitudes), `PlainMagnitudes` (the sum with the residuals, and the bound of `near-zero`).
 mod Sums
-mod Told
+mod Sure
 mod PlainSteps
 mod PlainProducts
 mod PlainStep

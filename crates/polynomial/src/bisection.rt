@@ -2,14 +2,14 @@
 // tells the sign at the middle. Then mostly two steps at a time: the values at the middle and at both
 // middles that can come next are worked out side by side.
 ghost use mathlib.Core.Path.{_≡_};
-ghost use Prim.Native.Nat.{_≤_};
-ghost use lib.ListN.{take};
+ghost use Prim.Native.Nat.{_+_, _≤_};
+ghost use lib.ListN.{length, take};
+ghost use Rattle.polynomial.specs.Operation.{pairs};
 ghost use Rattle.polynomial.specs.Polynomial as Of;
 ghost use Rattle.polynomial.specs.Roots as Roots;
 ghost use Rattle.float.specs.Promises.Order.{Span};
 ghost use Rattle.polynomial.specs.Promises.Inside as Inside;
 ghost use Rattle.polynomial.specs.Promises.Plain.{AllTidy};
-use crate::compensated::Compensated;
 use crate::plain::all_tidy;
 use crate::plain::plain_sign;
 use crate::polynomial::Three;
@@ -63,9 +63,9 @@ fn narrowed_once(lo: f64, hi: f64, m: f64, v: f64, positive: bool) -> Left
 }
 
 // What a step leaves or, where the three values are known, two steps.
-fn narrowed(p: [Compensated; 9], n: usize, lo: f64, hi: f64, positive: bool) -> Left
-    requires { ⌜ (n ≤ 9) × Span 2 lo hi ⌝ }
-    ensures { λ r. ⌜ Inside.Leaves (Of.evaluate (take n p)) positive lo hi r ⌝ }
+fn narrowed(p: &[f64], n: usize, lo: f64, hi: f64, positive: bool) -> Left
+    requires { ⌜ (n ≤ 9) × Span 2 lo hi × (n + n ≤ length (now p)) ⌝ }
+    ensures { λ r. ⌜ Inside.Leaves (Of.evaluate (take n (pairs (now (p .entry))))) positive lo hi r ⌝ }
 {
     let m = middle(lo, hi);
     let below = middle(lo, m);
@@ -83,9 +83,9 @@ fn narrowed(p: [Compensated; 9], n: usize, lo: f64, hi: f64, positive: bool) -> 
 }
 
 // Bisects the interval while plain arithmetic tells the sign at the middle.
-fn roughly(p: [Compensated; 9], n: usize, from: f64, to: f64, positive: bool) -> Left
-    requires { ⌜ (n ≤ 9) × Span 2 from to × AllTidy (take n p) ⌝ }
-    ensures { λ r. ⌜ Inside.Rest (Of.evaluate (take n p)) positive from to r ⌝ }
+fn roughly(p: &[f64], n: usize, from: f64, to: f64, positive: bool) -> Left
+    requires { ⌜ (n ≤ 9) × Span 2 from to × AllTidy (take n (pairs (now p))) × (n + n ≤ length (now p)) ⌝ }
+    ensures { λ r. ⌜ Inside.Rest (Of.evaluate (take n (pairs (now (p .entry))))) positive from to r ⌝ }
 {
     let mut lo = from;
     let mut hi = to;
@@ -107,9 +107,9 @@ fn roughly(p: [Compensated; 9], n: usize, from: f64, to: f64, positive: bool) ->
 }
 
 // Bisects the interval, by compensated values, until no float lies strictly inside.
-fn finely(p: [Compensated; 9], n: usize, from: f64, to: f64, positive: bool) -> f64
-    requires { ⌜ (n ≤ 9) × Span 2 from to ⌝ }
-    ensures { λ r. ⌜ r ≡ Roots.bisected (Of.evaluate (take n p)) positive from to ⌝ }
+fn finely(p: &[f64], n: usize, from: f64, to: f64, positive: bool) -> f64
+    requires { ⌜ (n ≤ 9) × Span 2 from to × (n + n ≤ length (now p)) ⌝ }
+    ensures { λ r. ⌜ r ≡ Roots.bisected (Of.evaluate (take n (pairs (now (p .entry))))) positive from to ⌝ }
 {
     let mut lo = from;
     let mut hi = to;
@@ -127,9 +127,9 @@ fn finely(p: [Compensated; 9], n: usize, from: f64, to: f64, positive: bool) -> 
 
 // Bisects the interval until no float lies strictly inside; the value at `from` is positive where
 // `positive` says so.
-pub(crate) fn bisect(p: [Compensated; 9], n: usize, from: f64, to: f64, positive: bool) -> f64
-    requires { ⌜ (n ≤ 9) × Span 2 from to ⌝ }
-    ensures { λ r. ⌜ r ≡ Roots.bisected (Of.evaluate (take n p)) positive from to ⌝ }
+pub(crate) fn bisect(p: &[f64], n: usize, from: f64, to: f64, positive: bool) -> f64
+    requires { ⌜ (n ≤ 9) × Span 2 from to × (n + n ≤ length (now p)) ⌝ }
+    ensures { λ r. ⌜ r ≡ Roots.bisected (Of.evaluate (take n (pairs (now (p .entry))))) positive from to ⌝ }
 {
     if all_tidy(p, n) {
         let left = roughly(p, n, from, to, positive);

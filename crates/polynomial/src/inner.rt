@@ -8,6 +8,7 @@ ghost use Rattle.polynomial.specs.Curve as Of;
 ghost use Rattle.polynomial.specs.Roots as Roots;
 ghost use Rattle.polynomial.specs.Promises.Inner.{inner-answer, size, listed};
 use crate::compensated::Compensated;
+use crate::flat::spread;
 use crate::operation::bounds_hold;
 use crate::operation::part_holds;
 use crate::roots::roots;
@@ -50,5 +51,6 @@ pub fn inner_roots(p: [Compensated; 9], n: usize, lower: f64, upper: f64, out: &
     if !all_hold(p, n) {
         return Inner::Refused;
     }
-    Inner::Count(roots(p, n, lower, upper, out))
+    let s = spread(p);
+    Inner::Count(roots(&s, n, lower, upper, out))
 }

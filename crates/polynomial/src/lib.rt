@@ -6,6 +6,7 @@ pub mod bisection;
 pub mod compensated;
 pub mod curve;
 pub mod cuts;
+mod flat;
 pub mod inner;
 pub mod norm;
 pub mod operation;

@@ -1,12 +1,10 @@
 // The operation Roots of document 01, with its refusals in 01's order.
 ghost use mathlib.Core.Path.{_≡_};
 ghost use mathlib.Core.List.{_++_};
-ghost use Prim.Native.Nat.{_+_, _≤_};
+ghost use Prim.Native.Nat.{_≤_};
 ghost use lib.ListN.{length, take, drop};
 ghost use Rattle.polynomial.specs.Operation as Operation;
-ghost use Rattle.polynomial.specs.Polynomial as Of;
 ghost use Rattle.polynomial.specs.Roots as Roots;
-use crate::compensated::Compensated;
 use float::number::abs;
 
 // 2^400.
@@ -56,26 +54,6 @@ fn parts_hold(s: &[f64]) -> bool
     true
 }
 
-// The pairs of s, in the first n places of an array, and zeros behind them.
-fn gather(s: &[f64], n: usize) -> [Compensated; 9]
-    requires { ⌜ (n ≤ 9) × (length (now s) ≡ n + n) ⌝ }
-    ensures { λ r. ⌜ r ≡ Of.nine (Operation.pairs (now (s .entry))) ⌝ }
-{
-    let mut q = [Compensated {
-        high: 0.0,
-        low: 0.0,
-    }; 9];
-    let mut i = 0;
-    while i < n {
-        let at = i + i;
-        let high = s[at];
-        let low = s[at + 1];
-        q[i] = Compensated { high, low };
-        i += 1;
-    }
-    q
-}
-
 // The first `count` numbers of `from`, written to the front of `to`.
 fn copy(from: &[f64], count: usize, to: &mut [f64])
     requires { ⌜ (count ≤ length (now from)) × (count ≤ length (now to)) ⌝ }
@@ -109,12 +87,11 @@ pub fn roots(coefficients: &[f64], lower: f64, upper: f64, result: &mut [f64]) -
         return Answer::BadPart;
     }
     let n = len / 2;
-    let p = gather(coefficients, n);
     if 1 << n <= result.len() {
-        return Answer::Count(crate::roots::roots(p, n, lower, upper, result));
+        return Answer::Count(crate::roots::roots(coefficients, n, lower, upper, result));
     }
     let mut found = [0.0; 512];
-    let count = crate::roots::roots(p, n, lower, upper, &mut found);
+    let count = crate::roots::roots(coefficients, n, lower, upper, &mut found);
     if result.len() < count {
         return Answer::ShortResult;
     }

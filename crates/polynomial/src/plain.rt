@@ -2,10 +2,11 @@
 // coefficients' magnitudes, it has the sign of the compensated value, which is not near zero then.
 ghost use mathlib.Core.Path.{_≡_};
 ghost use mathlib.Core.Bool.{true};
-ghost use Prim.Native.Nat.{_≤_};
-ghost use lib.ListN.{take};
+ghost use Prim.Native.Nat.{_+_, _≤_};
+ghost use lib.ListN.{length, take};
+ghost use Rattle.polynomial.specs.Operation.{pairs};
 ghost use Rattle.polynomial.specs.Promises.Plain.{both, Tidy, AllTidy, Tells, sign-if-sure};
-use crate::compensated::Compensated;
+use crate::flat::pair_at;
 use float::number::abs;
 
 // 2^500, 2^52 and 2^-1010. MARGIN is 2^-43: how far from zero a plain value has to be, as a part of
@@ -30,14 +31,14 @@ fn is_tidy(high: f64, low: f64) -> bool
 }
 
 // Whether each of the first n coefficients has a small residual and is not large.
-pub(crate) fn all_tidy(p: [Compensated; 9], n: usize) -> bool
-    requires { ⌜ n ≤ 9 ⌝ }
-    ensures { λ r. ⌜ (r ≡ true → AllTidy (take n p)) ⌝ }
+pub(crate) fn all_tidy(p: &[f64], n: usize) -> bool
+    requires { ⌜ (n ≤ 9) × (n + n ≤ length (now p)) ⌝ }
+    ensures { λ r. ⌜ (r ≡ true → AllTidy (take n (pairs (now (p .entry))))) ⌝ }
 {
     let mut i = n;
     while 0 < i {
         i -= 1;
-        let c = p[i];
+        let c = pair_at(p, i);
         if !is_tidy(c.high, c.low) {
             return false;
         }
@@ -66,9 +67,9 @@ fn sign_of(size: f64, v: f64, scale: f64) -> f64
 
 // The sign at x of the first n coefficients' value, 1.0 or -1.0, or 0.0 where plain arithmetic does
 // not tell it.
-pub(crate) fn plain_sign(p: [Compensated; 9], n: usize, x: f64) -> f64
-    requires { ⌜ (n ≤ 9) × AllTidy (take n p) ⌝ }
-    ensures { λ r. ⌜ Tells r (take n p) x ⌝ }
+pub(crate) fn plain_sign(p: &[f64], n: usize, x: f64) -> f64
+    requires { ⌜ (n ≤ 9) × AllTidy (take n (pairs (now p))) × (n + n ≤ length (now p)) ⌝ }
+    ensures { λ r. ⌜ Tells r (take n (pairs (now (p .entry)))) x ⌝ }
 {
     let size = abs(x);
     let mut sum = 0.0;
@@ -76,7 +77,7 @@ pub(crate) fn plain_sign(p: [Compensated; 9], n: usize, x: f64) -> f64
     let mut i = n;
     while 0 < i {
         i -= 1;
-        let c = p[i];
+        let c = pair_at(p, i);
         let high = c.high;
         sum = sum * x + high;
         scale = scale * size + abs(high);

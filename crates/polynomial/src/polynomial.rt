@@ -2,10 +2,12 @@
 // coefficients, the constant term first: those that count stand in the first places of an array.
 ghost use mathlib.Core.Path.{_≡_};
 ghost use Prim.Native.Nat.{_+_, _-_, _≤_, _<_};
-ghost use lib.ListN.{take};
+ghost use lib.ListN.{length, take};
+ghost use Rattle.polynomial.specs.Operation.{pairs};
 ghost use Rattle.polynomial.specs.Polynomial as Of;
 ghost use Rattle.polynomial.specs.Promises.Inside.{Known};
 use crate::compensated::Compensated;
+use crate::flat::pair_at;
 use float::number::abs;
 use float::number::is_finite;
 use float::product_error::halved_operand;
@@ -15,16 +17,16 @@ use float::product_error::in_range;
 const ROUNDOFF: f64 = 6.310887241768095e-30;
 
 // The value at x of the first n coefficients, by compensated Horner arithmetic.
-pub(crate) fn evaluate(p: [Compensated; 9], n: usize, x: f64) -> f64
-    requires { ⌜ n ≤ 9 ⌝ }
-    ensures { λ r. ⌜ r ≡ Of.evaluate (take n p) x ⌝ }
+pub(crate) fn evaluate(p: &[f64], n: usize, x: f64) -> f64
+    requires { ⌜ (n ≤ 9) × (n + n ≤ length (now p)) ⌝ }
+    ensures { λ r. ⌜ r ≡ Of.evaluate (take n (pairs (now (p .entry)))) x ⌝ }
 {
     let point = halved_operand(x);
     let mut sum = Compensated::from(0.0);
     let mut i = n;
     while 0 < i {
         i -= 1;
-        let c = p[i];
+        let c = pair_at(p, i);
         sum = sum.times_by(point).plus(c);
     }
     sum.value()
@@ -38,9 +40,9 @@ pub enum Three {
 
 // The values at x, y and z, worked out side by side; none where Dekker's halves do not serve. The
 // tests stand between the products, so that these are not put into pairs.
-pub(crate) fn evaluate_three(p: [Compensated; 9], n: usize, x: f64, y: f64, z: f64) -> Three
-    requires { ⌜ n ≤ 9 ⌝ }
-    ensures { λ r. ⌜ Known (Of.evaluate (take n p)) x y z r ⌝ }
+pub(crate) fn evaluate_three(p: &[f64], n: usize, x: f64, y: f64, z: f64) -> Three
+    requires { ⌜ (n ≤ 9) × (n + n ≤ length (now p)) ⌝ }
+    ensures { λ r. ⌜ Known (Of.evaluate (take n (pairs (now (p .entry))))) x y z r ⌝ }
 {
     let at_x = halved_operand(x);
     let at_y = halved_operand(y);
@@ -54,7 +56,7 @@ pub(crate) fn evaluate_three(p: [Compensated; 9], n: usize, x: f64, y: f64, z: f
     let mut i = n;
     while 0 < i {
         i -= 1;
-        let c = p[i];
+        let c = pair_at(p, i);
         if !in_range(a.high) {
             return Three::Unknown;
         }
@@ -72,16 +74,16 @@ pub(crate) fn evaluate_three(p: [Compensated; 9], n: usize, x: f64, y: f64, z: f
 }
 
 // The coefficients' magnitudes, added up as the value at x is.
-fn magnitudes(p: [Compensated; 9], n: usize, x: f64) -> f64
-    requires { ⌜ n ≤ 9 ⌝ }
-    ensures { λ r. ⌜ r ≡ Of.magnitudes (take n p) x ⌝ }
+fn magnitudes(p: &[f64], n: usize, x: f64) -> f64
+    requires { ⌜ (n ≤ 9) × (n + n ≤ length (now p)) ⌝ }
+    ensures { λ r. ⌜ r ≡ Of.magnitudes (take n (pairs (now (p .entry)))) x ⌝ }
 {
     let size = abs(x);
     let mut sum = 0.0;
     let mut i = n;
     while 0 < i {
         i -= 1;
-        let c = p[i];
+        let c = pair_at(p, i);
         let high = abs(c.high);
         let low = abs(c.low);
         sum = sum * size + high + low;
@@ -90,21 +92,21 @@ fn magnitudes(p: [Compensated; 9], n: usize, x: f64) -> f64
 }
 
 // Whether v, the value at x, fits a coefficient-scaled roundoff bound.
-pub(crate) fn value_near(p: [Compensated; 9], n: usize, x: f64, v: f64) -> bool
-    requires { ⌜ n ≤ 9 ⌝ }
-    ensures { λ r. ⌜ r ≡ Of.value-near (take n p) x v ⌝ }
+pub(crate) fn value_near(p: &[f64], n: usize, x: f64, v: f64) -> bool
+    requires { ⌜ (n ≤ 9) × (n + n ≤ length (now p)) ⌝ }
+    ensures { λ r. ⌜ r ≡ Of.value-near (take n (pairs (now (p .entry)))) x v ⌝ }
 {
     abs(v) <= ROUNDOFF * magnitudes(p, n, x)
 }
 
 // How many of the first n coefficients are left without the zeros at the end.
-pub(crate) fn trimmed(p: [Compensated; 9], n: usize) -> usize
-    requires { ⌜ n ≤ 9 ⌝ }
-    ensures { λ r. ⌜ (r ≤ n) × (take r p ≡ Of.trim (take n p)) ⌝ }
+pub(crate) fn trimmed(p: &[f64], n: usize) -> usize
+    requires { ⌜ (n ≤ 9) × (n + n ≤ length (now p)) ⌝ }
+    ensures { λ r. ⌜ (r ≤ n) × (take r (pairs (now (p .entry))) ≡ Of.trim (take n (pairs (now (p .entry))))) ⌝ }
 {
     let mut m = n;
     while 0 < m {
-        let c = p[m - 1];
+        let c = pair_at(p, m - 1);
         if !c.is_zero() {
             return m;
         }
@@ -114,13 +116,13 @@ pub(crate) fn trimmed(p: [Compensated; 9], n: usize) -> usize
 }
 
 // Whether each part of the first n coefficients is finite.
-pub(crate) fn all_finite(p: [Compensated; 9], n: usize) -> bool
-    requires { ⌜ n ≤ 9 ⌝ }
-    ensures { λ r. ⌜ r ≡ Of.all-finite (take n p) ⌝ }
+pub(crate) fn all_finite(p: &[f64], n: usize) -> bool
+    requires { ⌜ (n ≤ 9) × (n + n ≤ length (now p)) ⌝ }
+    ensures { λ r. ⌜ r ≡ Of.all-finite (take n (pairs (now (p .entry)))) ⌝ }
 {
     let mut i = 0;
     while i < n {
-        let c = p[i];
+        let c = pair_at(p, i);
         i += 1;
         if !is_finite(c.high) {
             return false;
@@ -133,9 +135,9 @@ pub(crate) fn all_finite(p: [Compensated; 9], n: usize) -> bool
 }
 
 // The derivative of the first n coefficients, in the first n - 1 places, and zeros behind it.
-pub(crate) fn derivative(p: [Compensated; 9], n: usize) -> [Compensated; 9]
-    requires { ⌜ (0 < n) × (n ≤ 9) ⌝ }
-    ensures { λ r. ⌜ r ≡ Of.nine (Of.derivative (take n p)) ⌝ }
+pub(crate) fn derivative(p: &[f64], n: usize) -> [Compensated; 9]
+    requires { ⌜ (0 < n) × (n ≤ 9) × (n + n ≤ length (now p)) ⌝ }
+    ensures { λ r. ⌜ r ≡ Of.nine (Of.derivative (take n (pairs (now (p .entry))))) ⌝ }
 {
     let mut d = [Compensated {
         high: 0.0,
@@ -143,7 +145,7 @@ pub(crate) fn derivative(p: [Compensated; 9], n: usize) -> [Compensated; 9]
     }; 9];
     let mut i = 1;
     while i < n {
-        let c = p[i];
+        let c = pair_at(p, i);
         d[i - 1] = c.times(Compensated::from(i as f64));
         i += 1;
     }

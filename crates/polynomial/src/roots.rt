@@ -5,6 +5,7 @@ ghost use mathlib.Core.Bool.{cond, true};
 ghost use mathlib.Core.List.{_++_};
 ghost use Prim.Native.Nat.{_+_, _-_, _^_, _≤_, _<_};
 ghost use lib.ListN.{length, take, drop};
+ghost use Rattle.polynomial.specs.Operation.{pairs};
 ghost use Rattle.polynomial.specs.Cuts.{cuts, put};
 ghost use Rattle.polynomial.specs.Polynomial as Of;
 ghost use Rattle.polynomial.specs.Roots as Roots;
@@ -15,6 +16,8 @@ use crate::bisection::bisect;
 use crate::compensated::Compensated;
 use crate::cuts::Put;
 use crate::cuts::insert;
+use crate::flat::pair_at;
+use crate::flat::spread;
 use crate::plain::all_tidy;
 use crate::plain::plain_sign;
 use crate::polynomial::all_finite;
@@ -74,11 +77,11 @@ fn quotient(a: Compensated, b: Compensated, lower: f64, upper: f64, out: &mut [f
 }
 
 // Puts x, whose value is v, into the cuts in the first k places of out if it is near zero.
-fn touch(p: [Compensated; 9], n: usize, x: f64, v: f64, out: &mut [f64], k: usize) -> usize
-    requires { ⌜ (n ≤ 9) × (k < length (now out)) ⌝ }
-    ensures { λ r. ⌜ r ≡ length (cond (Of.value-near (take n p) x v) (put x (take k (now (out .entry)))) (take k (now (out .entry)))) ⌝ }
-    ensures { λ r. ⌜ now (out .exit) ≡ cond (Of.value-near (take n p) x v) (put x (take k (now (out .entry)))) (take k (now (out .entry)))
-        ++ drop r (now (out .entry)) ⌝ }
+fn touch(p: &[f64], n: usize, x: f64, v: f64, out: &mut [f64], k: usize) -> usize
+    requires { ⌜ (n ≤ 9) × (k < length (now out)) × (n + n ≤ length (now p)) ⌝ }
+    ensures { λ r. ⌜ r ≡ length (cond (Of.value-near (take n (pairs (now (p .entry)))) x v) (put x (take k (now (out .entry)))) (take k (now (out .entry)))) ⌝ }
+    ensures { λ r. ⌜ now (out .exit) ≡ cond (Of.value-near (take n (pairs (now (p .entry)))) x v) (put x (take k (now (out .entry))))
+        (take k (now (out .entry))) ++ drop r (now (out .entry)) ⌝ }
 {
     if value_near(p, n, x, v) {
         return keep(out, k, x);
@@ -88,10 +91,10 @@ fn touch(p: [Compensated; 9], n: usize, x: f64, v: f64, out: &mut [f64], k: usiz
 
 // Puts the end of the bisection between two points, whose values are u and v, into the cuts in the
 // first k places of out if the values cross zero.
-fn cross(p: [Compensated; 9], n: usize, at: Interval, out: &mut [f64], k: usize) -> usize
-    requires { ⌜ (n ≤ 9) × (k < length (now out)) × Span 2 (at .lo) (at .hi) ⌝ }
-    ensures { λ r. ⌜ r ≡ length (crossed (Of.evaluate (take n p)) at (take k (now (out .entry)))) ⌝ }
-    ensures { λ r. ⌜ now (out .exit) ≡ crossed (Of.evaluate (take n p)) at (take k (now (out .entry))) ++ drop r (now (out .entry)) ⌝ }
+fn cross(p: &[f64], n: usize, at: Interval, out: &mut [f64], k: usize) -> usize
+    requires { ⌜ (n ≤ 9) × (k < length (now out)) × Span 2 (at .lo) (at .hi) × (n + n ≤ length (now p)) ⌝ }
+    ensures { λ r. ⌜ r ≡ length (crossed (Of.evaluate (take n (pairs (now (p .entry))))) at (take k (now (out .entry)))) ⌝ }
+    ensures { λ r. ⌜ now (out .exit) ≡ crossed (Of.evaluate (take n (pairs (now (p .entry))))) at (take k (now (out .entry))) ++ drop r (now (out .entry)) ⌝ }
 {
     if crosses(at.u, at.v) {
         let root = bisect(p, n, at.lo, at.hi, is_sign_positive(at.u));
@@ -108,11 +111,11 @@ pub struct Seen {
 
 // Looks at x, and puts it into the cuts in the first k places of out if the value there is near zero.
 // Where plain arithmetic tells the value's sign, it is not, and the sign stands for it.
-fn look(p: [Compensated; 9], n: usize, tidy: bool, x: f64, out: &mut [f64], k: usize) -> Seen
-    requires { ⌜ (n ≤ 9) × (k < length (now out)) × (tidy ≡ true → AllTidy (take n p)) ⌝ }
-    ensures { λ r. ⌜ Stands (r .v) (Of.evaluate (take n p) x) ⌝ }
-    ensures { λ r. ⌜ r .k ≡ length (touched (take n p) x (take k (now (out .entry)))) ⌝ }
-    ensures { λ r. ⌜ now (out .exit) ≡ touched (take n p) x (take k (now (out .entry))) ++ drop (r .k) (now (out .entry)) ⌝ }
+fn look(p: &[f64], n: usize, tidy: bool, x: f64, out: &mut [f64], k: usize) -> Seen
+    requires { ⌜ (n ≤ 9) × (k < length (now out)) × (tidy ≡ true → AllTidy (take n (pairs (now p)))) × (n + n ≤ length (now p)) ⌝ }
+    ensures { λ r. ⌜ Stands (r .v) (Of.evaluate (take n (pairs (now (p .entry)))) x) ⌝ }
+    ensures { λ r. ⌜ r .k ≡ length (touched (take n (pairs (now (p .entry)))) x (take k (now (out .entry)))) ⌝ }
+    ensures { λ r. ⌜ now (out .exit) ≡ touched (take n (pairs (now (p .entry)))) x (take k (now (out .entry))) ++ drop (r .k) (now (out .entry)) ⌝ }
 {
     if tidy {
         let sign = plain_sign(p, n, x);
@@ -127,13 +130,14 @@ fn look(p: [Compensated; 9], n: usize, tidy: bool, x: f64, out: &mut [f64], k: u
 
 // The points near zero and the ends of the bisections between neighbours, of the first `count`
 // points, as cuts in the first places of out. Each point is looked at once.
-fn scan(p: [Compensated; 9], n: usize, points: &[f64], count: usize, out: &mut [f64]) -> usize
-    requires { ⌜ (n ≤ 9) × (0 < count) × (count ≤ length (now points)) × (count + count ≤ length (now out)) × Ready (take count (now points)) ⌝ }
-    ensures { λ r. ⌜ r ≡ length (cuts (Roots.touches (take n p) (take count (now (points .entry)))
-        ++ Roots.crossings (take n p) (take count (now (points .entry))))) ⌝ }
+fn scan(p: &[f64], n: usize, points: &[f64], count: usize, out: &mut [f64]) -> usize
+    requires { ⌜ (n ≤ 9) × (0 < count) × (count ≤ length (now points)) × (count + count ≤ length (now out)) ×
+        Ready (take count (now points)) × (n + n ≤ length (now p)) ⌝ }
+    ensures { λ r. ⌜ r ≡ length (cuts (Roots.touches (take n (pairs (now (p .entry)))) (take count (now (points .entry)))
+        ++ Roots.crossings (take n (pairs (now (p .entry)))) (take count (now (points .entry))))) ⌝ }
     ensures { λ r. ⌜ now (out .exit) ≡ cuts
-        (Roots.touches (take n p) (take count (now (points .entry))) ++ Roots.crossings (take n p) (take count (now (points .entry))))
-        ++ drop r (now (out .entry)) ⌝ }
+        (Roots.touches (take n (pairs (now (p .entry)))) (take count (now (points .entry)))
+        ++ Roots.crossings (take n (pairs (now (p .entry)))) (take count (now (points .entry)))) ++ drop r (now (out .entry)) ⌝ }
 {
     let tidy = all_tidy(p, n);
     let mut lo = points[0];
@@ -155,10 +159,10 @@ fn scan(p: [Compensated; 9], n: usize, points: &[f64], count: usize, out: &mut [
 }
 
 // The roots of the first n coefficients, in the first places of out. What stands behind them is left.
-pub(crate) fn roots(p: [Compensated; 9], n: usize, lower: f64, upper: f64, out: &mut [f64]) -> usize
-    requires { ⌜ (n ≤ 9) × (2 ^ n ≤ length (now out)) × Span 2 lower upper ⌝ }
-    ensures { λ r. ⌜ (r ≡ length (Roots.roots-at n (take n p) lower upper)) ×
-        (now (out .exit) ≡ Roots.roots-at n (take n p) lower upper ++ drop r (now (out .entry))) ⌝ }
+pub(crate) fn roots(p: &[f64], n: usize, lower: f64, upper: f64, out: &mut [f64]) -> usize
+    requires { ⌜ (n ≤ 9) × (2 ^ n ≤ length (now out)) × Span 2 lower upper × (n + n ≤ length (now p)) ⌝ }
+    ensures { λ r. ⌜ (r ≡ length (Roots.roots-at n (take n (pairs (now (p .entry)))) lower upper)) ×
+        (now (out .exit) ≡ Roots.roots-at n (take n (pairs (now (p .entry)))) lower upper ++ drop r (now (out .entry))) ⌝ }
 {
     let m = trimmed(p, n);
     if m < 2 {
@@ -168,8 +172,8 @@ pub(crate) fn roots(p: [Compensated; 9], n: usize, lower: f64, upper: f64, out: 
         return 0;
     }
     if m == 2 {
-        let a = p[0];
-        let b = p[1];
+        let a = pair_at(p, 0);
+        let b = pair_at(p, 1);
         return quotient(a, b, lower, upper, out);
     }
     if m <= 5 {
@@ -185,20 +189,15 @@ pub(crate) fn roots(p: [Compensated; 9], n: usize, lower: f64, upper: f64, out: 
 
 // The bounds with the derivative's roots between them, sorted, each once, in the first places of
 // points. What stands behind them is left.
-pub(crate) fn partitions(
-    p: [Compensated; 9],
-    n: usize,
-    lower: f64,
-    upper: f64,
-    points: &mut [f64],
-) -> usize
-    requires { ⌜ (2 < n) × (n ≤ 9) × (2 ^ n ≤ length (now points)) × Span 2 lower upper ⌝ }
-    ensures { λ r. ⌜ (r ≡ length (Roots.partitions lower upper (Roots.roots-at (n - 1) (Of.derivative (take n p)) lower upper))) ×
-        (now (points .exit) ≡ Roots.partitions lower upper (Roots.roots-at (n - 1) (Of.derivative (take n p)) lower upper)
-        ++ drop r (now (points .entry))) ⌝ }
+pub(crate) fn partitions(p: &[f64], n: usize, lower: f64, upper: f64, points: &mut [f64]) -> usize
+    requires { ⌜ (2 < n) × (n ≤ 9) × (2 ^ n ≤ length (now points)) × Span 2 lower upper × (n + n ≤ length (now p)) ⌝ }
+    ensures { λ r. ⌜ (r ≡ length (Roots.partitions lower upper
+        (Roots.roots-at (n - 1) (Of.derivative (take n (pairs (now (p .entry))))) lower upper))) ×
+        (now (points .exit) ≡ Roots.partitions lower upper
+        (Roots.roots-at (n - 1) (Of.derivative (take n (pairs (now (p .entry))))) lower upper) ++ drop r (now (points .entry))) ⌝ }
 {
-    let d = derivative(p, n);
-    let k = roots(d, n - 1, lower, upper, points);
+    let d = spread(derivative(p, n));
+    let k = roots(&d, n - 1, lower, upper, points);
     let with_lower = keep(points, k, lower);
     keep(points, with_lower, upper)
 }

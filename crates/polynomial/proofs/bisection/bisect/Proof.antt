@@ -10,8 +10,8 @@ all-tidy-requires c κs = search needs
 
 roughly-requires : tie.Need-roughly-requires
 roughly-requires c κs =
-    let s = c .before .before in
-    (s .pre .0, s .pre .1, c .before .all-tidy .ensures (c .if1 .taken))
+    let s = c .before .before .before in
+    (s .pre .0, s .pre .1, c .before .all-tidy .ensures (c .if1 .taken), s .pre .2)
 
 enum-known-left : tie.Need-enum-known-left
 enum-known-left c = search needs
@@ -24,8 +24,11 @@ enum-known-left-2 c = search needs
 
 finely-requires : tie.Need-finely-requires
 finely-requires c κs =
-    let r = c .before .before .before in
-    (r .before .before .before .pre .0, subst (Rest _ _ _ _) (c .before .left2 .given .1) (r .roughly .ensures) .0)
+    let r = c .before .before .before in (
+      r .before .before .before .before .pre .0,
+      subst (Rest _ _ _ _) (c .before .left2 .given .1) (r .roughly .ensures) .0,
+      r .before .before .before .before .pre .2,
+    )
 
 returns-2 : tie.Need-returns-2
 returns-2 c =

@@ -6,6 +6,7 @@ use lib.ListN.{take}
 use borrow.Author.Needs.{needs}
 use Rattle.float.specs.Promises.Order.{width}
 use Rattle.float.specs.Promises.Order.{Span}
+use Rattle.polynomial.specs.Operation.{pairs}
 use Rattle.polynomial.specs.Polynomial.{evaluate}
 use Rattle.polynomial.specs.Roots.{bisected}
 use Rattle.polynomial.specs.Promises.Inside.{Leaves}
@@ -13,13 +14,14 @@ use Rattle.polynomial.proofs.bisection.finely.Statement.{statement}
 use Rattle.polynomial.proofs.bisection.finely.Tie as tie
 
 abbrev Inv-loop : tie.InvT-loop
-Inv-loop p n from to positive lo₀ hi₀ lo hi = Span 2 lo hi × (bisected (evaluate (take n p)) positive lo hi ≡ bisected (evaluate (take n p)) positive from to)
+Inv-loop p n from to positive lo₀ hi₀ lo hi =
+    Span 2 lo hi × (bisected (evaluate (take n (pairs p))) positive lo hi ≡ bisected (evaluate (take n (pairs p))) positive from to)
 
 abbrev μ-loop : tie.MeasureT-loop
 μ-loop p n from to positive lo₀ hi₀ lo hi = width binary64 lo hi
 
 loop-holds : tie.Need-loop-holds Inv-loop μ-loop
-loop-holds c = (c .pre .1, refl)
+loop-holds c = (c .before .pre .1, refl)
 
 narrowed-requires : tie.Need-narrowed-requires Inv-loop μ-loop
 narrowed-requires c κs = search needs

@@ -33,7 +33,7 @@ narrowed-once-requires c κs = search needs
 returns : tie.Need-returns
 returns c =
     let m = c .before .before .before .before .before .before .before in
-    one _ _ _ _ (m .before .pre .1) _ (m .middle .ensures) _ (c .before .evaluate .ensures) _ (c .narrowed-once .ensures)
+    one _ _ _ _ (m .before .before .pre .1) _ (m .middle .ensures) _ (c .before .evaluate .ensures) _ (c .narrowed-once .ensures)
 
 step-at-requires : tie.Need-step-at-requires
 step-at-requires c κs = search needs
@@ -59,7 +59,7 @@ returns-2 c =
     let e = t .before .before .before .before in
     let m = e .before .before .before in
     let k = subst (Known _ _ _ _) (t .before .before .values .given .1) (e .evaluate-three .ensures) in
-    done _ _ _ _ (m .before .pre .1) _ (m .middle .ensures) _ (k .1) _ (t .step-at .ensures) _ (c .before .step .given .1)
+    done _ _ _ _ (m .before .before .pre .1) _ (m .middle .ensures) _ (k .1) _ (t .step-at .ensures) _ (c .before .step .given .1)
 
 returns-3 : tie.Need-returns-3
 returns-3 c =
@@ -67,7 +67,7 @@ returns-3 c =
     let e = t .before .before .before .before in
     let m = e .before .before .before in
     let k = subst (Known _ _ _ _) (t .before .before .values .given .1) (e .evaluate-three .ensures) in
-    upper _ _ _ _ (m .before .pre .1) _ (m .middle .ensures) _ (k .1) _ (t .step-at .ensures) (c .before .enum-told2 .given .1) _
+    upper _ _ _ _ (m .before .before .pre .1) _ (m .middle .ensures) _ (k .1) _ (t .step-at .ensures) (c .before .enum-told2 .given .1) _
     (e .before .middle3 .ensures) _ (k .2) _ (c .narrowed-once2 .ensures)
 
 returns-4 : tie.Need-returns-4
@@ -76,7 +76,7 @@ returns-4 c =
     let e = t .before .before .before .before in
     let m = e .before .before .before in
     let k = subst (Known _ _ _ _) (t .before .before .values .given .1) (e .evaluate-three .ensures) in
-    lower _ _ _ _ (m .before .pre .1) _ (m .middle .ensures) _ (k .1) _ (t .step-at .ensures) (c .before .enum-told3 .given .1) _
+    lower _ _ _ _ (m .before .before .pre .1) _ (m .middle .ensures) _ (k .1) _ (t .step-at .ensures) (c .before .enum-told3 .given .1) _
     (e .before .before .middle2 .ensures) _ (k .0) _ (c .narrowed-once3 .ensures)
 
 pub narrowed-spec : {M : Type 1} → statement M

@@ -6,6 +6,7 @@ use lib.ListN.{take}
 use borrow.Author.Needs.{needs}
 use Rattle.float.specs.Promises.Order.{width}
 use Rattle.float.specs.Promises.Order.{Span}
+use Rattle.polynomial.specs.Operation.{pairs}
 use Rattle.polynomial.specs.Polynomial.{evaluate}
 use Rattle.polynomial.specs.Roots.{bisected}
 use Rattle.polynomial.specs.Promises.Inside.{Leaves}
@@ -14,19 +15,20 @@ use Rattle.polynomial.proofs.bisection.roughly.Statement.{statement}
 use Rattle.polynomial.proofs.bisection.roughly.Tie as tie
 
 abbrev Inv-loop : tie.InvT-loop
-Inv-loop p n from to positive lo₀ hi₀ lo hi = Span 2 lo hi × (bisected (evaluate (take n p)) positive lo hi ≡ bisected (evaluate (take n p)) positive from to)
+Inv-loop p n from to positive lo₀ hi₀ lo hi =
+    Span 2 lo hi × (bisected (evaluate (take n (pairs p))) positive lo hi ≡ bisected (evaluate (take n (pairs p))) positive from to)
 
 abbrev μ-loop : tie.MeasureT-loop
 μ-loop p n from to positive lo₀ hi₀ lo hi = width binary64 lo hi
 
 loop-holds : tie.Need-loop-holds Inv-loop μ-loop
-loop-holds c = (c .pre .1, refl)
+loop-holds c = (c .before .pre .1, refl)
 
 middle-requires : tie.Need-middle-requires Inv-loop μ-loop
 middle-requires c κs = search needs
 
 plain-sign-requires : tie.Need-plain-sign-requires Inv-loop μ-loop
-plain-sign-requires c κs = (c .before .before .pre .0, c .before .before .pre .2)
+plain-sign-requires c κs = let s = c .before .before .before in (s .pre .0, s .pre .2, s .pre .3)
 
 returns : tie.Need-returns Inv-loop μ-loop
 returns c = c .before .before .before .loop .inv
@@ -36,8 +38,9 @@ narrowed-once-requires c κs = search needs
 
 -- what the step leaves
 leaves : (c : tie.After-narrowed-once Inv-loop μ-loop)
-    → Leaves (evaluate (take (c .before .before .before .before .before .args .n) (c .before .before .before .before .before .args .p)))
-    (c .before .before .before .before .before .args .positive) (c .before .before .before .before .loop .lo)
+    → Leaves (evaluate (take (c .before .before .before .before .before .before .args .n)
+    (pairs (c .before .before .before .before .before .before .args .p .now))))
+    (c .before .before .before .before .before .before .args .positive) (c .before .before .before .before .loop .lo)
     (c .before .before .before .before .loop .hi) (c .narrowed-once .result)
 unfolding ofBits
 leaves c =

@@ -2,11 +2,14 @@
 use Prim.Native.Nat.{_^_, _≤_}
 use native.Mathlib.Nat.{le-trans}
 use native.Mathlib.Omega.{arith}
-use mathlib.Core.Path.{sym, _∙_}
+use mathlib.Core.Path.{sym, ap, _∙_}
+use mathlib.Core.List.{List}
 use lib.Pow.{pow-mono}
 use lib.ListN.{take}
 use borrow.Author.Needs.{needs}
 use borrow.Author.Tests.{not-true, not-false}
+use Rattle.polynomial.specs.Roots.{roots-at}
+use Rattle.polynomial.specs.declared.compensated.Compensated.{Compensated}
 use Rattle.polynomial.specs.Laws.Degree.{roots-enough}
 use Rattle.polynomial.specs.Laws.Bounds.{bounds-span}
 use Rattle.polynomial.proofs.roots.Cycle.{take-short}
@@ -36,14 +39,25 @@ returns-2 c =
     bad-parts (take (a .n) (a .p)) (a .lower) (a .upper) (a .out .now) (sym (b .bounds-hold .ensures) ∙ not-false _ (i .if1 .left))
     (sym (h .all-hold .ensures) ∙ not-true _ (c .if2 .taken))
 
+spread-requires : tie.Need-spread-requires
+spread-requires c κs = search needs
+
+slice-aggregate-roots : tie.Need-slice-aggregate-roots
+slice-aggregate-roots c = search needs
+
 roots-requires : tie.Need-roots-requires
 roots-requires c κs =
-    let i = c .before .before .before in
+    let i = c .before .before .before .before .before in
     let b = i .before in
     let s = b .before .before in
     let a = s .args in
-    let p : 2 ^ a .n ≤ 2 ^ 9 = pow-mono {i = a .n} {j = 9} (s .pre .0) in
-    (s .pre .0, omega arith, bounds-span (a .lower) (a .upper) (search needs) (search needs) (sym (b .bounds-hold .ensures) ∙ not-false _ (i .if1 .left)))
+    let p : 2 ^ a .n ≤ 2 ^ 9 = pow-mono {i = a .n} {j = 9} (s .pre .0) in (
+      s .pre .0,
+      omega arith,
+      bounds-span (a .lower) (a .upper) (search needs) (search needs)
+          (sym (b .bounds-hold .ensures) ∙ not-false _ (i .if1 .left)),
+      omega (arith, c .before .before .spread .ok, s .pre .0),
+    )
 
 same-length : tie.Need-same-length
 same-length c = search needs
@@ -51,7 +65,7 @@ same-length c = search needs
 returns-3 : tie.Need-returns-3
 returns-3 c =
     let r = c .before .before in
-    let j = r .before .before in
+    let j = r .before .before .before .before in
     let h = j .before in
     let i = h .before in
     let b = i .before in
@@ -61,7 +75,8 @@ returns-3 c =
     let e = roots-enough (a .lower) (a .upper) (a .n) (take (a .n) (a .p)) t in
     counted (take (a .n) (a .p)) (a .lower) (a .upper) (a .out .now) (r .roots .result) _ (le-trans t (s .pre .0))
     (sym (b .bounds-hold .ensures) ∙ not-false _ (i .if1 .left)) (sym (h .all-hold .ensures) ∙ not-false _ (j .if2 .left))
-    (front-same _ _ _ _ (r .roots .ensures) _ (sym e))
+    (front-same _ _ _ _ (r .roots .ensures) _ (sym (ap (λ (q : List Compensated). roots-at (a .n) (take (a .n) q) (a .lower) (a .upper))
+    (r .before .before .before .spread .ensures) ∙ e)))
 
 pub inner-roots-spec : {M : Type 1} → statement M
 inner-roots-spec =
@@ -71,6 +86,8 @@ inner-roots-spec =
     returns
     all-hold-requires
     returns-2
+    spread-requires
+    slice-aggregate-roots
     roots-requires
     same-length
     returns-3)

@@ -19,7 +19,7 @@ use Rattle.polynomial.specs.Laws.Degree.{roots-enough}
 use Rattle.polynomial.specs.Laws.Enclosed.{roots-most}
 use Rattle.polynomial.specs.Roots as Roots
 use Rattle.polynomial.proofs.roots.Kept.{front-take}
-use Rattle.polynomial.proofs.operation.Pairs.{pairs-front}
+use Rattle.polynomial.proofs.operation.Pairs.{pairs-all}
 use Rattle.polynomial.proofs.operation.Answers.{odd-length, too-long, bad-bounds, bad-part, short-result, counted}
 use Rattle.polynomial.proofs.operation.roots.Statement.{statement}
 use Rattle.polynomial.proofs.operation.roots.Tie as tie
@@ -54,9 +54,9 @@ module _ (c : tie.Else4) where
   ok-parts = sym (c .before .parts-hold .ensures) ∙ not-false _ (c .if4 .left)
 
 -- for the coefficients as the finder gets them, its list is the definition's, and there are few
-module _ (g : tie.After-gather) where
+module _ (g : tie.Else4) where
   abbrev u : tie.Else4
-  u = g .before
+  u = g
 
   abbrev n : ℕ
   n = length (s u) / 2
@@ -65,7 +65,7 @@ module _ (g : tie.After-gather) where
   at-most-nine = let h = short u in omega arith
 
   abbrev q : List Compensated
-  q = g .gather .result
+  q = pairs (s u)
 
   abbrev listed : List Float
   listed = Roots.roots-at n (take n q) (lower u) (upper u)
@@ -79,7 +79,7 @@ module _ (g : tie.After-gather) where
   all : listed ≡ found
   all =
       roots-enough (lower u) (upper u) n (take n q) few-coefficients
-      ∙ ap (λ (l : List Compensated). Roots.roots l (lower u) (upper u)) (pairs-front q (s u) n (omega (arith, even u)) (g .gather .ensures))
+      ∙ ap (λ (l : List Compensated). Roots.roots l (lower u) (upper u)) (pairs-all (s u) n (omega (arith, even u)))
 
   module _ (k : ℕ) (e : k ≡ length listed) where
     count : k ≡ length found
@@ -127,9 +127,6 @@ returns-4 c =
       refl,
     )
 
-gather-requires : tie.Need-gather-requires
-gather-requires c κs = search needs
-
 shl-if5 : tie.Need-shl-if5
 shl-if5 c = let h = at-most-nine c in omega arith
 
@@ -137,7 +134,7 @@ roots-requires : tie.Need-roots-requires
 roots-requires c κs =
     let i = c .before in
     let g = i .before in
-    (at-most-nine g, enough-room (n g) (length (places (u g))) (at-most-nine g) (i .if5 .taken), in-span (u g))
+    (at-most-nine g, enough-room (n g) (length (places (u g))) (at-most-nine g) (i .if5 .taken), in-span (u g), omega arith)
 
 same-length : tie.Need-same-length
 same-length c = search needs
@@ -162,7 +159,7 @@ roots-requires-2 : tie.Need-roots-requires-2
 roots-requires-2 c κs =
     let g = c .before .before in
     let w : 2 ^ n g ≤ 2 ^ 9 = pow-mono {i = n g} {j = 9} (at-most-nine g) in
-    (at-most-nine g, omega arith, in-span (u g))
+    (at-most-nine g, omega arith, in-span (u g), omega arith)
 
 returns-6 : tie.Need-returns-6
 returns-6 c =
@@ -211,7 +208,6 @@ roots-spec =
     returns-3
     parts-hold-requires
     returns-4
-    gather-requires
     shl-if5
     roots-requires
     same-length

@@ -1,13 +1,16 @@
 -- `polynomial::polynomial::all_finite` meets its contract. The loop's invariant: what is left decides.
 use Prim.Native.Nat.{_-_, _≤_}
 use native.Mathlib.Omega.{arith}
-use mathlib.Core.Path.{_≡_, refl, sym, _∙_}
-use lib.ListN.{length, take}
+use mathlib.Core.Path.{_≡_, refl, sym, ap, _∙_}
+use lib.ListN.{take}
 use lib.Seq.{slice}
 use lib.Ieee.Scale.{finite}
 use borrow.Author.Tests.{not-true, not-false}
 use borrow.Author.Needs.{needs}
-use Rattle.polynomial.specs.Polynomial.{all-finite}
+use Rattle.polynomial.specs.Polynomial.{zero-pair, all-finite}
+use Rattle.polynomial.specs.declared.compensated.Compensated.{Compensated}
+use Rattle.polynomial.specs.Operation.{pairs}
+use Rattle.polynomial.proofs.flat.Parts.{enough}
 use Rattle.polynomial.proofs.polynomial.Every.{Every, every-on, every-end, bad-high, bad-low}
 use Rattle.polynomial.proofs.polynomial.all_finite.Statement.{statement}
 use Rattle.polynomial.proofs.polynomial.all_finite.Tie as tie
@@ -16,20 +19,24 @@ every : Every finite all-finite
 unfolding all-finite
 every = record { none = refl; more = λ c cs. refl }
 
+-- a coefficient's parts
+high : {c d : Compensated} → c ≡ d → finite (d .high) ≡ finite (c .high)
+high e = ap (λ (y : Compensated). finite (y .high)) (sym e)
+
+low : {c d : Compensated} → c ≡ d → finite (d .low) ≡ finite (c .low)
+low e = ap (λ (y : Compensated). finite (y .low)) (sym e)
+
 abbrev Inv-loop : tie.InvT-loop
-Inv-loop n p i₀ i = (i ≤ n) × (length p ≡ 9) × (all-finite (take n p) ≡ all-finite (slice i n p))
+Inv-loop p n i₀ i = (i ≤ n) × (all-finite (take n (pairs p)) ≡ all-finite (slice i n (pairs p)))
 
 abbrev μ-loop : tie.MeasureT-loop
-μ-loop n p i₀ i = n - i
+μ-loop p n i₀ i = n - i
 
 loop-holds : tie.Need-loop-holds Inv-loop μ-loop
-loop-holds c = (search needs, search needs, refl)
+loop-holds c = (search needs, refl)
 
-mul-c : tie.Need-mul-c Inv-loop μ-loop
-mul-c c = search needs
-
-array-copy-out-c : tie.Need-array-copy-out-c Inv-loop μ-loop
-array-copy-out-c c = search needs
+pair-at-requires : tie.Need-pair-at-requires Inv-loop μ-loop
+pair-at-requires c κs = omega arith
 
 add-i : tie.Need-add-i Inv-loop μ-loop
 add-i c = search needs
@@ -40,9 +47,10 @@ is-finite-requires c κs = search needs
 returns : tie.Need-returns Inv-loop μ-loop
 returns c =
     let l = c .before .before .before .before in
-    let a = l .before .args in
-    sym (l .loop .inv .2 ∙ bad-high every (a .t1) (a .n) (l .loop .i) _ (search needs) (omega arith)
-    (sym (c .before .is-finite .ensures) ∙ not-true _ (c .if1 .taken)))
+    let a = l .before .before .args in
+    sym (l .loop .inv .1 ∙ bad-high every (pairs (a .p .now)) (a .n) (l .loop .i) zero-pair (search needs)
+    (enough (a .n) (a .p .now) (l .before .before .pre .1))
+    (high (c .before .before .pair-at .ensures) ∙ sym (c .before .is-finite .ensures) ∙ not-true _ (c .if1 .taken)))
 
 is-finite-requires-2 : tie.Need-is-finite-requires-2 Inv-loop μ-loop
 is-finite-requires-2 c κs = search needs
@@ -51,9 +59,11 @@ returns-2 : tie.Need-returns-2 Inv-loop μ-loop
 returns-2 c =
     let e = c .before .before in
     let l = e .before .before .before .before in
-    let a = l .before .args in
-    sym (l .loop .inv .2 ∙ bad-low every (a .t1) (a .n) (l .loop .i) _ (search needs) (omega arith)
-    (sym (e .before .is-finite .ensures) ∙ not-false _ (e .if1 .left)) (sym (c .before .is-finite2 .ensures) ∙ not-true _ (c .if2 .taken)))
+    let a = l .before .before .args in
+    sym (l .loop .inv .1 ∙ bad-low every (pairs (a .p .now)) (a .n) (l .loop .i) zero-pair (search needs)
+    (enough (a .n) (a .p .now) (l .before .before .pre .1))
+    (high (e .before .before .pair-at .ensures) ∙ sym (e .before .is-finite .ensures) ∙ not-false _ (e .if1 .left))
+    (low (e .before .before .pair-at .ensures) ∙ sym (c .before .is-finite2 .ensures) ∙ not-true _ (c .if2 .taken)))
 
 loop-less : tie.Need-loop-less Inv-loop μ-loop
 loop-less c = search needs
@@ -62,18 +72,18 @@ loop-again : tie.Need-loop-again Inv-loop μ-loop
 loop-again c =
     let e = c .before .before in
     let l = e .before .before .before .before in
-    let a = l .before .args in (
+    let a = l .before .before .args in (
       search needs,
-      l .loop .inv .1,
-      l .loop .inv .2 ∙ every-on every (a .t1) (a .n) (l .loop .i) _ (search needs) (omega arith)
-          (sym (e .before .is-finite .ensures) ∙ not-false _ (e .if1 .left)) (sym (c .before .is-finite2 .ensures) ∙ not-false _ (c .if2 .left)),
+      l .loop .inv .1 ∙ every-on every (pairs (a .p .now)) (a .n) (l .loop .i) zero-pair (search needs) (enough (a .n) (a .p .now) (l .before .before .pre .1))
+          (high (e .before .before .pair-at .ensures) ∙ sym (e .before .is-finite .ensures) ∙ not-false _ (e .if1 .left))
+          (low (e .before .before .pair-at .ensures) ∙ sym (c .before .is-finite2 .ensures) ∙ not-false _ (c .if2 .left)),
     )
 
 returns-3 : tie.Need-returns-3 Inv-loop μ-loop
 returns-3 c =
     let l = c .before in
-    let a = l .before .args in
-    sym (l .loop .inv .2 ∙ every-end every (a .t1) (a .n) (l .loop .i) (search needs) (search needs))
+    let a = l .before .before .args in
+    sym (l .loop .inv .1 ∙ every-end every (pairs (a .p .now)) (a .n) (l .loop .i) (search needs) (search needs))
 
 pub all-finite-spec : {M : Type 1} → statement M
 all-finite-spec =
@@ -82,8 +92,7 @@ all-finite-spec =
     Inv-loop
     μ-loop
     loop-holds
-    mul-c
-    array-copy-out-c
+    pair-at-requires
     add-i
     is-finite-requires
     returns

@@ -2,22 +2,23 @@
 use Prim.Native.Nat.{_≤_}
 use native.Mathlib.Omega.{arith}
 use mathlib.Core.Path.{_≡_, ap, _∙_}
-use lib.ListN.{length}
 use lib.Seq.{slice}
 use borrow.Author.Needs.{needs}
 use Rattle.float.specs.Laws.Operand.{whole-of, halved-whole}
 use Rattle.float.specs.Laws.Zero.{zero-bits}
-use Rattle.polynomial.specs.Compensated.{from, value}
-use Rattle.polynomial.specs.Polynomial.{horner, evaluate}
+use Rattle.polynomial.specs.Compensated.{from, plus, value}
+use Rattle.polynomial.specs.Polynomial.{zero-pair, horner, evaluate}
+use Rattle.polynomial.specs.Operation.{pairs}
+use Rattle.polynomial.proofs.flat.Parts.{enough}
 use Rattle.polynomial.proofs.polynomial.Horner.{horner-none, horner-more, horner-all}
 use Rattle.polynomial.proofs.polynomial.evaluate.Statement.{statement}
 use Rattle.polynomial.proofs.polynomial.evaluate.Tie as tie
 
 abbrev Inv-loop : tie.InvT-loop
-Inv-loop n x p point sum₀ i₀ sum i = (i ≤ n) × (length p ≡ 9) × (sum ≡ horner (slice i n p) x)
+Inv-loop p n x point sum₀ i₀ sum i = (i ≤ n) × (sum ≡ horner (slice i n (pairs p)) x)
 
 abbrev μ-loop : tie.MeasureT-loop
-μ-loop n x p point sum₀ i₀ sum i = i
+μ-loop p n x point sum₀ i₀ sum i = i
 
 halved-operand-requires : tie.Need-halved-operand-requires Inv-loop μ-loop
 halved-operand-requires c κs = search needs
@@ -27,20 +28,18 @@ from-requires c κs = search needs
 
 loop-holds : tie.Need-loop-holds Inv-loop μ-loop
 loop-holds c =
-    let a = c .before .before .args in
-    (search needs, search needs, c .from .ensures ∙ ap from zero-bits ∙ horner-none (a .t1) (a .n) (a .x))
+    let a = c .before .before .before .args in
+    (search needs, c .from .ensures ∙ ap from zero-bits ∙ horner-none (pairs (a .p .now)) (a .n) (a .x))
 
 sub-i : tie.Need-sub-i Inv-loop μ-loop
 sub-i c = search needs
 
-mul-c : tie.Need-mul-c Inv-loop μ-loop
-mul-c c = search needs
-
-array-copy-out-c : tie.Need-array-copy-out-c Inv-loop μ-loop
-array-copy-out-c c = search needs
+pair-at-requires : tie.Need-pair-at-requires Inv-loop μ-loop
+pair-at-requires c κs = omega arith
 
 times-by-requires : tie.Need-times-by-requires Inv-loop μ-loop
-times-by-requires c κs = let o = c .before .before .before .before in halved-whole (o .halved-operand .result) (o .before .args .x) (o .halved-operand .ensures)
+times-by-requires c κs = let o = c .before .before .before .before in halved-whole (o .halved-operand .result) (o .before .before .args .x)
+    (o .halved-operand .ensures)
 
 plus-requires : tie.Need-plus-requires Inv-loop μ-loop
 plus-requires c κs = search needs
@@ -52,12 +51,13 @@ loop-again : tie.Need-loop-again Inv-loop μ-loop
 loop-again c =
     let l = c .before .before .before .before in
     let o = l .before .before in
-    let a = o .before .args in (
+    let s = o .before .before in
+    let a = s .args in (
       search needs,
-      l .loop .inv .1,
-      horner-more (a .t1) (a .n) (a .x) (l .loop .i) _ (search needs) (search needs) (omega arith) (l .loop .sum)
-          (from (o .halved-operand .result .whole)) (c .before .times-by .result) (c .plus .result) (l .loop .inv .2)
-          (ap from (whole-of (o .halved-operand .result) (a .x) (o .halved-operand .ensures))) (c .before .times-by .ensures) (c .plus .ensures),
+      horner-more (pairs (a .p .now)) (a .n) (a .x) (l .loop .i) zero-pair (search needs) (search needs) (enough (a .n) (a .p .now) (s .pre .1))
+          (l .loop .sum) (from (o .halved-operand .result .whole)) (c .before .times-by .result) (c .plus .result) (l .loop .inv .1)
+          (ap from (whole-of (o .halved-operand .result) (a .x) (o .halved-operand .ensures))) (c .before .times-by .ensures)
+          (c .plus .ensures ∙ ap (plus (c .before .times-by .result)) (c .before .before .pair-at .ensures)),
     )
 
 value-requires : tie.Need-value-requires Inv-loop μ-loop
@@ -67,8 +67,8 @@ returns : tie.Need-returns Inv-loop μ-loop
 unfolding evaluate
 returns c =
     let l = c .before .before in
-    let a = l .before .before .before .args in
-    c .value .ensures ∙ ap value (l .loop .inv .2 ∙ horner-all (a .t1) (a .n) (a .x) (l .loop .i) (c .before .loop-test .left))
+    let a = l .before .before .before .before .args in
+    c .value .ensures ∙ ap value (l .loop .inv .1 ∙ horner-all (pairs (a .p .now)) (a .n) (a .x) (l .loop .i) (c .before .loop-test .left))
 
 pub evaluate-spec : {M : Type 1} → statement M
 evaluate-spec =
@@ -80,8 +80,7 @@ evaluate-spec =
     from-requires
     loop-holds
     sub-i
-    mul-c
-    array-copy-out-c
+    pair-at-requires
     times-by-requires
     plus-requires
     loop-less

@@ -3,25 +3,26 @@ use Prim.Native.Nat.{_≤_}
 use native.Mathlib.Omega.{arith}
 use mathlib.Core.Path.{_≡_, sym, ap, _∙_}
 use mathlib.Core.Bool.{true, _&&_}
-use lib.ListN.{length}
 use lib.Seq.{slice}
 use borrow.Author.Tests.{not-false}
 use borrow.Author.Needs.{needs}
 use Rattle.float.specs.Laws.Operand.{whole-of, halved-whole}
 use Rattle.float.specs.Laws.Tests.{and-left, and-right}
 use Rattle.float.specs.Laws.Zero.{zero-bits}
-use Rattle.polynomial.specs.Compensated.{from, value}
-use Rattle.polynomial.specs.Polynomial.{horner, evaluate}
+use Rattle.polynomial.specs.Compensated.{from, plus, value}
+use Rattle.polynomial.specs.Polynomial.{zero-pair, horner, evaluate}
+use Rattle.polynomial.specs.Operation.{pairs}
+use Rattle.polynomial.proofs.flat.Parts.{enough}
 use Rattle.polynomial.proofs.polynomial.Horner.{horner-none, horner-more, horner-all}
 use Rattle.polynomial.proofs.polynomial.evaluate_three.Statement.{statement}
 use Rattle.polynomial.proofs.polynomial.evaluate_three.Tie as tie
 
 abbrev Inv-loop : tie.InvT-loop
-Inv-loop n x y z p at-x at-y at-z a₀ b₀ d₀ i₀ a b d i = (i ≤ n) × (length p ≡ 9) × (a ≡ horner (slice i n p) x) × (b ≡ horner (slice i n p) y) ×
-    (d ≡ horner (slice i n p) z)
+Inv-loop p n x y z at-x at-y at-z a₀ b₀ d₀ i₀ a b d i =
+    (i ≤ n) × (a ≡ horner (slice i n (pairs p)) x) × (b ≡ horner (slice i n (pairs p)) y) × (d ≡ horner (slice i n (pairs p)) z)
 
 abbrev μ-loop : tie.MeasureT-loop
-μ-loop n x y z p at-x at-y at-z a₀ b₀ d₀ i₀ a b d i = i
+μ-loop p n x y z at-x at-y at-z a₀ b₀ d₀ i₀ a b d i = i
 
 -- the halves serve all three points
 fine : (e : tie.Else1 Inv-loop μ-loop)
@@ -54,18 +55,19 @@ from-requires c κs = search needs
 
 loop-holds : tie.Need-loop-holds Inv-loop μ-loop
 loop-holds c =
-    let s = c .before .before .before .before .before .before .before .before .args in
-    let e = c .from .ensures ∙ ap from zero-bits in
-    (search needs, search needs, e ∙ horner-none (s .t1) (s .n) (s .x), e ∙ horner-none (s .t1) (s .n) (s .y), e ∙ horner-none (s .t1) (s .n) (s .z))
+    let s = c .before .before .before .before .before .before .before .before .before .args in
+    let e = c .from .ensures ∙ ap from zero-bits in (
+      search needs,
+      e ∙ horner-none (pairs (s .p .now)) (s .n) (s .x),
+      e ∙ horner-none (pairs (s .p .now)) (s .n) (s .y),
+      e ∙ horner-none (pairs (s .p .now)) (s .n) (s .z),
+    )
 
 sub-i : tie.Need-sub-i Inv-loop μ-loop
 sub-i c = search needs
 
-mul-c : tie.Need-mul-c Inv-loop μ-loop
-mul-c c = search needs
-
-array-copy-out-c : tie.Need-array-copy-out-c Inv-loop μ-loop
-array-copy-out-c c = search needs
+pair-at-requires : tie.Need-pair-at-requires Inv-loop μ-loop
+pair-at-requires c κs = omega arith
 
 in-range-requires : tie.Need-in-range-requires Inv-loop μ-loop
 in-range-requires c κs = search needs
@@ -76,8 +78,9 @@ returns-2 c = tt
 times-by-halves-requires : tie.Need-times-by-halves-requires Inv-loop μ-loop
 times-by-halves-requires c κs =
     let o = c .before .before .before .before .before .before .before .before .before .before .before .before in (
-      halved-whole (o .halved-operand .result) (o .before .args .x) (o .halved-operand .ensures),
-      sym (c .before .in-range .ensures) ∙ not-false _ (c .if2 .left),
+      halved-whole (o .halved-operand .result) (o .before .before .args .x) (o .halved-operand .ensures),
+      sym (c .before .in-range .ensures) ∙
+          not-false _ (c .if2 .left),
       fine (c .before .before .before .before .before .before) .0 .0,
     )
 
@@ -93,9 +96,11 @@ returns-3 c = tt
 times-by-halves-requires-2 : tie.Need-times-by-halves-requires-2 Inv-loop μ-loop
 times-by-halves-requires-2 c κs =
     let o = c .before .before .before .before .before .before .before .before .before .before .before .before .before .before .before in (
-      halved-whole (o .halved-operand2 .result) (o .before .before .args .y) (o .halved-operand2 .ensures),
-      sym (c .before .in-range2 .ensures) ∙ not-false _ (c .if3 .left),
-      fine (c .before .before .before .before .before .before .before .before .before .before) .0 .1,
+      halved-whole (o .halved-operand2 .result) (o .before .before .before .args .y) (o .halved-operand2 .ensures),
+      sym
+          (c .before .in-range2 .ensures) ∙ not-false _ (c .if3 .left),
+      fine
+          (c .before .before .before .before .before .before .before .before .before .before) .0 .1,
     )
 
 plus-requires-2 : tie.Need-plus-requires-2 Inv-loop μ-loop
@@ -109,11 +114,15 @@ returns-4 c = tt
 
 times-by-halves-requires-3 : tie.Need-times-by-halves-requires-3 Inv-loop μ-loop
 times-by-halves-requires-3 c κs =
-    let fourth = c .before .before .before .before .before .before .before .before .before .before .before .before .before .before in
-    let o = fourth .before .before .before .before in (
-      halved-whole (o .halved-operand3 .result) (o .before .before .before .args .z) (o .halved-operand3 .ensures),
-      sym (c .before .in-range3 .ensures) ∙ not-false _ (c .if4 .left),
-      fine (c .before .before .before .before .before .before .before .before .before .before .before .before .before .before) .1,
+    let c5 = c .before .before .before .before .before in
+    let c10 = c5 .before .before .before .before .before in
+    let c15 = c10 .before .before .before .before .before in
+    let o = c15 .before .before .before in (
+      halved-whole (o .halved-operand3 .result) (o .before .before .before .before .args .z) (o .halved-operand3 .ensures),
+      sym
+          (c .before .in-range3 .ensures) ∙ not-false _ (c .if4 .left),
+      fine
+          (c .before .before .before .before .before .before .before .before .before .before .before .before .before .before) .1,
     )
 
 plus-requires-3 : tie.Need-plus-requires-3 Inv-loop μ-loop
@@ -124,34 +133,42 @@ loop-less c = search needs
 
 loop-again : tie.Need-loop-again Inv-loop μ-loop
 loop-again c =
-    let c5 = c .before .before .before .before .before in
-    let l = c5 .before .before .before .before .before .before .before .before .before in
-    -- the operand's halves at x, y and z
-    let z = l .before .before .before .before .before .before in
-    let y = z .before in
-    let x = y .before in
-    let s = x .before in
+    let l = c .before .before .before .before .before .before .before .before .before .before .before .before .before .before in
+    let s = l .before .before .before .before .before .before .before .before .before .before in
     let a = s .args in
-    let I = c5 .before .before .before .before .before .before .before .before .loop-test .taken in
-    let n9 = s .pre in
-    let p9 = l .loop .inv .1 in
-    let N : a .n ≤ length (a .t1) = omega arith in
-    let i0 = l .loop .inv .0 in
-    let u = c5 .before .before .before in (
+    let I = c .before .before .before .before .before .before .before .before .before .before .before .before .before .loop-test .taken in
+    let N = enough (a .n) (a .p .now) (s .pre .1) in
+    let e = c .before .before .before .before .before .before .before .before .before .before .before .before .pair-at .ensures in (
       omega arith,
-      p9,
-      horner-more (a .t1) (a .n) (a .x) (l .loop .i) _ I i0 N (l .loop .a) (from (x .halved-operand .result .whole))
-          (u .before .times-by-halves .result) (u .plus .result) (l .loop .inv .2)
-          (ap from (whole-of (x .halved-operand .result) (a .x) (x .halved-operand .ensures)))
-          (u .before .times-by-halves .ensures) (u .plus .ensures),
-      horner-more (a .t1) (a .n) (a .y) (l .loop .i) _ I i0 N (l .loop .b) (from (y .halved-operand2 .result .whole))
-          (c5 .times-by-halves2 .result) (c .before .before .before .before .plus2 .result) (l .loop .inv .3)
-          (ap from (whole-of (y .halved-operand2 .result) (a .y) (y .halved-operand2 .ensures)))
-          (c5 .times-by-halves2 .ensures) (c .before .before .before .before .plus2 .ensures),
-      horner-more (a .t1) (a .n) (a .z) (l .loop .i) _ I i0 N (l .loop .d) (from (z .halved-operand3 .result .whole))
-          (c .before .times-by-halves3 .result) (c .plus3 .result) (l .loop .inv .4)
-          (ap from (whole-of (z .halved-operand3 .result) (a .z) (z .halved-operand3 .ensures)))
-          (c .before .times-by-halves3 .ensures) (c .plus3 .ensures),
+      horner-more (pairs (a .p .now)) (a .n) (a .x) (l .loop .i) zero-pair I (l .loop .inv .0) N (l .loop .a)
+          (from (c .before .before .before .before .before .before .before .before .before .before .before .before .before .before .before .before
+          .before .before .before .before .before .before .halved-operand .result .whole))
+          (c .before .before .before .before .before .before .before .before .before .times-by-halves .result)
+          (c .before .before .before .before .before .before .before .before .plus .result) (l .loop .inv .1)
+          (ap from (whole-of (c .before .before .before .before .before .before .before .before .before .before .before .before .before .before
+          .before .before .before .before .before .before .before .before .halved-operand .result) (a .x)
+          (c .before .before .before .before .before .before .before .before .before .before .before .before .before .before .before .before .before
+          .before .before .before .before .before .halved-operand .ensures)))
+          (c .before .before .before .before .before .before .before .before .before .times-by-halves .ensures)
+          (c .before .before .before .before .before .before .before .before .plus .ensures ∙ ap
+          (plus (c .before .before .before .before .before .before .before .before .before .times-by-halves .result)) e),
+      horner-more (pairs (a .p .now)) (a .n) (a .y) (l .loop .i) zero-pair I (l .loop .inv .0) N (l .loop .b)
+          (from (c .before .before .before .before .before .before .before .before .before .before .before .before .before .before .before .before
+          .before .before .before .before .before .halved-operand2 .result .whole))
+          (c .before .before .before .before .before .times-by-halves2 .result) (c .before .before .before .before .plus2 .result) (l .loop .inv .2)
+          (ap from (whole-of (c .before .before .before .before .before .before .before .before .before .before .before .before .before .before
+          .before .before .before .before .before .before .before .halved-operand2 .result) (a .y)
+          (c .before .before .before .before .before .before .before .before .before .before .before .before .before .before .before .before .before
+          .before .before .before .before .halved-operand2 .ensures))) (c .before .before .before .before .before .times-by-halves2 .ensures)
+          (c .before .before .before .before .plus2 .ensures ∙ ap (plus (c .before .before .before .before .before .times-by-halves2 .result)) e),
+      horner-more (pairs (a .p .now)) (a .n) (a .z) (l .loop .i) zero-pair I (l .loop .inv .0) N (l .loop .d)
+          (from (c .before .before .before .before .before .before .before .before .before .before .before .before .before .before .before .before
+          .before .before .before .before .halved-operand3 .result .whole)) (c .before .times-by-halves3 .result) (c .plus3 .result)
+          (l .loop .inv .3) (ap from (whole-of (c .before .before .before .before .before .before .before .before .before .before .before .before
+          .before .before .before .before .before .before .before .before .halved-operand3 .result) (a .z)
+          (c .before .before .before .before .before .before .before .before .before .before .before .before .before .before .before .before .before
+          .before .before .before .halved-operand3 .ensures))) (c .before .times-by-halves3 .ensures)
+          (c .plus3 .ensures ∙ ap (plus (c .before .times-by-halves3 .result)) e),
     )
 
 value-requires : tie.Need-value-requires Inv-loop μ-loop
@@ -167,11 +184,11 @@ returns-5 : tie.Need-returns-5 Inv-loop μ-loop
 unfolding evaluate
 returns-5 c =
     let l = c .before .before .before .before in
-    let a = l .before .before .before .before .before .before .before .before .before .args in
+    let a = l .before .before .before .before .before .before .before .before .before .before .args in
     let none = c .before .before .before .loop-test .left in
-    let ex = c .before .before .value .ensures ∙ ap value (l .loop .inv .2 ∙ horner-all (a .t1) (a .n) (a .x) (l .loop .i) none) in
-    let ey = c .before .value2 .ensures ∙ ap value (l .loop .inv .3 ∙ horner-all (a .t1) (a .n) (a .y) (l .loop .i) none) in
-    let ez = c .value3 .ensures ∙ ap value (l .loop .inv .4 ∙ horner-all (a .t1) (a .n) (a .z) (l .loop .i) none) in
+    let ex = c .before .before .value .ensures ∙ ap value (l .loop .inv .1 ∙ horner-all (pairs (a .p .now)) (a .n) (a .x) (l .loop .i) none) in
+    let ey = c .before .value2 .ensures ∙ ap value (l .loop .inv .2 ∙ horner-all (pairs (a .p .now)) (a .n) (a .y) (l .loop .i) none) in
+    let ez = c .value3 .ensures ∙ ap value (l .loop .inv .3 ∙ horner-all (pairs (a .p .now)) (a .n) (a .z) (l .loop .i) none) in
     (ex, ey, ez)
 
 pub evaluate-three-spec : {M : Type 1} → statement M
@@ -187,8 +204,7 @@ evaluate-three-spec =
     from-requires
     loop-holds
     sub-i
-    mul-c
-    array-copy-out-c
+    pair-at-requires
     in-range-requires
     returns-2
     times-by-halves-requires

@@ -1,38 +1,38 @@
 -- `polynomial::polynomial::magnitudes` meets its contract. The loop's invariant: the sum is that of the coefficients from i on.
 use Prim.Native.Nat.{_≤_}
 use native.Mathlib.Omega.{arith}
-use mathlib.Core.Path.{_≡_, _∙_}
-use lib.ListN.{length}
+use mathlib.Core.Path.{_≡_, ap, _∙_}
 use lib.Seq.{slice}
 use borrow.Author.Needs.{needs}
+use Rattle.float.specs.Number.{abs}
 use Rattle.float.specs.Laws.Zero.{zero-bits}
-use Rattle.polynomial.specs.Polynomial.{magnitudes}
+use Rattle.polynomial.specs.Polynomial.{zero-pair, magnitudes}
+use Rattle.polynomial.specs.declared.compensated.Compensated.{Compensated}
+use Rattle.polynomial.specs.Operation.{pairs}
+use Rattle.polynomial.proofs.flat.Parts.{enough}
 use Rattle.polynomial.proofs.polynomial.Horner.{magnitudes-none, magnitudes-more, magnitudes-all}
 use Rattle.polynomial.proofs.polynomial.magnitudes.Statement.{statement}
 use Rattle.polynomial.proofs.polynomial.magnitudes.Tie as tie
 
 abbrev Inv-loop : tie.InvT-loop
-Inv-loop n x p size sum₀ i₀ sum i = (i ≤ n) × (length p ≡ 9) × (sum ≡ magnitudes (slice i n p) x)
+Inv-loop p n x size sum₀ i₀ sum i = (i ≤ n) × (sum ≡ magnitudes (slice i n (pairs p)) x)
 
 abbrev μ-loop : tie.MeasureT-loop
-μ-loop n x p size sum₀ i₀ sum i = i
+μ-loop p n x size sum₀ i₀ sum i = i
 
 abs-requires : tie.Need-abs-requires Inv-loop μ-loop
 abs-requires c κs = search needs
 
 loop-holds : tie.Need-loop-holds Inv-loop μ-loop
 loop-holds c =
-    let a = c .before .args in
-    (search needs, search needs, zero-bits ∙ magnitudes-none (a .t1) (a .n) (a .x))
+    let a = c .before .before .args in
+    (search needs, zero-bits ∙ magnitudes-none (pairs (a .p .now)) (a .n) (a .x))
 
 sub-i : tie.Need-sub-i Inv-loop μ-loop
 sub-i c = search needs
 
-mul-c : tie.Need-mul-c Inv-loop μ-loop
-mul-c c = search needs
-
-array-copy-out-c : tie.Need-array-copy-out-c Inv-loop μ-loop
-array-copy-out-c c = search needs
+pair-at-requires : tie.Need-pair-at-requires Inv-loop μ-loop
+pair-at-requires c κs = omega arith
 
 abs-requires-2 : tie.Need-abs-requires-2 Inv-loop μ-loop
 abs-requires-2 c κs = search needs
@@ -46,18 +46,20 @@ loop-less c = search needs
 loop-again : tie.Need-loop-again Inv-loop μ-loop
 loop-again c =
     let l = c .before .before .before .before in
-    let a = l .before .before .args in (
+    let s = l .before .before .before in
+    let a = s .args in
+    let e = c .before .before .pair-at .ensures in (
       search needs,
-      l .loop .inv .1,
-      magnitudes-more (a .t1) (a .n) (a .x) (l .loop .i) _ (search needs) (search needs) (omega arith) (l .loop .sum) (l .before .abs .result)
-          (c .before .abs2 .result) (c .abs3 .result) (l .loop .inv .2) (l .before .abs .ensures) (c .before .abs2 .ensures) (c .abs3 .ensures),
+      magnitudes-more (pairs (a .p .now)) (a .n) (a .x) (l .loop .i) zero-pair (search needs) (search needs) (enough (a .n) (a .p .now) (s .pre .1))
+          (l .loop .sum) (l .before .abs .result) (c .before .abs2 .result) (c .abs3 .result) (l .loop .inv .1) (l .before .abs .ensures)
+          (c .before .abs2 .ensures ∙ ap (λ (y : Compensated). abs (y .high)) e) (c .abs3 .ensures ∙ ap (λ (y : Compensated). abs (y .low)) e),
     )
 
 returns : tie.Need-returns Inv-loop μ-loop
 returns c =
     let l = c .before in
-    let a = l .before .before .args in
-    l .loop .inv .2 ∙ magnitudes-all (a .t1) (a .n) (a .x) (l .loop .i) (c .loop-test .left)
+    let a = l .before .before .before .args in
+    l .loop .inv .1 ∙ magnitudes-all (pairs (a .p .now)) (a .n) (a .x) (l .loop .i) (c .loop-test .left)
 
 pub magnitudes-spec : {M : Type 1} → statement M
 magnitudes-spec =
@@ -68,8 +70,7 @@ magnitudes-spec =
     abs-requires
     loop-holds
     sub-i
-    mul-c
-    array-copy-out-c
+    pair-at-requires
     abs-requires-2
     abs-requires-3
     loop-less

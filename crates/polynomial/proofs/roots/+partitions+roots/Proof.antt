@@ -3,7 +3,7 @@
 use Prim.Native.Nat.{ℕ, _+_, _-_, _^_, _<_, _≤_}
 use native.Mathlib.Omega.{arith}
 use native.Mathlib.Nat.{le-refl, le-of-eq}
-use mathlib.Core.Path.{_≡_, refl, sym, ap, _∙_, subst}
+use mathlib.Core.Path.{_≡_, refl, sym, ap, ap₂, _∙_, subst}
 use mathlib.Core.Bool.{Bool, cond}
 use mathlib.Core.List.{List, []}
 use lib.Arith.{lt-of-le-ne}
@@ -16,7 +16,8 @@ use borrow.Author.Tests.{not-true, not-false}
 use borrow.Fn.Kinds.{In}
 use borrow.Fn.PlainCycle.{Measures, is, falls, and}
 use denote.Ref.{now}
-use Rattle.polynomial.specs.Polynomial.{derivative}
+use Rattle.polynomial.specs.Operation.{pairs}
+use Rattle.polynomial.specs.Polynomial.{zero-pair, derivative}
 use Rattle.polynomial.specs.Promises.Inside.{Ready}
 use Rattle.polynomial.specs.declared.compensated.Compensated.{Compensated}
 use Rattle.polynomial.specs.Laws.Degree.{counted, counted-short, found, none-left, two-left, more-left}
@@ -32,6 +33,9 @@ use Rattle.polynomial.proofs.roots.+partitions+roots.Lts-partitions as 
 use Rattle.polynomial.proofs.roots.roots.Reads as roots
 use Rattle.polynomial.proofs.roots.roots.Kinds as roots-kinds
 use Rattle.polynomial.proofs.roots.+partitions+roots.Lts-roots as roots-lts
+use Rattle.polynomial.proofs.flat.Parts.{enough}
+use Rattle.polynomial.proofs.flat.pair_at.Reads as pair-at-reads
+use Rattle.polynomial.proofs.flat.spread.Reads as spread-reads
 use Rattle.polynomial.proofs.polynomial.all_finite.Reads as all-finite-reads
 use Rattle.polynomial.proofs.polynomial.derivative.Reads as derivative-reads
 use Rattle.polynomial.proofs.polynomial.trimmed.Reads as trimmed-reads
@@ -39,27 +43,36 @@ use Rattle.polynomial.proofs.roots.keep.Reads as keep-reads
 use Rattle.polynomial.proofs.roots.quotient.Reads as quotient-reads
 use Rattle.polynomial.proofs.roots.scan.Reads as scan-reads
 
-abbrev μ-partitions : Measures 1 partitions-kinds.ps ℕ
+abbrev μ-partitions : Measures 2 partitions-kinds.ps ℕ
 μ-partitions κs a = a .1 .0 + a .1 .0
 
-abbrev μ-roots : Measures 1 roots-kinds.ps ℕ
+abbrev μ-roots : Measures 2 roots-kinds.ps ℕ
 μ-roots κs a = a .1 .0 + a .1 .0 + 1
 
-abbrev partitions-at : ℕ → In 1 partitions-kinds.ps
-partitions-at t = and 1 partitions-kinds.ps (is 1 partitions-kinds.ps μ-partitions t) partitions.Pre
+abbrev partitions-at : ℕ → In 2 partitions-kinds.ps
+partitions-at t = and 2 partitions-kinds.ps (is 2 partitions-kinds.ps μ-partitions t) partitions.Pre
 
-abbrev partitions-below : ℕ → In 1 partitions-kinds.ps
-partitions-below t = and 1 partitions-kinds.ps (falls 1 partitions-kinds.ps _<_ μ-partitions t) partitions.Pre
+abbrev partitions-below : ℕ → In 2 partitions-kinds.ps
+partitions-below t = and 2 partitions-kinds.ps (falls 2 partitions-kinds.ps _<_ μ-partitions t) partitions.Pre
 
-abbrev roots-at : ℕ → In 1 roots-kinds.ps
-roots-at t = and 1 roots-kinds.ps (is 1 roots-kinds.ps μ-roots t) roots.Pre
+abbrev roots-at : ℕ → In 2 roots-kinds.ps
+roots-at t = and 2 roots-kinds.ps (is 2 roots-kinds.ps μ-roots t) roots.Pre
 
-abbrev roots-below : ℕ → In 1 roots-kinds.ps
-roots-below t = and 1 roots-kinds.ps (falls 1 roots-kinds.ps _<_ μ-roots t) roots.Pre
+abbrev roots-below : ℕ → In 2 roots-kinds.ps
+roots-below t = and 2 roots-kinds.ps (falls 2 roots-kinds.ps _<_ μ-roots t) roots.Pre
 
 -- what is known of the functions that each calls
 abbrev inner : ℕ → partitions-lts.Claims
-inner t = (derivative-reads.Asked, derivative-reads.Learnt, roots-below t, roots.Post, keep-reads.Asked, keep-reads.Learnt)
+inner t = (
+  derivative-reads.Asked,
+  derivative-reads.Learnt,
+  spread-reads.Asked,
+  spread-reads.Learnt,
+  roots-below t,
+  roots.Post,
+  keep-reads.Asked,
+  keep-reads.Learnt,
+)
 
 abbrev outer : ℕ → roots-lts.Claims
 outer t = (
@@ -67,6 +80,8 @@ outer t = (
   trimmed-reads.Learnt,
   all-finite-reads.Asked,
   all-finite-reads.Learnt,
+  pair-at-reads.Asked,
+  pair-at-reads.Learnt,
   quotient-reads.Asked,
   quotient-reads.Learnt,
   partitions-below t,
@@ -81,33 +96,41 @@ module _ (t : ℕ) where
   partitions-derivative-requires : partitions-lts.Need-derivative-requires (inner t) (partitions-at t) partitions.Post
   partitions-derivative-requires c κs = search needs
 
+  partitions-spread-requires : partitions-lts.Need-spread-requires (inner t) (partitions-at t) partitions.Post
+  partitions-spread-requires c κs = search needs
+
+  partitions-slice-aggregate-roots : partitions-lts.Need-slice-aggregate-roots (inner t) (partitions-at t) partitions.Post
+  partitions-slice-aggregate-roots c = search needs
+
   partitions-sub-roots : partitions-lts.Need-sub-roots (inner t) (partitions-at t) partitions.Post
   partitions-sub-roots c = search needs
 
   partitions-roots-requires : partitions-lts.Need-roots-requires (inner t) (partitions-at t) partitions.Post
   partitions-roots-requires c κs =
-      let s = c .before .before .before in
+      let s = c .before .before .before .before .before .before in
       let a = s .args in
-      let r = inner-room (a .n) (a .p) (a .lower) (a .upper) (s .pre .1 .0) (length (now (a .points))) _ (s .pre .1 .2) refl in
-      (omega arith, (omega arith, r .0, s .pre .1 .3))
+      let r = inner-room (a .n) (pairs (a .p .now)) (a .lower) (a .upper) (s .pre .1 .0) (length (now (a .points))) _ (s .pre .1 .2) refl in
+      (omega arith, (omega arith, r .0, s .pre .1 .3, omega (arith, c .before .before .spread .ok, s .pre .1 .1)))
 
   -- the derivative's roots, and their number, after the call
   abbrev Roots : partitions-lts.After-roots (inner t) (partitions-at t) partitions.Post → List Float
-  Roots c = let a = c .before .before .before .before .args in Of.roots-at (a .n - 1) (derivative (take (a .n) (a .p))) (a .lower) (a .upper)
+  Roots c = let a = c .before .before .before .before .before .before .before .args in Of.roots-at (a .n - 1)
+      (derivative (take (a .n) (pairs (a .p .now)))) (a .lower) (a .upper)
 
   called : (c : partitions-lts.After-roots (inner t) (partitions-at t) partitions.Post)
-      → Front (Roots c) (now (c .before .before .before .before .args .points)) (c .roots .result) (c .roots .last .1 .1 .1 .1 .0) ×
-      (c .roots .result + 2 ≤ length (c .roots .last .1 .1 .1 .1 .0))
+      → Front (Roots c) (now (c .before .before .before .before .before .before .before .args .points)) (c .roots .result)
+      (c .roots .last .1 .1 .1 .1 .0) × (c .roots .result + 2 ≤ length (c .roots .last .1 .1 .1 .1 .0))
   called c =
-      let s = c .before .before .before .before in
+      let s = c .before .before .before .before .before .before .before in
       let a = s .args in
-      let nine : length (a .p) ≡ 9 = search needs in
       let e =
       ap (λ (q : List Compensated). Of.roots-at (a .n - 1) q (a .lower) (a .upper))
-      (derivative-front (c .before .before .derivative .result) (a .p) (a .n) (omega arith) (c .before .before .derivative .ensures)) in
+      (ap (take (a .n - 1)) (c .before .before .before .spread .ensures)
+      ∙ derivative-front (c .before .before .before .before .derivative .result) (pairs (a .p .now)) (a .n)
+      (enough (a .n) (a .p .now) (s .pre .1 .4)) (c .before .before .before .before .derivative .ensures)) in
       let n = c .roots .ensures .0 ∙ ap length e in
       let l = c .roots .kept .1 .1 .1 .1 .0 in
-      let r = inner-room (a .n) (a .p) (a .lower) (a .upper) (s .pre .1 .0) (length (now (a .points))) (c .roots .result) (s .pre .1 .2) n in
+      let r = inner-room (a .n) (pairs (a .p .now)) (a .lower) (a .upper) (s .pre .1 .0) (length (now (a .points))) (c .roots .result) (s .pre .1 .2) n in
       (front-same _ _ _ _ (c .roots .ensures) (Roots c) (sym e), omega arith)
 
   partitions-keep-requires : partitions-lts.Need-keep-requires (inner t) (partitions-at t) partitions.Post
@@ -117,7 +140,7 @@ module _ (t : ℕ) where
   partitions-keep-requires-2 c κs =
       let k = c .before .before .before in
       let r = k .before .before .before .before in
-      let a = r .before .before .before .before .args in
+      let a = r .before .before .before .before .before .before .before .args in
       let m = called r .1 in
       let l = k .keep .kept .0 in
       let b = put-room (a .lower) (r .roots .result) (r .roots .last .1 .1 .1 .1 .0) (k .keep .result) (k .keep .ensures .0) in
@@ -131,13 +154,13 @@ module _ (t : ℕ) where
       let d = c .before .before in
       let k = d .before .before .before .before in
       let r = k .before .before .before .before in
-      let s = r .before .before .before .before in
+      let s = r .before .before .before .before .before .before .before in
       let a = s .args in
       let m = called r .1 in
       let l = k .keep .kept .0 in
       let b = put-room (a .lower) (r .roots .result) (r .roots .last .1 .1 .1 .1 .0) (k .keep .result) (k .keep .ensures .0) in
-      bounded (a .n - 1) (derivative (take (a .n) (a .p))) (a .lower) (a .upper) (s .pre .1 .3) (r .roots .last .1 .1 .1 .1 .0) (k .keep .last .0)
-      (d .keep2 .last .0) (r .roots .result) (k .keep .result) (d .keep2 .result)
+      bounded (a .n - 1) (derivative (take (a .n) (pairs (a .p .now)))) (a .lower) (a .upper) (s .pre .1 .3) (r .roots .last .1 .1 .1 .1 .0)
+      (k .keep .last .0) (d .keep2 .last .0) (r .roots .result) (k .keep .result) (d .keep2 .result)
       (now (a .points)) (called r .0) (k .keep .ensures) (d .keep2 .ensures) (omega arith) (omega arith)
 
   -- ---- roots
@@ -147,29 +170,30 @@ module _ (t : ℕ) where
 
   -- the coefficients that are left: as many as the result says, and no more than there were
   abbrev Q : roots-lts.After-trimmed (outer t) (roots-at t) roots.Post → List Compensated
-  Q c = take (c .trimmed .result) (c .before .before .args .t1)
+  Q c = take (c .trimmed .result) (pairs (c .before .before .before .args .p .now))
 
   size : (c : roots-lts.After-trimmed (outer t) (roots-at t) roots.Post)
-      → (length (Q c) ≡ c .trimmed .result) × (length (take (c .before .before .args .n) (c .before .before .args .t1)) ≤ c .before .before .args .n)
+      → (length (Q c) ≡ c .trimmed .result) × (length (take (c .before .before .before .args .n) (pairs (c .before .before .before .args .p .now))) ≤
+      c .before .before .before .args .n)
   size c =
-      let a = c .before .before .args in
-      let nine : length (a .t1) ≡ 9 = search needs in
-      (length-take-le (c .trimmed .result) (a .t1) (omega arith), le-of-eq (length-take-le (a .n) (a .t1) (omega arith)))
+      let a = c .before .before .before .args in
+      let k = enough (a .n) (a .p .now) (c .before .before .before .pre .1 .3) in
+      (length-take-le (c .trimmed .result) (pairs (a .p .now)) (omega arith), le-of-eq (length-take-le (a .n) (pairs (a .p .now)) (omega arith)))
 
   -- no coefficient counts, or one
   none : (c : roots-lts.After-trimmed (outer t) (roots-at t) roots.Post) → counted (Q c) < 2
-      → Of.roots-at (c .before .before .args .n) (take (c .before .before .args .n) (c .before .before .args .t1)) (c .before .before .args .lower)
-      (c .before .before .args .upper) ≡ []
+      → Of.roots-at (c .before .before .before .args .n) (take (c .before .before .before .args .n)
+      (pairs (c .before .before .before .args .p .now))) (c .before .before .before .args .lower) (c .before .before .before .args .upper) ≡ []
   none c h =
-      let a = c .before .before .args in
-      none-left (a .n) (counted (Q c)) (take (a .n) (a .t1)) (Q c) (a .lower) (a .upper) (c .trimmed .ensures .1) refl (size c .1) h
+      let a = c .before .before .before .args in
+      none-left (a .n) (counted (Q c)) (take (a .n) (pairs (a .p .now))) (Q c) (a .lower) (a .upper) (c .trimmed .ensures .1) refl (size c .1) h
 
   roots-returns : roots-lts.Need-returns (outer t) (roots-at t) roots.Post
   roots-returns c =
       let m = c .before in
       let k = counted-short (Q m) in
       let l = size m .0 in
-      front-same [] _ (now (m .before .before .args .out)) 0 (refl, refl) _ (none m (omega arith))
+      front-same [] _ (now (m .before .before .before .args .out)) 0 (refl, refl) _ (none m (omega arith))
 
   roots-all-finite-requires : roots-lts.Need-all-finite-requires (outer t) (roots-at t) roots.Post
   roots-all-finite-requires c κs = search needs
@@ -178,7 +202,7 @@ module _ (t : ℕ) where
   roots-returns-2 c =
       let m = c .before .before .before in
       let e : counted (Q m) ≡ 0 = ap (λ (b : Bool). cond b (length (Q m)) 0) (sym (c .before .all-finite .ensures) ∙ not-true _ (c .if2 .taken)) in
-      front-same [] _ (now (m .before .before .args .out)) 0 (refl, refl) _ (none m (omega arith))
+      front-same [] _ (now (m .before .before .before .args .out)) 0 (refl, refl) _ (none m (omega arith))
 
   -- past the test of finite parts, each coefficient counts
   counts : (c : roots-lts.Else2 (outer t) (roots-at t) roots.Post) → counted (Q (c .before .before .before)) ≡ c .before .before .before .trimmed .result
@@ -186,14 +210,16 @@ module _ (t : ℕ) where
       let m = c .before .before .before in
       ap (λ (b : Bool). cond b (length (Q m)) 0) (sym (c .before .all-finite .ensures) ∙ not-false _ (c .if2 .left)) ∙ size m .0
 
-  roots-array-copy-out-a : roots-lts.Need-array-copy-out-a (outer t) (roots-at t) roots.Post
-  roots-array-copy-out-a c = search needs
+  roots-pair-at-requires : roots-lts.Need-pair-at-requires (outer t) (roots-at t) roots.Post
+  roots-pair-at-requires c κs = let m = c .before .before .before .before in omega
+      (arith, c .if3 .taken, m .trimmed .ensures .0, m .before .before .before .pre .1 .3)
 
-  roots-array-copy-out-b : roots-lts.Need-array-copy-out-b (outer t) (roots-at t) roots.Post
-  roots-array-copy-out-b c = search needs
+  roots-pair-at-requires-2 : roots-lts.Need-pair-at-requires-2 (outer t) (roots-at t) roots.Post
+  roots-pair-at-requires-2 c κs = let m = c .before .before .before .before .before in omega
+      (arith, c .before .if3 .taken, m .trimmed .ensures .0, m .before .before .before .pre .1 .3)
 
   roots-quotient-requires : roots-lts.Need-quotient-requires (outer t) (roots-at t) roots.Post
-  roots-quotient-requires c κs = omega (arith, pow-pos (c .before .before .before .before .before .before .before .before .before .args .n))
+  roots-quotient-requires c κs = omega (arith, pow-pos (c .before .before .before .before .before .before .before .before .before .before .args .n))
 
   roots-same-length : roots-lts.Need-same-length (outer t) (roots-at t) roots.Post
   roots-same-length c = search needs
@@ -203,11 +229,15 @@ module _ (t : ℕ) where
       let z = c .before .before in
       let i = z .before .before .before .before in
       let m = i .before .before .before .before in
-      let a = m .before .before .args in
-      let nine : length (a .t1) ≡ 9 = search needs in
-      let e = two-left (a .n) (m .trimmed .result) (take (a .n) (a .t1)) (Q m) (a .lower) (a .upper) (m .trimmed .ensures .1) (counts (i .before))
-      (size m .1) (i .if3 .taken) in
-      front-same _ _ _ _ (z .quotient .ensures) _ (e ∙ line-of (a .t1) (m .trimmed .result) _ (a .lower) (a .upper) (i .if3 .taken) (omega arith))
+      let a = m .before .before .before .args in
+      let k = enough (a .n) (a .p .now) (m .before .before .before .pre .1 .3) in
+      let d = m .trimmed .ensures .0 in
+      let e = two-left (a .n) (m .trimmed .result) (take (a .n) (pairs (a .p .now))) (Q m) (a .lower) (a .upper) (m .trimmed .ensures .1)
+      (counts (i .before)) (size m .1) (i .if3 .taken) in
+      front-same _ _ _ _ (z .quotient .ensures) _ (e ∙ line-of (pairs (a .p .now)) (m .trimmed .result) zero-pair (a .lower) (a .upper) (i .if3 .taken)
+      (omega (arith, i .if3 .taken))
+      ∙ ap₂ (λ (x y : Compensated). Of.quotient x y (a .lower) (a .upper)) (sym (z .before .before .before .pair-at .ensures))
+      (sym (z .before .before .pair-at2 .ensures)))
 
   roots-slice-aggregate-partitions : roots-lts.Need-slice-aggregate-partitions (outer t) (roots-at t) roots.Post
   roots-slice-aggregate-partitions c = search needs
@@ -218,7 +248,7 @@ module _ (t : ℕ) where
     lead = w .before .before .before .before
 
     abbrev start : roots-lts.Start (outer t) (roots-at t) roots.Post
-    start = lead .before .before
+    start = lead .before .before .before
 
     three : 2 < lead .trimmed .result
     three = lt-of-le-ne (w .before .before .before .if1 .left) (λ e. w .if3 .left (sym e))
@@ -233,11 +263,12 @@ module _ (t : ℕ) where
       -- A has room for the points of j coefficients
       scannable : (j : ℕ) → lead .trimmed .result ≤ j → 2 ^ j ≤ length A
           → (lead .trimmed .result ≤ 9) × (0 < count) × (count ≤ length A) × (count + count ≤ length (now (start .args .out))) × Ready (take count A)
+          × (lead .trimmed .result + lead .trimmed .result ≤ length (now (start .args .p)))
       scannable j h k =
           let a = start .args in
           let z = points-some (a .lower) (a .upper) R in
-          let x = points-room (lead .trimmed .result) (a .t1) (a .lower) (a .upper) three j (length A) count h k (f .0) in
-          let g = points-room (lead .trimmed .result) (a .t1) (a .lower) (a .upper) three (a .n) (length (now (a .out))) count
+          let x = points-room (lead .trimmed .result) (pairs (a .p .now)) (a .lower) (a .upper) three j (length A) count h k (f .0) in
+          let g = points-room (lead .trimmed .result) (pairs (a .p .now)) (a .lower) (a .upper) three (a .n) (length (now (a .out))) count
           (lead .trimmed .ensures .0) (start .pre .1 .1) (f .0) in (
             omega arith,
             omega (arith, f .0),
@@ -245,13 +276,14 @@ module _ (t : ℕ) where
             omega arith,
             subst Ready (sym (front-take points _ _ _ f)) (points-ready (a .lower) (a .upper) (start .pre .1 .2) R
                 (roots-in (a .lower) (a .upper) (start .pre .1 .2) (lead .trimmed .result - 1) (derivative (Q lead)))),
+            omega (arith, lead .trimmed .ensures .0, start .pre .1 .3),
           )
 
-      all-found : Of.roots-at (start .args .n) (take (start .args .n) (start .args .t1)) (start .args .lower) (start .args .upper) ≡ found (Q lead)
-          (take count A)
+      all-found : Of.roots-at (start .args .n) (take (start .args .n) (pairs (start .args .p .now))) (start .args .lower) (start .args .upper) ≡
+          found (Q lead) (take count A)
       all-found =
           let a = start .args in
-          more-left (a .n) (lead .trimmed .result) (take (a .n) (a .t1)) (Q lead) (a .lower) (a .upper) (lead .trimmed .ensures .1)
+          more-left (a .n) (lead .trimmed .result) (take (a .n) (pairs (a .p .now))) (Q lead) (a .lower) (a .upper) (lead .trimmed .ensures .1)
           (counts (w .before)) (size lead .1) (size lead .0) three
           ∙ ap (λ (l : List Float). found (Q lead) l) (sym (front-take points W A count f))
 
@@ -259,7 +291,7 @@ module _ (t : ℕ) where
   roots-partitions-requires c κs =
       let w = c .before .before in
       let p : 2 ^ lead w .trimmed .result ≤ 2 ^ 5 = pow-mono {i = lead w .trimmed .result} {j = 5} (c .before .if4 .taken) in
-      (omega arith, (three w, omega arith, omega arith, start w .pre .1 .2))
+      (omega arith, (three w, omega arith, omega arith, start w .pre .1 .2, omega (arith, lead w .trimmed .ensures .0, start w .pre .1 .3)))
 
   roots-slice-aggregate-scan : roots-lts.Need-slice-aggregate-scan (outer t) (roots-at t) roots.Post
   roots-slice-aggregate-scan c = search needs
@@ -287,7 +319,7 @@ module _ (t : ℕ) where
   roots-partitions-requires-2 c κs =
       let w = c .before .before in
       let p : 2 ^ lead w .trimmed .result ≤ 2 ^ 9 = pow-mono {i = lead w .trimmed .result} {j = 9} (omega arith) in
-      (omega arith, (three w, omega arith, omega arith, start w .pre .1 .2))
+      (omega arith, (three w, omega arith, omega arith, start w .pre .1 .2, omega (arith, lead w .trimmed .ensures .0, start w .pre .1 .3)))
 
   roots-slice-aggregate-scan-2 : roots-lts.Need-slice-aggregate-scan-2 (outer t) (roots-at t) roots.Post
   roots-slice-aggregate-scan-2 c = search needs
@@ -313,6 +345,8 @@ pub +partitions+roots-spec : {M : Type 1} → statement M
     (partitions-at t)
     partitions.Post
     (partitions-derivative-requires t)
+    (partitions-spread-requires t)
+    (partitions-slice-aggregate-roots t)
     (partitions-sub-roots t)
     (partitions-roots-requires t)
     (partitions-keep-requires t)
@@ -326,8 +360,8 @@ pub +partitions+roots-spec : {M : Type 1} → statement M
     (roots-returns t)
     (roots-all-finite-requires t)
     (roots-returns-2 t)
-    (roots-array-copy-out-a t)
-    (roots-array-copy-out-b t)
+    (roots-pair-at-requires t)
+    (roots-pair-at-requires-2 t)
     (roots-quotient-requires t)
     (roots-same-length t)
     (roots-returns-3 t)

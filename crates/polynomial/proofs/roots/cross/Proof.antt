@@ -2,6 +2,7 @@
 use mathlib.Core.Path.{sym, _∙_}
 use lib.ListN.{take}
 use borrow.Author.Needs.{needs}
+use Rattle.polynomial.specs.Operation.{pairs}
 use Rattle.polynomial.specs.Polynomial.{evaluate}
 use Rattle.polynomial.proofs.roots.Kept.{crossed-taken, left}
 use Rattle.polynomial.proofs.roots.cross.Statement.{statement}
@@ -27,14 +28,14 @@ returns c =
     let i = c .before .before in
     let b = i .before .before in
     let x = b .before .before .before in
-    let a = x .before .before .args in
-    crossed-taken (evaluate (take (a .n) (a .p))) (a .at) (a .out .now) _ (a .k) _ _ _ _ (x .crosses .ensures) (b .before .before .if1 .taken)
-    (b .before .is-sign-positive .ensures) (b .bisect .ensures) (i .keep .ensures)
+    let a = x .before .before .before .args in
+    crossed-taken (evaluate (take (a .n) (pairs (a .p .now)))) (a .at) (a .out .now) _ (a .k) _ _ _ _ (x .crosses .ensures)
+    (b .before .before .if1 .taken) (b .before .is-sign-positive .ensures) (b .bisect .ensures) (i .keep .ensures)
 
 returns-2 : tie.Need-returns-2
 returns-2 c =
     let x = c .before in
-    let a = x .before .before .args in
+    let a = x .before .before .before .args in
     left (a .out .now) _ (a .k) _ (sym (x .crosses .ensures) ∙ c .if1 .left) (search needs)
 
 pub cross-spec : {M : Type 1} → statement M

@@ -18,13 +18,13 @@ returns : tie.Need-returns
 returns c =
     let i = c .before .before in
     let v = i .before .before .before in
-    let s = v .before .before in
+    let s = v .before .before .before in
     taken (s .args .out .now) _ _ (s .args .k) _ _ (sym (v .value-near .ensures) ∙ i .before .before .if1 .taken) (i .keep .ensures)
 
 returns-2 : tie.Need-returns-2
 returns-2 c =
     let v = c .before in
-    let s = v .before .before in
+    let s = v .before .before .before in
     left (s .args .out .now) _ (s .args .k) _ (sym (v .value-near .ensures) ∙ c .if1 .left) (search needs)
 
 pub touch-spec : {M : Type 1} → statement M

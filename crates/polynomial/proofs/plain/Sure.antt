@@ -29,7 +29,7 @@ module _ (p : List Compensated) (x : Float) (l : length p ≤ 9) (t : AllTidy p)
       go false b c d A B C D h = absurd (true≢false h)
 
 -- by the code's own numbers
-pub tells : (p : List Compensated) (n : ℕ) (x : Float) → length p ≡ 9 → n ≤ 9 → AllTidy (take n p) → T (fits binary64 x)
+pub tells : (p : List Compensated) (n : ℕ) (x : Float) → n ≤ length p → n ≤ 9 → AllTidy (take n p) → T (fits binary64 x)
     → (size v w : Float) → size ≡ abs x → v ≡ plain (take n p) x → w ≡ scale (take n p) x → (r : Float) → r ≡ sign-if-sure size v w → Tells r (take n p) x
 tells p n x l h t f size v w e1 e2 e3 r e =
     subst (λ (z : Float). Tells z (take n p) x) (sym (e ∙ ap₂ (λ (a b : Float). sign-if-sure a b w) e1 e2 ∙ ap (sign-if-sure (abs x) (plain (take n p) x)) e3))
