@@ -32,17 +32,22 @@ fn inside(work: &mut [f64], cuts: usize, lower: f64, upper: f64, angle: f64) -> 
     cuts
 }
 
-// An angle, a turn below, as it is and a turn above.
+// An angle, a turn below, as it is and a turn above. Mostly the two outer ones lie outside.
 fn copies(work: &mut [f64], cuts: usize, lower: f64, upper: f64, angle: f64) -> usize
     ensures { λ r. ⌜ Grown (Of.copies lower upper angle) (now (work .entry)) (counted cuts (now (work .entry))) (now (work .exit))
         (counted r (now (work .exit))) ⌝ }
 {
-    let below = inside(work, cuts, lower, upper, angle + -1.0 * TWO_PI);
-    let same = inside(work, below, lower, upper, angle + 0.0 * TWO_PI);
-    inside(work, same, lower, upper, angle + 1.0 * TWO_PI)
+    let below = angle + -1.0 * TWO_PI;
+    let above = angle + 1.0 * TWO_PI;
+    if !(lower <= below) & !(above <= upper) {
+        return inside(work, cuts, lower, upper, angle + 0.0 * TWO_PI);
+    }
+    let first = inside(work, cuts, lower, upper, below);
+    let second = inside(work, first, lower, upper, angle + 0.0 * TWO_PI);
+    inside(work, second, lower, upper, above)
 }
 
-// Those of the first n angles.
+// The copies of each of the first n angles.
 pub(crate) fn all_copies(
     work: &mut [f64],
     cuts: Put,
@@ -75,7 +80,7 @@ fn windings(work: &mut [f64], cuts: usize, lower: f64, upper: f64, root: f64) ->
     cuts
 }
 
-// Those of the first n roots.
+// The windings of each of the first n roots.
 fn all_windings(
     work: &mut [f64],
     cuts: usize,

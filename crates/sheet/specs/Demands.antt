@@ -64,7 +64,7 @@ Few = (job : Job) → length (Angles.angles job) < items-bound
 abbrev pub SameAnswer : Type 0
 SameAnswer = (r s : List ℕ) → Agree r s → (places room : ℕ) → answer r places room ≡ answer s places room
 
--- And the same angles, if kind and flags are right; with a wrong one there is no answer but 2, and nothing says which fields are read.
+-- Agreeing requests have the same angles, if kind and flags are right; with a wrong one there is no answer but 2, and nothing says which fields are read.
 abbrev pub SameAngles : Type 0
 SameAngles = (r s : List ℕ) → Agree r s → head-right r ≡ true → angles r ≡ angles s
 
@@ -74,7 +74,7 @@ SameSheet =
     (r s : List ℕ) (places room n places′ room′ n′ : ℕ) → answer r places room ≡ accepted n → answer s places′ room′ ≡ accepted n′ → (sheet r ≡ sheet s) ↔
     Agree r s
 
--- The same of two calls with requests r and s and so many work places each: their answers a and b, and their outputs x and y afterwards, of which a sheet is
+-- Demand 3 of two calls, with requests r and s and so many work places each: their answers a and b, and their outputs x and y afterwards, of which a sheet is
 -- the first 8n + 280 bytes.
 pub record Together (r s : List ℕ) (places places′ : ℕ) (a b : Answer) (x y : List ℕ) : Type 0 where
   pub answers : places ≡ places′ → length x ≡ length y → Agree r s → a ≡ b

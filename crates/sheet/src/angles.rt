@@ -34,7 +34,7 @@ fn put_three(output: &mut [u8], at: usize, lower: f64, upper: f64)
     put_float(output, at + 16, three.third);
 }
 
-// Those between all neighbours in a list.
+// Three samples between each two neighbours in a list.
 fn put_between(output: &mut [u8], at: usize, list: &[f64])
     requires { ⌜ at + 24 * (length (now list) - 1) ≤ length (now output) ⌝ }
     ensures { λ _. ⌜ now (output .exit) ≡ sets (now (output .entry)) at (Floats.floats-bytes (Samples.all-between (now (list .entry)))) ⌝ }

@@ -133,7 +133,7 @@ fn answers(s: &[u8], at: usize, n: usize, m: usize) -> bool
     (found == word(s, after + 51)) & holds(s, after + 68, m, &result)
 }
 
-// The same for a call whose line has k words.
+// Whether Roots answers as stored, for a call whose line has k words.
 pub(crate) fn agrees(s: &[u8], at: usize, k: usize) -> bool
     requires { ⌜ at + 17 * k + 2 ≤ length (now s) ⌝ }
 {

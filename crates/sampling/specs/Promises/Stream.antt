@@ -1,4 +1,4 @@
--- The same values one at a time: what is still to come at a cursor, and what a step is. Nothing that a public contract says;
+-- The slices of kind 3 one at a time: what is still to come at a cursor, and what a step is. Nothing that a public contract says;
 -- `Laws.Slices` has that all of it is `slices`, and `Laws.Step` that a step gives the first of what is to come.
 use mathlib.Core.Path.{_≡_}
 use Prim.Native.Nat.{ℕ, zero, suc, _+_, _-_}
