@@ -1,5 +1,5 @@
-// Coefficients laid out as floats, the two parts of each together, for the functions that bisection calls at
-// each step: a slice is lent to them, where an array by value would be copied for each call.
+// Coefficients laid out as floats, the two parts of each together, for the functions that bisection
+// calls at each step: a slice is lent to them, where an array by value would be copied for each call.
 ghost use mathlib.Core.Path.{_≡_};
 ghost use Prim.Native.Nat.{_+_, _<_};
 ghost use lib.ListN.{length, getD};
