@@ -3,5 +3,6 @@ mod Linear
 pub mod Kept
 mod Events
 pub mod Cycle
+mod Gathered
 mod Scanned
 mod Looked

@@ -4,6 +4,7 @@
 -- Roots: `Bisection` (a bisection ends inside its interval; more steps change nothing), `Degree`
 -- (any count as large as the number of coefficients gives the same roots),
 -- `Enclosed` (roots and partition points lie between the bounds and increase strictly; how many there are), `Bounds` (bounds that hold can be bisected).
+-- Kinds: `Kinds` (the values of the marked roots are the roots; the kinds by the number of coefficients).
 -- The operation: `Operation` (an inner call holds where Roots answers a count; what the list is like; what numbers answers have).
 -- Angles: `Wrapped` (a wrapped angle lies within P).
 -- Signs: `Plain` (a plain value that is far from zero has the sign of the compensated one, which is not
@@ -21,6 +22,7 @@ pub mod Degree
 pub mod Enclosed
 pub mod Wrapped
 pub mod Bounds
+pub mod Kinds
 pub mod Operation
 pub mod Inner
 pub mod Norm

@@ -1,4 +1,4 @@
--- The operation Roots (01): its refusals in 01's order, its answer, and the result slice afterwards. Definitions only.
+-- The operation Roots (01; 02, change 1): its refusals in order, its answer, and both lent slices afterwards. Definitions only.
 use Prim.Native.Nat.{ℕ, _%_}
 use mathlib.Core.Bool.{Bool, true, false, _&&_, _||_, cond}
 use mathlib.Core.List.{List, [], _∷_, _++_}
@@ -39,14 +39,16 @@ unfoldable pub parts-hold : List Float → Bool
 parts-hold [] = true
 parts-hold (x ∷ xs) = part-holds x && parts-hold xs
 
--- the answer for a result slice of `room` places; 24, it is shorter than the list
-unfoldable pub answer : List Float → Float → Float → ℕ → Answer
-answer s lower upper room =
+-- 24, the result slice, or that of the kinds, is shorter than the list
+abbrev pub fitted : ℕ → ℕ → ℕ → Answer
+fitted count room bytes = cond (leb count room && leb count bytes) (Count count) ShortResult
+
+-- the answer for a result slice of `room` places and a slice of `bytes` for the kinds
+unfoldable pub answer : List Float → Float → Float → ℕ → ℕ → Answer
+answer s lower upper room bytes =
     cond (bad-length s) BadLength
     (cond (bounds-hold lower upper)
-    (cond (parts-hold s)
-    (cond (leb (length (roots (pairs s) lower upper)) room) (Count (length (roots (pairs s) lower upper))) ShortResult)
-    BadPart)
+    (cond (parts-hold s) (fitted (length (roots (pairs s) lower upper)) room bytes) BadPart)
     BadBounds)
 
 -- this paper's number for each case: the count, or minus the refusal's number
@@ -57,8 +59,8 @@ number BadBounds = negℤ (pos 22)
 number BadPart = negℤ (pos 23)
 number ShortResult = negℤ (pos 24)
 
--- success fills that many first places; the rest, and everything on refusal, is left
-abbrev pub filled : Answer → List Float → List Float → List Float
+-- success fills that many first places of a slice with what was found; its rest, and all of it on refusal, is left
+abbrev pub filled : {A : Type 0} → Answer → List A → List A → List A
 filled (Count n) found before = found ++ drop n before
 filled BadLength found before = before
 filled BadBounds found before = before

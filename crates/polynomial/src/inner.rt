@@ -6,6 +6,7 @@ ghost use Prim.Native.Nat.{_^_, _≤_};
 ghost use lib.ListN.{length, take, drop};
 ghost use Rattle.polynomial.specs.Curve as Of;
 ghost use Rattle.polynomial.specs.Roots as Roots;
+ghost use Rattle.polynomial.specs.Kinds as Kinds;
 ghost use Rattle.polynomial.specs.Promises.Inner.{inner-answer, size, listed};
 use crate::compensated::Compensated;
 use crate::flat::spread;
@@ -39,11 +40,20 @@ fn all_hold(p: [Compensated; 9], n: usize) -> bool
 }
 
 // An inner call of the root finder, for the first n coefficients; the roots stand in the first
-// places of out. What stands behind them is left, and all of it where the call is refused.
-pub fn inner_roots(p: [Compensated; 9], n: usize, lower: f64, upper: f64, out: &mut [f64]) -> Inner
-    requires { ⌜ (n ≤ 9) × (2 ^ n ≤ length (now out)) ⌝ }
-    ensures { λ r. ⌜ r ≡ inner-answer (take n p) lower upper ⌝ }
-    ensures { λ r. ⌜ now (out .exit) ≡ listed r (Roots.roots (take n p) lower upper) ++ drop (size r) (now (out .entry)) ⌝ }
+// places of out, their kinds in those of kinds. What stands behind them is left, and all of it where
+// the call is refused.
+pub fn inner_roots(
+    p: [Compensated; 9],
+    n: usize,
+    lower: f64,
+    upper: f64,
+    out: &mut [f64],
+    kinds: &mut [u8],
+) -> Inner
+    requires { ⌜ (n ≤ 9) × (2 ^ n ≤ length (now out)) × (2 ^ n ≤ length (now kinds)) ⌝ }
+    ensures { λ r. ⌜ (r ≡ inner-answer (take n p) lower upper) ×
+        (now (out .exit) ≡ listed r (Roots.roots (take n p) lower upper) ++ drop (size r) (now (out .entry))) ⌝ }
+    ensures { λ r. ⌜ now (kinds .exit) ≡ listed r (Kinds.kinds (take n p) lower upper) ++ drop (size r) (now (kinds .entry)) ⌝ }
 {
     if !bounds_hold(lower, upper) {
         return Inner::Refused;
@@ -52,5 +62,5 @@ pub fn inner_roots(p: [Compensated; 9], n: usize, lower: f64, upper: f64, out: &
         return Inner::Refused;
     }
     let s = spread(p);
-    Inner::Count(roots(&s, n, lower, upper, out))
+    Inner::Count(roots(&s, n, lower, upper, out, kinds))
 }

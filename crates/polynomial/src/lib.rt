@@ -8,6 +8,7 @@ pub mod curve;
 pub mod cuts;
 mod flat;
 pub mod inner;
+pub mod kinds;
 pub mod norm;
 pub mod operation;
 pub mod plain;

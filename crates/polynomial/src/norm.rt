@@ -35,21 +35,37 @@ fn chart(found: &[f64], count: usize, origin: f64, out: &mut [f64], k: usize) ->
 }
 
 // The roots, sorted, each once, in the first places of out. What stands behind them is left, and all
-// of it where an inner call is refused: both calls come before the first angle.
+// of it where an inner call is refused: both calls come before the first angle. How a root arose does
+// not matter here.
 pub fn squared_norm_roots(x: Harmonic, y: Harmonic, norm: f64, out: &mut [f64]) -> Inner
     requires { ⌜ 58 ≤ length (now out) ⌝ }
     ensures { λ r. ⌜ r ≡ squared-norm-answer x y norm ⌝ }
     ensures { λ r. ⌜ now (out .exit) ≡ listed r (Of.squared-norm-roots x y norm) ++ drop (size r) (now (out .entry)) ⌝ }
 {
+    let mut kinds = [0; 32];
     let mut found = [0.0; 32];
     let left = middle(-P, 0.0);
-    let first = inner_roots(norm_polynomial(x, y, norm, left), 5, -1.0, 1.0, &mut found);
+    let first = inner_roots(
+        norm_polynomial(x, y, norm, left),
+        5,
+        -1.0,
+        1.0,
+        &mut found,
+        &mut kinds,
+    );
     let Inner::Count(n) = first else {
         return Inner::Refused;
     };
     let mut other = [0.0; 32];
     let right = middle(0.0, P);
-    let second = inner_roots(norm_polynomial(x, y, norm, right), 5, -1.0, 1.0, &mut other);
+    let second = inner_roots(
+        norm_polynomial(x, y, norm, right),
+        5,
+        -1.0,
+        1.0,
+        &mut other,
+        &mut kinds,
+    );
     let Inner::Count(m) = second else {
         return Inner::Refused;
     };

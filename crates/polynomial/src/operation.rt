@@ -1,10 +1,12 @@
 // The operation Roots of document 01, with its refusals in 01's order.
 ghost use mathlib.Core.Path.{_≡_};
 ghost use mathlib.Core.List.{_++_};
-ghost use Prim.Native.Nat.{_≤_};
+ghost use Prim.Native.Nat.{_+_, _≤_};
 ghost use lib.ListN.{length, take, drop};
+ghost use Rattle.float.specs.Promises.Order.{Span};
 ghost use Rattle.polynomial.specs.Operation as Operation;
 ghost use Rattle.polynomial.specs.Roots as Roots;
+ghost use Rattle.polynomial.specs.Kinds as Kinds;
 use float::number::abs;
 
 // 2^400.
@@ -66,12 +68,61 @@ fn copy(from: &[f64], count: usize, to: &mut [f64])
     }
 }
 
-// The operation: coefficients as pairs, constant first. The result slice gets the roots in its
-// first places; the rest of it, and all of it on refusal, is left. A list that may be too long for
-// it is found elsewhere first.
-pub fn roots(coefficients: &[f64], lower: f64, upper: f64, result: &mut [f64]) -> Answer
-    ensures { λ r. ⌜ r ≡ Operation.answer (now (coefficients .entry)) lower upper (length (now (result .entry))) ⌝ }
+// As `copy`, for bytes.
+fn copy_bytes(from: &[u8], count: usize, to: &mut [u8])
+    requires { ⌜ (count ≤ length (now from)) × (count ≤ length (now to)) ⌝ }
+    ensures { λ _. ⌜ now (to .exit) ≡ take count (now (from .entry)) ++ drop count (now (to .entry)) ⌝ }
+{
+    let mut i = 0;
+    while i < count {
+        to[i] = from[i];
+        i += 1;
+    }
+}
+
+// The roots of n coefficients, found elsewhere first: the list may be too long for a slice.
+fn roots_apart(
+    coefficients: &[f64],
+    n: usize,
+    lower: f64,
+    upper: f64,
+    result: &mut [f64],
+    kinds: &mut [u8],
+) -> Answer
+    requires { ⌜ (n ≤ 9) × Span 2 lower upper × (n + n ≤ length (now coefficients)) ⌝ }
+    ensures { λ r. ⌜ r ≡ Operation.fitted (length (Roots.roots-at n (take n (Operation.pairs (now (coefficients .entry)))) lower upper))
+        (length (now (result .entry))) (length (now (kinds .entry))) ⌝ }
+    ensures { λ r. ⌜ now (result .exit) ≡ Operation.filled r (Roots.roots-at n (take n (Operation.pairs (now (coefficients .entry)))) lower upper)
+        (now (result .entry)) ⌝ }
+    ensures { λ r. ⌜ now (kinds .exit) ≡ Operation.filled r (Kinds.kinds (take n (Operation.pairs (now (coefficients .entry)))) lower upper)
+        (now (kinds .entry)) ⌝ }
+{
+    let mut found = [0.0; 512];
+    let mut arose = [0; 512];
+    let count = crate::roots::roots(coefficients, n, lower, upper, &mut found, &mut arose);
+    if result.len() < count {
+        return Answer::ShortResult;
+    }
+    if kinds.len() < count {
+        return Answer::ShortResult;
+    }
+    copy(&found, count, result);
+    copy_bytes(&arose, count, kinds);
+    Answer::Count(count)
+}
+
+// The operation: coefficients as pairs, constant first. The result slice gets the roots in its first
+// places, and kinds how each arose; the rest of both, and all of it on refusal, is left.
+pub fn roots(
+    coefficients: &[f64],
+    lower: f64,
+    upper: f64,
+    result: &mut [f64],
+    kinds: &mut [u8],
+) -> Answer
+    ensures { λ r. ⌜ r ≡ Operation.answer (now (coefficients .entry)) lower upper (length (now (result .entry))) (length (now (kinds .entry))) ⌝ }
     ensures { λ r. ⌜ now (result .exit) ≡ Operation.filled r (Roots.roots (Operation.pairs (now (coefficients .entry))) lower upper) (now (result .entry)) ⌝ }
+    ensures { λ r. ⌜ now (kinds .exit) ≡ Operation.filled r (Kinds.kinds (Operation.pairs (now (coefficients .entry))) lower upper) (now (kinds .entry)) ⌝ }
 {
     let len = coefficients.len();
     if len % 2 == 1 {
@@ -88,13 +139,9 @@ pub fn roots(coefficients: &[f64], lower: f64, upper: f64, result: &mut [f64]) -
     }
     let n = len / 2;
     if 1 << n <= result.len() {
-        return Answer::Count(crate::roots::roots(coefficients, n, lower, upper, result));
+        if 1 << n <= kinds.len() {
+            return Answer::Count(crate::roots::roots(coefficients, n, lower, upper, result, kinds));
+        }
     }
-    let mut found = [0.0; 512];
-    let count = crate::roots::roots(coefficients, n, lower, upper, &mut found);
-    if result.len() < count {
-        return Answer::ShortResult;
-    }
-    copy(&found, count, result);
-    Answer::Count(count)
+    roots_apart(coefficients, n, lower, upper, result, kinds)
 }

@@ -1,7 +1,6 @@
 -- The values at which joint 1 is tried where the arm is folded: `search` of j1j2free.rs, up to its last `dedup` (01, module 6). Definitions only.
-use mathlib.Core.Bool.{Bool, false, _||_}
 use mathlib.Core.List.{List, [], _∷_, _++_}
-use lib.Ieee.{Float, eq}
+use lib.Ieee.{Float}
 use Rattle.float.specs.Number.{middle}
 use Rattle.polynomial.specs.Cuts.{cuts}
 
@@ -15,8 +14,3 @@ mids (x ∷ (y ∷ l)) = middle x y ∷ mids (y ∷ l)
 -- and the middles of their neighbours, sorted and with no value twice.
 unfoldable pub slices : Float → Float → Float → List Float → List Float → List Float
 slices reference lower upper a b = cuts (reference ∷ lower ∷ upper ∷ ((a ++ mids a) ++ (b ++ mids b)))
-
--- an element that equals v, as `==` has it
-unfoldable pub among : Float → List Float → Bool
-among v [] = false
-among v (x ∷ l) = eq v x || among v l

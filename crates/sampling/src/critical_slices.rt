@@ -63,13 +63,14 @@ fn angles(work: &mut [f64], cuts: Put, origin: f64, roots: &[f64], n: usize) -> 
     state
 }
 
-// An inner call of the root finder, for the first n coefficients.
+// An inner call of the root finder, for the first n coefficients. A cut is the same however it arose.
 fn chart_roots(work: &mut [f64], cuts: Put, c: Chart, p: [Compensated; 9], n: usize) -> Grew
     requires { ⌜ n ≤ 9 ⌝ }
     ensures { λ r. ⌜ (r .holds ≡ Of.chart-holds c (take n p)) × Grown (Of.chart-roots c (take n p)) (now (work .entry)) cuts (now (work .exit)) (r .cuts) ⌝ }
 {
     let mut found = [0.0; 512];
-    let answer = inner_roots(p, n, c.lower, c.upper, &mut found);
+    let mut kinds = [0; 512];
+    let answer = inner_roots(p, n, c.lower, c.upper, &mut found, &mut kinds);
     match answer {
         Inner::Count(m) => {
             let state = angles(work, cuts, c.origin, &found, m);

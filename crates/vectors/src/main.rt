@@ -14,9 +14,9 @@
 //     s sin    t tan      a atan            o acos
 //     c cos    h hypot    q atan2 (y, x)    i asin
 //
-// Roots (`--bin root_samples`): 1 an example of document 01 that is proved too, 2 another of its
-// examples, 3 a call by the oracle's generator; the number of floats and each of them, the bounds,
-// the places of the result slice, the answer and the roots.
+// Roots (`--bin root_samples`): 1 an example of document 01 that is proved too, 2 another example of
+// 01 or 02, 3 a call by the oracle's generator; the number of floats and each of them, the bounds,
+// the places of the result slice, the bytes of the kinds, the answer, the roots and their kinds.
 //
 // Module 4 (`--bin part_samples`), operands and every number of the answer:
 //

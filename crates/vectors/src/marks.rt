@@ -6,7 +6,7 @@ ghost use lib.ListN.{length};
 // The words that the line at `at` has by its mark and its counts, or 0 where it is none.
 fn words(s: &[u8], at: usize) -> usize
     requires { ⌜ at < length (now s) ⌝ }
-    ensures { λ r. ⌜ r ≤ 581 ⌝ }
+    ensures { λ r. ⌜ r ≤ 1094 ⌝ }
 {
     let mark = s[at];
     match mark {

@@ -20,7 +20,7 @@ fn stored_roots(answer: u64) -> usize
 // The words that the line at `at` has by its counts, or 0 where these are too large.
 pub(crate) fn words(s: &[u8], at: usize) -> usize
     requires { ⌜ at < length (now s) ⌝ }
-    ensures { λ r. ⌜ r ≤ 581 ⌝ }
+    ensures { λ r. ⌜ r ≤ 1094 ⌝ }
 {
     if s.len() - at < 19 {
         return 0;
@@ -29,14 +29,14 @@ pub(crate) fn words(s: &[u8], at: usize) -> usize
     if 64 < n {
         return 0;
     }
-    if s.len() - at < 17 * n + 87 {
+    if s.len() - at < 17 * n + 104 {
         return 0;
     }
-    let m = stored_roots(word(s, at + 17 * n + 70));
+    let m = stored_roots(word(s, at + 17 * n + 87));
     if 512 < m {
         return 0;
     }
-    n + m + 5
+    n + m + m + 6
 }
 
 // The bits of what place i of the result slice holds beforehand, another float at each place.
@@ -81,24 +81,35 @@ fn number(a: Answer) -> u64 {
     }
 }
 
-// The call on the first n floats of c and a slice of so many places.
-fn run(c: &[f64], n: usize, lower: u64, upper: u64, places: usize, result: &mut [f64]) -> u64
-    requires { ⌜ (n ≤ length (now c)) × (places ≤ length (now result)) ⌝ }
+// The call on the first n floats of c, and on slices of so many places and bytes.
+fn run(
+    c: &[f64],
+    n: usize,
+    lower: u64,
+    upper: u64,
+    places: usize,
+    result: &mut [f64],
+    bytes: usize,
+    kinds: &mut [u8],
+) -> u64
+    requires { ⌜ (n ≤ length (now c)) × (places ≤ length (now result)) × (bytes ≤ length (now kinds)) ⌝ }
 {
     let l = of_bits(lower);
     let u = of_bits(upper);
-    number(polynomial::operation::roots(&c[..n], l, u, &mut result[..places]))
+    let r = &mut result[..places];
+    let k = &mut kinds[..bytes];
+    number(polynomial::operation::roots(&c[..n], l, u, r, k))
 }
 
-// The bits that place i is to hold afterwards: of m roots, whose words stand 17 bytes apart from `at`
-// on, or the rubbish.
-fn expected(s: &[u8], at: usize, m: usize, i: usize) -> u64
-    requires { ⌜ (i < 512) × (at + 17 * m ≤ length (now s)) ⌝ }
+// What place i is to hold afterwards: one of m words, which stand 17 bytes apart from `at` on, or what
+// it held.
+fn expected(s: &[u8], at: usize, m: usize, i: usize, held: u64) -> u64
+    requires { ⌜ at + 17 * m ≤ length (now s) ⌝ }
 {
     if i < m {
         return word(s, at + 17 * i);
     }
-    rubbish(i)
+    held
 }
 
 // Whether every place holds what it is to hold.
@@ -108,44 +119,68 @@ fn holds(s: &[u8], at: usize, m: usize, result: &[f64]) -> bool
     let mut good = true;
     let mut i = 0usize;
     while i < result.len() {
-        good = good & (bits(result[i]) == expected(s, at, m, i));
+        good = good & (bits(result[i]) == expected(s, at, m, i, rubbish(i)));
+        i += 1;
+    }
+    good
+}
+
+fn wide(x: u8) -> u64 {
+    x as u64
+}
+
+// Whether every byte is what it is to be: 165, where it is left.
+fn bytes_hold(s: &[u8], at: usize, m: usize, kinds: &[u8]) -> bool
+    requires { ⌜ at + 17 * m ≤ length (now s) ⌝ }
+{
+    let mut good = true;
+    let mut i = 0usize;
+    while i < kinds.len() {
+        good = good & (wide(kinds[i]) == expected(s, at, m, i, 165));
         i += 1;
     }
     good
 }
 
 // Whether the call of n floats and m roots at `at` has the expected answer, and every place of
-// the slice and behind it what it is to hold. `after` is where the bounds stand.
+// the slices and behind them what it is to hold. `after` is where the bounds stand.
 fn answers(s: &[u8], at: usize, n: usize, m: usize) -> bool
-    requires { ⌜ (n ≤ 64) × (at + 17 * (n + m) + 87 ≤ length (now s)) ⌝ }
+    requires { ⌜ (n ≤ 64) × (at + 17 * (n + m + m) + 104 ≤ length (now s)) ⌝ }
 {
     let after = at + 17 * n + 19;
     let places = held(word(s, after + 34), 512);
     if 512 < places {
         return false;
     }
+    let bytes = held(word(s, after + 51), 512);
+    if 512 < bytes {
+        return false;
+    }
     let c = floats(s, at + 19, n);
     let mut result = [0.0; 512];
     blot(&mut result);
+    let mut kinds = [165; 512];
     let lower = word(s, after);
     let upper = word(s, after + 17);
-    let found = run(&c, n, lower, upper, places, &mut result);
-    (found == word(s, after + 51)) & holds(s, after + 68, m, &result)
+    let found = run(&c, n, lower, upper, places, &mut result, bytes, &mut kinds);
+    let listed = holds(s, after + 85, m, &result);
+    let marked = bytes_hold(s, after + 85 + 17 * m, m, &kinds);
+    (found == word(s, after + 68)) & listed & marked
 }
 
 // Whether Roots answers as stored, for a call whose line has k words.
 pub(crate) fn agrees(s: &[u8], at: usize, k: usize) -> bool
     requires { ⌜ at + 17 * k + 2 ≤ length (now s) ⌝ }
 {
-    if k < 5 {
+    if k < 6 {
         return false;
     }
     let n = held(word(s, at + 2), 64);
     if 64 < n {
         return false;
     }
-    if k < n + 5 {
+    if k < n + 6 {
         return false;
     }
-    answers(s, at, n, k - n - 5)
+    answers(s, at, n, (k - n - 6) / 2)
 }

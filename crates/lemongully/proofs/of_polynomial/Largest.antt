@@ -2,7 +2,7 @@
 use Prim.Native.Nat.{ℕ, _+_, _%_, _≤_, zero-le}
 use native.Mathlib.Omega.{arith}
 use mathlib.Core.Path.{_≡_, refl, sym}
-use mathlib.Core.Bool.{Bool, true, false, cond, _||_, false≢true}
+use mathlib.Core.Bool.{Bool, true, false, cond, _&&_, _||_, false≢true}
 use mathlib.Core.List.{List, [], _∷_}
 use lib.IntN.{natAbs}
 use lib.Dec.{ltb, leb, eqb, lit≤}
@@ -32,20 +32,21 @@ cond-few : (b : Bool) (x y : Answer) → (b ≡ true → Few x) → (b ≡ false
 cond-few true x y f g = f refl
 cond-few false x y f g = g refl
 
-module _ (s : List Float) (lower upper : Float) (room : ℕ) where
+module _ (s : List Float) (lower upper : Float) (room bytes : ℕ) where
   few-roots : bad-length s ≡ false → length (roots (pairs s) lower upper) ≤ 509
   few-roots h =
       let l = ltb-false 18 (length s) (or-right (eqb (length s % 2) 1) (ltb 18 (length s)) h) in
       let k = pairs-short s in
       all-most lower upper 9 (pairs s) (omega arith)
 
-  pub answer-few : Few (answer s lower upper room)
+  pub answer-few : Few (answer s lower upper room bytes)
   unfolding answer
   answer-few =
       cond-few (bad-length s) BadLength _ (λ _. lit≤ tt) (λ h.
       cond-few (bounds-hold lower upper) _ BadBounds (λ _.
       cond-few (parts-hold s) _ BadPart (λ _.
-      cond-few (leb (length (roots (pairs s) lower upper)) room) (Count (length (roots (pairs s) lower upper))) ShortResult
+      cond-few (leb (length (roots (pairs s) lower upper)) room && leb (length (roots (pairs s) lower upper)) bytes)
+      (Count (length (roots (pairs s) lower upper))) ShortResult
       (λ _. few-roots h) (λ _. lit≤ tt))
       (λ _. lit≤ tt))
       (λ _. lit≤ tt))

@@ -5,15 +5,13 @@ use native.Mathlib.Nat.{le-refl}
 use native.Mathlib.Numerals.{add-one}
 use native.Mathlib.Omega.{arith}
 use mathlib.Core.Path.{_≡_, refl, sym, ap, subst, _∙_}
-use mathlib.Core.List.{List, [], _∷_, _++_}
+use mathlib.Core.List.{List, [], _∷_}
 use lib.ListN.{length, getD, take, drop, length-take}
 use lib.Seq.{slice, slice-cons, slice-empty}
 use lib.Ieee.{Float}
 use Rattle.float.specs.Promises.Order.{Span}
-use Rattle.polynomial.specs.Cuts.{cuts}
 use Rattle.polynomial.specs.Polynomial.{evaluate}
-use Rattle.polynomial.specs.Roots.{touches, crossings}
-use Rattle.polynomial.specs.Promises.Inside.{Ready, Stands, touched, crossed}
+use Rattle.polynomial.specs.Promises.Inside.{Ready, Stands, touched, crossed, found}
 use Rattle.polynomial.specs.declared.compensated.Compensated.{Compensated}
 use Rattle.polynomial.specs.declared.roots.Interval.{Interval}
 use Rattle.polynomial.proofs.roots.Kept.{Front, front-of, front-take, front-rest, front-length}
@@ -41,7 +39,7 @@ pub record Scanned (p : List Compensated) (points : List Float) (count : ℕ) (f
   pub rest : (m : ℕ) → k ≤ m → drop m out ≡ drop m from
   pub ready : Ready (lo ∷ slice i count points)
   pub value : Stands u (evaluate p lo)
-  pub result : run p (take k out) lo (slice i count points) ≡ cuts (touches p (take count points) ++ crossings p (take count points))
+  pub result : run p (take k out) lo (slice i count points) ≡ found p (take count points)
 
 module _ (p : List Compensated) (points : List Float) (count : ℕ) (h : count ≤ length points) where
   pub scan-first : (room : List Float) (d u : Float) (k : ℕ) (out : List Float) → count + count ≤ length room → 0 < count → Ready (take count points)
@@ -65,30 +63,30 @@ module _ (p : List Compensated) (points : List Float) (count : ℕ) (h : count �
         result =
             ap (λ (l : List Float). run p l x (slice 1 count points)) (front-take (touched p x []) room out k f)
             ∙ scanned p x (slice 1 count points) y
-            ∙ ap (λ (l : List Float). cuts (touches p l ++ crossings p l)) (sym s);
+            ∙ ap (found p) (sym s);
       }
 
   module _ (from : List Float) (first : ℕ) (out : List Float) (lo u : Float) (k i : ℕ) (s : Scanned p points count from first out lo u k i)
-      (c : i < count) (d : Float) where
-    at-i : slice i count points ≡ getD points i d ∷ slice (suc i) count points
-    at-i = slice-cons i count points d c h
+      (c : i < count) (d x : Float) (ex : x ≡ getD points i d) where
+    at-i : slice i count points ≡ x ∷ slice (suc i) count points
+    at-i = slice-cons i count points d c h ∙ ap (λ (y : Float). y ∷ slice (suc i) count points) (sym ex)
 
-    coming : Ready (lo ∷ (getD points i d ∷ slice (suc i) count points))
+    coming : Ready (lo ∷ (x ∷ slice (suc i) count points))
     coming = subst (λ (l : List Float). Ready (lo ∷ l)) at-i (s .ready)
 
-    pub span : Span 2 lo (getD points i d)
+    pub span : Span 2 lo x
     span = coming .0
 
-    module _ (v : Float) (k₁ : ℕ) (out₁ : List Float) (e : Stands v (evaluate p (getD points i d)))
-        (f : Front (touched p (getD points i d) (take k out)) out k₁ out₁) where
+    module _ (v : Float) (k₁ : ℕ) (out₁ : List Float) (e : Stands v (evaluate p x))
+        (f : Front (touched p x (take k out)) out k₁ out₁) where
       touched-few : k₁ ≤ suc k
       touched-few =
-          let m = touched-most p (getD points i d) (take k out) in
+          let m = touched-most p x (take k out) in
           omega (arith, f .0, length-take k out)
 
       touched-more : k ≤ k₁
       touched-more =
-          let m = touched-least p (getD points i d) (take k out) in
+          let m = touched-least p x (take k out) in
           let a = s .few in
           let b = s .room in
           let y = s .same in
@@ -100,16 +98,15 @@ module _ (p : List Compensated) (points : List Float) (count : ℕ) (h : count �
           let b = s .few in
           let r = s .room in
           let y = s .same in
-          front-length (touched p (getD points i d) (take k out)) out out₁ k₁ f (omega arith)
+          front-length (touched p x (take k out)) out out₁ k₁ f (omega arith)
 
       pub cross-room : k₁ < length out₁
       cross-room = let a = touched-few in let b = touched-same in let r = s .few in let q = s .room in let y = s .same in omega arith
 
       pub scan-more : (k₂ : ℕ) (out₂ : List Float)
-          → Front (crossed (evaluate p) (record { lo = lo; hi = getD points i d; u = u; v = v }) (take k₁ out₁)) out₁ k₂ out₂
-          → Scanned p points count from first out₂ (getD points i d) v k₂ (i + 1)
+          → Front (crossed (evaluate p) (record { lo = lo; hi = x; u = u; v = v }) (take k₁ out₁)) out₁ k₂ out₂
+          → Scanned p points count from first out₂ x v k₂ (i + 1)
       scan-more k₂ out₂ g =
-          let x = getD points i d in
           let at : Interval = record { lo = lo; hi = x; u = u; v = v } in
           let m = crossed-most (evaluate p) at (take k₁ out₁) in
           let n = crossed-least (evaluate p) at (take k₁ out₁) in
@@ -150,7 +147,7 @@ module _ (p : List Compensated) (points : List Float) (count : ℕ) (h : count �
   -- `room` was lent, and the first point looked at there
   pub scan-last : (room from : List Float) (d : Float) (first : ℕ) (out : List Float) (lo u : Float) (k i : ℕ)
       → Front (touched p (getD points 0 d) (take 0 room)) room first from → Scanned p points count from first out lo u k i → count ≤ i
-      → Front (cuts (touches p (take count points) ++ crossings p (take count points))) room k out
+      → Front (found p (take count points)) room k out
   unfolding run
   scan-last room from d first out lo u k i f s c =
       let a = s .within in
@@ -159,6 +156,6 @@ module _ (p : List Compensated) (points : List Float) (count : ℕ) (h : count �
       let y = s .same in
       let e : i ≡ count = omega arith in
       let n : slice i count points ≡ [] = ap (λ (j : ℕ). slice j count points) e ∙ slice-empty count points in
-      let t : take k out ≡ cuts (touches p (take count points) ++ crossings p (take count points)) = sym (ap (run p (take k out) lo) n) ∙ s .result in
+      let t : take k out ≡ found p (take count points) = sym (ap (run p (take k out) lo) n) ∙ s .result in
       front-of _ room out k (omega (arith, length-take k out, ap length t)) t
       (s .rest k (le-refl k) ∙ front-rest (touched p (getD points 0 d) []) room from first f k (s .grown))

@@ -6,14 +6,14 @@ use native.Mathlib.Nat.{le-refl, le-trans, le-of-suc-le-suc, eq-zero-or-pos, not
 use native.Mathlib.Omega.{arith}
 use mathlib.Core.Path.{_≡_, refl, ap, sym, _∙_}
 use mathlib.Core.Bool.{Bool, true, false, cond}
-use mathlib.Core.List.{List, [], _∷_, _++_}
+use mathlib.Core.List.{List, [], _∷_}
 use mathlib.Core.Logic.{inl, inr}
 use lib.ListN.{length, getD}
 use lib.Ieee.{Float}
 use Rattle.polynomial.specs.Compensated.{is-zero}
-use Rattle.polynomial.specs.Cuts.{cuts}
 use Rattle.polynomial.specs.Polynomial.{zero-pair, kept, trim, all-finite, powered, derivative}
-use Rattle.polynomial.specs.Roots.{partitions, touches, crossings, quotient, by-count, roots-at, roots}
+use Rattle.polynomial.specs.Roots.{partitions, quotient, by-count, roots-at, roots}
+use Rattle.polynomial.specs.Promises.Inside.{found}
 use Rattle.polynomial.specs.declared.compensated.Compensated.{Compensated}
 
 -- ---- lengths
@@ -54,10 +54,6 @@ counted-short p = go (all-finite p)
     go false = zero-le
 
 -- ---- the ways of `by-count`
-
--- the points near zero and the ends of the bisections, of given points
-abbrev pub found : List Compensated → List Float → List Float
-found p points = cuts (touches p points ++ crossings p points)
 
 module _ (p : List Compensated) (lower upper : Float) where
   count-same : (m : ℕ) (a b : Unit {0} → List Float) → a tt ≡ b tt → by-count m p lower upper a ≡ by-count m p lower upper b

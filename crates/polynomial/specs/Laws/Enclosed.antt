@@ -16,23 +16,21 @@ use lib.Ieee.Scale.{finite}
 use lib.Ieee.Fits.{div-fits, and-i}
 use Rattle.float.specs.Number.{_⊘_, negative, total-le}
 use Rattle.float.specs.Laws.Interval.{in-of, Le-refl, Le-trans}
-use Rattle.float.specs.Promises.Order.{Within}
+use Rattle.float.specs.Promises.Order.{Within, Span}
 use Rattle.float.specs.Laws.Within.{within→Le, Le→within}
 use Rattle.float.specs.Laws.Whole.{Le-units, lt-units}
 use Rattle.float.specs.Laws.Total.{eq-comm}
 use Rattle.float.specs.Laws.Tests.{total-le-unequal, finite-number}
-use Rattle.float.specs.Promises.Order.{Span}
 use Rattle.polynomial.specs.Compensated.{value}
 use Rattle.polynomial.specs.Cuts.{cuts, put}
-use Rattle.polynomial.specs.Promises.Inside.{Ready}
+use Rattle.polynomial.specs.Promises.Inside.{Ready, found}
 use Rattle.polynomial.specs.Polynomial.{zero-pair, evaluate, near-zero, trim, derivative}
 use Rattle.polynomial.specs.Roots.{partitions, touches, crosses, crossing, crossings, bisected, quotient, by-count, roots-at, roots}
 use Rattle.polynomial.specs.declared.compensated.Compensated.{Compensated}
-use Rattle.polynomial.specs.Promises.Lists.{Fit}
+use Rattle.polynomial.specs.Promises.Lists.{Fit, All}
 use Rattle.polynomial.specs.Laws.Cuts.{cuts-cons, put-most, put-longer, Above, Strict, strict-cuts, cuts-strict, cuts-snoc, all-cuts}
 use Rattle.polynomial.specs.Laws.Degree.{trim-short, derivative-length, counted, counted-short, count-low, enough}
 use Rattle.polynomial.specs.Laws.Bisection.{Between, bisected-in}
-use Rattle.polynomial.specs.Promises.Lists.{All}
 use Rattle.polynomial.specs.Laws.Lists.{all-append}
 
 -- ---- every element
@@ -245,6 +243,15 @@ crossings-short p (a ∷ (b ∷ l)) = go (crosses (evaluate p a) (evaluate p b))
     go true k = omega arith
     go false k = omega arith
 
+-- a root for each point, and one between each two neighbours
+pub found-short : (p : List Compensated) (points : List Float) → length (found p points) ≤ length points + (length points - 1)
+found-short p points =
+    let b = touches-short p points in
+    let c = crossings-short p points in
+    let d = length-append (touches p points) (crossings p points) in
+    let f = cuts-short (touches p points ++ crossings p points) in
+    omega arith
+
 quotient-short : (a b : Compensated) (lower upper : Float) → length (quotient a b lower upper) ≤ 1
 unfolding quotient
 quotient-short a b lower upper =
@@ -276,10 +283,7 @@ module _ (lower upper : Float) where
       let w : 2 ^ 2 ≤ 2 ^ k = pow-mono (le-trans (suc-le-suc (suc-le-suc zero-le)) (le-of-suc-le-suc h)) in
       let e : 2 ^ suc k ≡ 2 ^ k * 2 = pow-suc 2 k in
       let a = points-short (inner tt) in
-      let b = touches-short p points in
-      let c = crossings-short p points in
-      let d = length-append (touches p points) (crossings p points) in
-      let f = cuts-short (touches p points ++ crossings p points) in
+      let f = found-short p points in
       omega arith
 
   -- by the number of coefficients

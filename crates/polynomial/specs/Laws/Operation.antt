@@ -65,14 +65,14 @@ counts BadBounds = false
 counts BadPart = false
 counts ShortResult = false
 
-by-tests : (a b c : Bool) (n : ℕ) → (a && b && c) ≡ counts (cond a (cond b (cond c (Count n) ShortResult) BadPart) BadBounds)
+by-tests : (a b c : Bool) (n : ℕ) → (a && b && c) ≡ counts (cond a (cond b (cond (c && c) (Count n) ShortResult) BadPart) BadBounds)
 by-tests true true true n = refl
 by-tests true true false n = refl
 by-tests true false c n = refl
 by-tests false b c n = refl
 
--- An inner call holds exactly if Roots, given its parts and lent 509 places, answers a count: 01's refusal 9 is that it does not.
-pub inner-is-roots : (p : List Compensated) (lower upper : Float) → length p ≤ 9 → inner-holds p lower upper ≡ counts (answer (parts p) lower upper 509)
+-- An inner call holds exactly if Roots, given its parts and lent 509 places of each slice, answers a count: 01's refusal 9 is that it does not.
+pub inner-is-roots : (p : List Compensated) (lower upper : Float) → length p ≤ 9 → inner-holds p lower upper ≡ counts (answer (parts p) lower upper 509 509)
 unfolding inner-holds answer
 inner-is-roots p lower upper h =
     by-tests (bounds-hold lower upper) (all-hold p) (leb (length (roots p lower upper)) 509) (length (roots p lower upper))
@@ -119,5 +119,5 @@ listed BadPart = inr (inr (inr (inl refl)))
 listed ShortResult = inr (inr (inr (inr refl)))
 
 -- Every answer of Roots is a count or one of its refusals.
-pub roots-answers : (s : List Float) (lower upper : Float) (room : ℕ) → Listed (number (answer s lower upper room))
-roots-answers s lower upper room = listed (answer s lower upper room)
+pub roots-answers : (s : List Float) (lower upper : Float) (room bytes : ℕ) → Listed (number (answer s lower upper room bytes))
+roots-answers s lower upper room bytes = listed (answer s lower upper room bytes)

@@ -1,7 +1,7 @@
 -- What an inner call of the root finder promises: the number of roots, or that the call is refused, and the list
 -- that then stands in the lent slice. Nothing that a public contract of an upper crate says.
-use mathlib.Core.Bool.{cond}
 use Prim.Native.Nat.{ℕ}
+use mathlib.Core.Bool.{cond}
 use mathlib.Core.List.{List, []}
 use lib.ListN.{length}
 use lib.Ieee.{Float}
@@ -19,6 +19,6 @@ abbrev pub size : Inner → ℕ
 size (Count n) = n
 size Refused = 0
 
-abbrev pub listed : Inner → List Float → List Float
+abbrev pub listed : {A : Type 0} → Inner → List A → List A
 listed (Count n) l = l
 listed Refused l = []

@@ -1,16 +1,16 @@
 -- What the inner functions of the root finder ask and promise: an interval can be bisected where it is a
 -- `Span 2`, two floats within ±4 in order. Nothing that a public contract says.
-use Prim.Native.Nat.{_<_}
+use Prim.Native.Nat.{ℕ, _<_}
 use mathlib.Core.Path.{_≡_}
-use mathlib.Core.List.{List, [], _∷_}
+use mathlib.Core.List.{List, [], _∷_, _++_, map}
 use mathlib.Core.Bool.{Bool, not, Bool·beq, cond}
 use lib.Ieee.{Float, binary64, eq}
 use Rattle.float.specs.Number.{negative, middle, zero-float}
-use Rattle.float.specs.Promises.Order.{width}
-use Rattle.float.specs.Promises.Order.{Span}
-use Rattle.polynomial.specs.Cuts.{put}
+use Rattle.float.specs.Promises.Order.{width, Span}
+use Rattle.polynomial.specs.Cuts.{cuts, put}
 use Rattle.polynomial.specs.Polynomial.{near-zero}
-use Rattle.polynomial.specs.Roots.{crosses, bisected}
+use Rattle.polynomial.specs.Roots.{touches, crosses, crossings, bisected}
+use Rattle.polynomial.specs.Kinds.{kind, marked}
 use Rattle.polynomial.specs.declared.compensated.Compensated.{Compensated}
 use Rattle.polynomial.specs.declared.roots.Interval.{Interval}
 use Rattle.polynomial.specs.declared.polynomial.Three.{Three}
@@ -30,6 +30,10 @@ Ready (a ∷ (b ∷ r)) = Span 2 a b × Ready (b ∷ r)
 abbrev pub Stands : Float → Float → Type 0
 Stands v w = (eq v zero-float ≡ eq w zero-float) × (negative v ≡ negative w)
 
+-- how many of one thing there are, by a test
+abbrev pub one-if : Bool → ℕ
+one-if b = cond b 1 0
+
 -- the cuts l with x, where the value there is near zero
 abbrev pub touched : List Compensated → Float → List Float → List Float
 touched p x l = cond (near-zero p x) (put x l) l
@@ -37,6 +41,14 @@ touched p x l = cond (near-zero p x) (put x l) l
 -- the cuts l with the end of the bisection between two points, where f crosses zero between them
 abbrev pub crossed : (Float → Float) → Interval → List Float → List Float
 crossed f at l = cond (crosses (at .u) (at .v)) (put (bisected f (not (negative (at .u))) (at .lo) (at .hi)) l) l
+
+-- the points near zero and the ends of the bisections, of given points
+abbrev pub found : List Compensated → List Float → List Float
+found p points = cuts (touches p points ++ crossings p points)
+
+-- the kinds of roots l, by the partition points near zero
+abbrev pub kinds-of : List Float → List Float → List ℕ
+kinds-of near l = map kind (map (marked near) l)
 
 -- the values of f at three points, where they are given
 abbrev pub Known : (Float → Float) → Float → Float → Float → Three → Type 0

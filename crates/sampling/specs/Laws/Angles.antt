@@ -1,9 +1,9 @@
 -- Two theorems about a job's angles: how many there are at most, and that kind 3 tries the reference.
-use mathlib.Core.Path.{_≡_, refl, sym, subst}
-use mathlib.Core.Bool.{true, not}
-use mathlib.Core.List.{List, []}
 use Prim.Native.Nat.{ℕ, _+_, _^_, _≤_, _<_}
 use native.Mathlib.Omega.{arith}
+use mathlib.Core.Path.{_≡_, refl, sym, subst}
+use mathlib.Core.Bool.{true, not}
+use mathlib.Core.List.{[]}
 use lib.Dec.{T}
 use lib.ListN.{length}
 use lib.Ieee.{Float, binary64, fits, isNan}
@@ -12,7 +12,8 @@ use Rattle.sampling.specs.J1j2free.{model-reference, folded, first-half,
 use Rattle.sampling.specs.Limits.{limits}
 use Rattle.sampling.specs.Promises.Plan.{Moderate}
 use Rattle.sampling.specs.SampleAngles.{sample-angles}
-use Rattle.sampling.specs.Slices.{slices, among}
+use Rattle.sampling.specs.Slices.{slices}
+use Rattle.polynomial.specs.Kinds.{among}
 use Rattle.sampling.specs.Laws.AngleCounts.{sample-angles-few}
 use Rattle.sampling.specs.Laws.SliceCounts.{most-both-cuts, both-cuts-few}
 use Rattle.sampling.specs.Laws.Reference.{reference-number}

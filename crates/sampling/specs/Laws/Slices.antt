@@ -5,8 +5,7 @@ use Prim.Native.Nat.{_+_, _*_, _≤_}
 use native.Mathlib.Omega.{arith}
 use mathlib.Core.Path.{_≡_, refl, sym, ap, subst, _∙_}
 use mathlib.Core.Bool.{Bool, true, false, not, cond}
-use mathlib.Core.List.{List, [], _∷_, _++_, append-assoc, List·Permᴰ, List·Permᴰ·cons}
-use mathlib.Core.List.{List·Permᴰ·swap, List·Permᴰ·trans, Permᴰ·middle, Permᴰ·append-left, Permᴰ·append-right, Permᴰ·append-nil}
+use mathlib.Core.List.{List, [], _∷_, _++_, append-assoc, List·Permᴰ, List·Permᴰ·cons, List·Permᴰ·swap, List·Permᴰ·trans, Permᴰ·middle, Permᴰ·append-left, Permᴰ·append-right, Permᴰ·append-nil}
 use lib.Dec.{T}
 use lib.ListN.{length, length-append}
 use lib.Ieee.{Float, nan, inf, fin, binary64, eq, fits, isNan}
@@ -17,7 +16,8 @@ use Rattle.polynomial.specs.Cuts.{sort, rest, dedup, cuts, put}
 use Rattle.polynomial.specs.Promises.Lists.{Fit}
 use Rattle.polynomial.specs.Laws.Cuts.{fit-append, fit-right, fit-cuts, fit-perm, perm-comm, cuts-perm, cuts-cons, absorb}
 use Rattle.polynomial.specs.Laws.Enclosed.{cuts-short}
-use Rattle.sampling.specs.Slices.{mids, slices, among}
+use Rattle.sampling.specs.Slices.{mids, slices}
+use Rattle.polynomial.specs.Kinds.{among}
 use Rattle.sampling.specs.Promises.Stream.{weave, stream, distinct, start}
 use Rattle.sampling.specs.Laws.Weave.{weave-perm, weave-fit, weave-length, mids-length}
 

@@ -2,13 +2,13 @@
 -- measures are twice the number of coefficients, and one more for `roots`.
 use Prim.Native.Nat.{ℕ, _+_, _-_, _^_, _<_, _≤_}
 use native.Mathlib.Omega.{arith}
-use native.Mathlib.Nat.{le-refl, le-of-eq}
+use native.Mathlib.Nat.{le-of-eq}
 use mathlib.Core.Path.{_≡_, refl, sym, ap, ap₂, _∙_, subst}
 use mathlib.Core.Bool.{Bool, cond}
-use mathlib.Core.List.{List, []}
+use mathlib.Core.List.{List, [], _++_}
 use lib.Arith.{lt-of-le-ne}
 use lib.Pow.{pow-pos, pow-mono}
-use lib.ListN.{length, take}
+use lib.ListN.{length, take, drop}
 use lib.Seq.{length-take-le}
 use lib.Ieee.{Float}
 use borrow.Author.Needs.{needs}
@@ -18,22 +18,24 @@ use borrow.Fn.PlainCycle.{Measures, is, falls, and}
 use denote.Ref.{now}
 use Rattle.polynomial.specs.Operation.{pairs}
 use Rattle.polynomial.specs.Polynomial.{zero-pair, derivative}
-use Rattle.polynomial.specs.Promises.Inside.{Ready}
+use Rattle.polynomial.specs.Promises.Inside.{Ready, found, kinds-of}
 use Rattle.polynomial.specs.declared.compensated.Compensated.{Compensated}
-use Rattle.polynomial.specs.Laws.Degree.{counted, counted-short, found, none-left, two-left, more-left}
+use Rattle.polynomial.specs.Laws.Degree.{counted, counted-short, none-left, two-left, more-left}
+use Rattle.polynomial.specs.Laws.Kinds.{kinds-none, kinds-two, kinds-more}
 use Rattle.polynomial.specs.Laws.Enclosed.{roots-in, points-ready, points-some}
+use Rattle.polynomial.specs.Kinds.{kinds}
 use Rattle.polynomial.specs.Roots as Of
 use Rattle.polynomial.proofs.roots.Kept.{Front, front-same, front-take}
 use Rattle.polynomial.proofs.roots.Cycle.{derivative-front, line-of, bounded, put-room, inner-room, points-room}
 use Rattle.polynomial.proofs.roots.+partitions+roots.{statement}
 use Rattle.polynomial.proofs.roots.+partitions+roots.Tie.{close}
+use Rattle.polynomial.proofs.flat.Parts.{enough}
 use Rattle.polynomial.proofs.roots.partitions.Reads as partitions
 use Rattle.polynomial.proofs.roots.partitions.Kinds as partitions-kinds
 use Rattle.polynomial.proofs.roots.+partitions+roots.Lts-partitions as partitions-lts
 use Rattle.polynomial.proofs.roots.roots.Reads as roots
 use Rattle.polynomial.proofs.roots.roots.Kinds as roots-kinds
 use Rattle.polynomial.proofs.roots.+partitions+roots.Lts-roots as roots-lts
-use Rattle.polynomial.proofs.flat.Parts.{enough}
 use Rattle.polynomial.proofs.flat.pair_at.Reads as pair-at-reads
 use Rattle.polynomial.proofs.flat.spread.Reads as spread-reads
 use Rattle.polynomial.proofs.polynomial.all_finite.Reads as all-finite-reads
@@ -41,12 +43,12 @@ use Rattle.polynomial.proofs.polynomial.derivative.Reads as derivative-
 use Rattle.polynomial.proofs.polynomial.trimmed.Reads as trimmed-reads
 use Rattle.polynomial.proofs.roots.keep.Reads as keep-reads
 use Rattle.polynomial.proofs.roots.quotient.Reads as quotient-reads
-use Rattle.polynomial.proofs.roots.scan.Reads as scan-reads
+use Rattle.polynomial.proofs.roots.roots_by.Reads as roots-by-reads
 
 abbrev μ-partitions : Measures 2 partitions-kinds.ps ℕ
 μ-partitions κs a = a .1 .0 + a .1 .0
 
-abbrev μ-roots : Measures 2 roots-kinds.ps ℕ
+abbrev μ-roots : Measures 3 roots-kinds.ps ℕ
 μ-roots κs a = a .1 .0 + a .1 .0 + 1
 
 abbrev partitions-at : ℕ → In 2 partitions-kinds.ps
@@ -55,11 +57,11 @@ partitions-at t = and 2 partitions-kinds.ps (is 2 partitions-kinds.ps μ-partiti
 abbrev partitions-below : ℕ → In 2 partitions-kinds.ps
 partitions-below t = and 2 partitions-kinds.ps (falls 2 partitions-kinds.ps _<_ μ-partitions t) partitions.Pre
 
-abbrev roots-at : ℕ → In 2 roots-kinds.ps
-roots-at t = and 2 roots-kinds.ps (is 2 roots-kinds.ps μ-roots t) roots.Pre
+abbrev roots-at : ℕ → In 3 roots-kinds.ps
+roots-at t = and 3 roots-kinds.ps (is 3 roots-kinds.ps μ-roots t) roots.Pre
 
-abbrev roots-below : ℕ → In 2 roots-kinds.ps
-roots-below t = and 2 roots-kinds.ps (falls 2 roots-kinds.ps _<_ μ-roots t) roots.Pre
+abbrev roots-below : ℕ → In 3 roots-kinds.ps
+roots-below t = and 3 roots-kinds.ps (falls 3 roots-kinds.ps _<_ μ-roots t) roots.Pre
 
 -- what is known of the functions that each calls
 abbrev inner : ℕ → partitions-lts.Claims
@@ -86,8 +88,8 @@ outer t = (
   quotient-reads.Learnt,
   partitions-below t,
   partitions.Post,
-  scan-reads.Asked,
-  scan-reads.Learnt,
+  roots-by-reads.Asked,
+  roots-by-reads.Learnt,
 )
 
 module _ (t : ℕ) where
@@ -105,45 +107,53 @@ module _ (t : ℕ) where
   partitions-sub-roots : partitions-lts.Need-sub-roots (inner t) (partitions-at t) partitions.Post
   partitions-sub-roots c = search needs
 
+  partitions-slice-aggregate-roots-2 : partitions-lts.Need-slice-aggregate-roots-2 (inner t) (partitions-at t) partitions.Post
+  partitions-slice-aggregate-roots-2 c = search needs
+
   partitions-roots-requires : partitions-lts.Need-roots-requires (inner t) (partitions-at t) partitions.Post
   partitions-roots-requires c κs =
-      let s = c .before .before .before .before .before .before in
+      let e = c .before .before .before in
+      let s = e .before .before .before .before in
       let a = s .args in
       let r = inner-room (a .n) (pairs (a .p .now)) (a .lower) (a .upper) (s .pre .1 .0) (length (now (a .points))) _ (s .pre .1 .2) refl in
-      (omega arith, (omega arith, r .0, s .pre .1 .3, omega (arith, c .before .before .spread .ok, s .pre .1 .1)))
+      let k : 2 ^ (a .n - 1) ≤ 2 ^ 8 = pow-mono {i = a .n - 1} {j = 8} (omega (arith, s .pre .1 .1)) in
+      (omega arith, (omega arith, r .0, s .pre .1 .3, omega (arith, e .spread .ok, s .pre .1 .1), omega arith))
+
+  -- the function's entry, from the call of `roots`
+  abbrev entry : partitions-lts.After-roots (inner t) (partitions-at t) partitions.Post → partitions-lts.Start (inner t) (partitions-at t) partitions.Post
+  entry c = c .before .before .before .before .before .before .before .before
 
   -- the derivative's roots, and their number, after the call
   abbrev Roots : partitions-lts.After-roots (inner t) (partitions-at t) partitions.Post → List Float
-  Roots c = let a = c .before .before .before .before .before .before .before .args in Of.roots-at (a .n - 1)
-      (derivative (take (a .n) (pairs (a .p .now)))) (a .lower) (a .upper)
+  Roots c = let a = entry c .args in Of.roots-at (a .n - 1) (derivative (take (a .n) (pairs (a .p .now)))) (a .lower) (a .upper)
 
   called : (c : partitions-lts.After-roots (inner t) (partitions-at t) partitions.Post)
-      → Front (Roots c) (now (c .before .before .before .before .before .before .before .args .points)) (c .roots .result)
-      (c .roots .last .1 .1 .1 .1 .0) × (c .roots .result + 2 ≤ length (c .roots .last .1 .1 .1 .1 .0))
+      → Front (Roots c) (now (entry c .args .points)) (c .roots .result) (c .roots .last .1 .1 .1 .1 .0)
+      × (c .roots .result + 2 ≤ length (c .roots .last .1 .1 .1 .1 .0))
   called c =
-      let s = c .before .before .before .before .before .before .before in
+      let s = entry c in
       let a = s .args in
+      let d = c .before .before .before .before .before in
       let e =
       ap (λ (q : List Compensated). Of.roots-at (a .n - 1) q (a .lower) (a .upper))
-      (ap (take (a .n - 1)) (c .before .before .before .spread .ensures)
-      ∙ derivative-front (c .before .before .before .before .derivative .result) (pairs (a .p .now)) (a .n)
-      (enough (a .n) (a .p .now) (s .pre .1 .4)) (c .before .before .before .before .derivative .ensures)) in
-      let n = c .roots .ensures .0 ∙ ap length e in
+      (ap (take (a .n - 1)) (c .before .before .before .before .spread .ensures)
+      ∙ derivative-front (d .derivative .result) (pairs (a .p .now)) (a .n)
+      (enough (a .n) (a .p .now) (s .pre .1 .4)) (d .derivative .ensures)) in
+      let n = c .roots .ensures .0 .0 ∙ ap length e in
       let l = c .roots .kept .1 .1 .1 .1 .0 in
       let r = inner-room (a .n) (pairs (a .p .now)) (a .lower) (a .upper) (s .pre .1 .0) (length (now (a .points))) (c .roots .result) (s .pre .1 .2) n in
-      (front-same _ _ _ _ (c .roots .ensures) (Roots c) (sym e), omega arith)
+      (front-same _ _ _ _ (c .roots .ensures .0) (Roots c) (sym e), omega arith)
 
   partitions-keep-requires : partitions-lts.Need-keep-requires (inner t) (partitions-at t) partitions.Post
-  partitions-keep-requires c κs = let r = called (c .before .before .before) .1 in omega arith
+  partitions-keep-requires c κs = let r = called (c .before .before .before .before) .1 in omega arith
 
   partitions-keep-requires-2 : partitions-lts.Need-keep-requires-2 (inner t) (partitions-at t) partitions.Post
   partitions-keep-requires-2 c κs =
       let k = c .before .before .before in
-      let r = k .before .before .before .before in
-      let a = r .before .before .before .before .before .before .before .args in
+      let r = k .before .before .before .before .before in
       let m = called r .1 in
       let l = k .keep .kept .0 in
-      let b = put-room (a .lower) (r .roots .result) (r .roots .last .1 .1 .1 .1 .0) (k .keep .result) (k .keep .ensures .0) in
+      let b = put-room (entry r .args .lower) (r .roots .result) (r .roots .last .1 .1 .1 .1 .0) (k .keep .result) (k .keep .ensures .0) in
       omega arith
 
   partitions-same-length : partitions-lts.Need-same-length (inner t) (partitions-at t) partitions.Post
@@ -153,8 +163,8 @@ module _ (t : ℕ) where
   partitions-returns c =
       let d = c .before .before in
       let k = d .before .before .before .before in
-      let r = k .before .before .before .before in
-      let s = r .before .before .before .before .before .before .before in
+      let r = k .before .before .before .before .before in
+      let s = entry r in
       let a = s .args in
       let m = called r .1 in
       let l = k .keep .kept .0 in
@@ -168,32 +178,41 @@ module _ (t : ℕ) where
   roots-trimmed-requires : roots-lts.Need-trimmed-requires (outer t) (roots-at t) roots.Post
   roots-trimmed-requires c κs = search needs
 
-  -- the coefficients that are left: as many as the result says, and no more than there were
-  abbrev Q : roots-lts.After-trimmed (outer t) (roots-at t) roots.Post → List Compensated
-  Q c = take (c .trimmed .result) (pairs (c .before .before .before .args .p .now))
+  -- past the trimming: the entry, and the coefficients as they were given
+  module _ (c : roots-lts.After-trimmed (outer t) (roots-at t) roots.Post) where
+    abbrev start : roots-lts.Start (outer t) (roots-at t) roots.Post
+    start = c .before .before .before .before
 
-  size : (c : roots-lts.After-trimmed (outer t) (roots-at t) roots.Post)
-      → (length (Q c) ≡ c .trimmed .result) × (length (take (c .before .before .before .args .n) (pairs (c .before .before .before .args .p .now))) ≤
-      c .before .before .before .args .n)
-  size c =
-      let a = c .before .before .before .args in
-      let k = enough (a .n) (a .p .now) (c .before .before .before .pre .1 .3) in
-      (length-take-le (c .trimmed .result) (pairs (a .p .now)) (omega arith), le-of-eq (length-take-le (a .n) (pairs (a .p .now)) (omega arith)))
+    abbrev P : List Compensated
+    P = take (start .args .n) (pairs (start .args .p .now))
 
-  -- no coefficient counts, or one
-  none : (c : roots-lts.After-trimmed (outer t) (roots-at t) roots.Post) → counted (Q c) < 2
-      → Of.roots-at (c .before .before .before .args .n) (take (c .before .before .before .args .n)
-      (pairs (c .before .before .before .args .p .now))) (c .before .before .before .args .lower) (c .before .before .before .args .upper) ≡ []
-  none c h =
-      let a = c .before .before .before .args in
-      none-left (a .n) (counted (Q c)) (take (a .n) (pairs (a .p .now))) (Q c) (a .lower) (a .upper) (c .trimmed .ensures .1) refl (size c .1) h
+    -- the coefficients that are left: as many as the result says, and no more than there were
+    abbrev Q : List Compensated
+    Q = take (c .trimmed .result) (pairs (start .args .p .now))
+
+    size : (length Q ≡ c .trimmed .result) × (length P ≤ start .args .n)
+    size =
+        let a = start .args in
+        let k = enough (a .n) (a .p .now) (start .pre .1 .3) in
+        (length-take-le (c .trimmed .result) (pairs (a .p .now)) (omega arith), le-of-eq (length-take-le (a .n) (pairs (a .p .now)) (omega arith)))
+
+    -- no coefficient counts, or one: no root, and no kind
+    none : counted Q < 2
+        → Front (Of.roots-at (start .args .n) P (start .args .lower) (start .args .upper)) (now (start .args .out)) 0 (now (start .args .out))
+        × (now (start .args .kinds) ≡ kinds P (start .args .lower) (start .args .upper) ++ now (start .args .kinds))
+    none h =
+        let a = start .args in
+        let e = none-left (a .n) (counted Q) P Q (a .lower) (a .upper) (c .trimmed .ensures .1) refl (size .1) h in (
+          front-same [] _ (now (a .out)) 0 (refl, refl) _ e,
+          sym (ap (λ (l : List ℕ). l ++ now (a .kinds)) (kinds-none (a .n) P (a .lower) (a .upper) (size .1) e)),
+        )
 
   roots-returns : roots-lts.Need-returns (outer t) (roots-at t) roots.Post
   roots-returns c =
       let m = c .before in
       let k = counted-short (Q m) in
       let l = size m .0 in
-      front-same [] _ (now (m .before .before .before .args .out)) 0 (refl, refl) _ (none m (omega arith))
+      none m (omega arith)
 
   roots-all-finite-requires : roots-lts.Need-all-finite-requires (outer t) (roots-at t) roots.Post
   roots-all-finite-requires c κs = search needs
@@ -202,7 +221,7 @@ module _ (t : ℕ) where
   roots-returns-2 c =
       let m = c .before .before .before in
       let e : counted (Q m) ≡ 0 = ap (λ (b : Bool). cond b (length (Q m)) 0) (sym (c .before .all-finite .ensures) ∙ not-true _ (c .if2 .taken)) in
-      front-same [] _ (now (m .before .before .before .args .out)) 0 (refl, refl) _ (none m (omega arith))
+      none m (omega arith)
 
   -- past the test of finite parts, each coefficient counts
   counts : (c : roots-lts.Else2 (outer t) (roots-at t) roots.Post) → counted (Q (c .before .before .before)) ≡ c .before .before .before .trimmed .result
@@ -211,106 +230,133 @@ module _ (t : ℕ) where
       ap (λ (b : Bool). cond b (length (Q m)) 0) (sym (c .before .all-finite .ensures) ∙ not-false _ (c .if2 .left)) ∙ size m .0
 
   roots-pair-at-requires : roots-lts.Need-pair-at-requires (outer t) (roots-at t) roots.Post
-  roots-pair-at-requires c κs = let m = c .before .before .before .before in omega
-      (arith, c .if3 .taken, m .trimmed .ensures .0, m .before .before .before .pre .1 .3)
+  roots-pair-at-requires c κs = let m = c .before .before .before .before in omega (arith, c .if3 .taken, m .trimmed .ensures .0, start m .pre .1 .3)
 
   roots-pair-at-requires-2 : roots-lts.Need-pair-at-requires-2 (outer t) (roots-at t) roots.Post
   roots-pair-at-requires-2 c κs = let m = c .before .before .before .before .before in omega
-      (arith, c .before .if3 .taken, m .trimmed .ensures .0, m .before .before .before .pre .1 .3)
+      (arith, c .before .if3 .taken, m .trimmed .ensures .0, start m .pre .1 .3)
 
   roots-quotient-requires : roots-lts.Need-quotient-requires (outer t) (roots-at t) roots.Post
-  roots-quotient-requires c κs = omega (arith, pow-pos (c .before .before .before .before .before .before .before .before .before .before .args .n))
+  roots-quotient-requires c κs =
+      let m = c .before .before .before .before .before .before .before .before in
+      let n = pow-pos (start m .args .n) in
+      (omega (arith, start m .pre .1 .1), omega (arith, start m .pre .1 .4))
 
   roots-same-length : roots-lts.Need-same-length (outer t) (roots-at t) roots.Post
   roots-same-length c = search needs
 
+  roots-same-length-2 : roots-lts.Need-same-length-2 (outer t) (roots-at t) roots.Post
+  roots-same-length-2 c = search needs
+
   roots-returns-3 : roots-lts.Need-returns-3 (outer t) (roots-at t) roots.Post
   roots-returns-3 c =
-      let z = c .before .before in
-      let i = z .before .before .before .before in
+      let z = c .before .before .before .before in
+      let y = z .before .before .before in
+      let i = y .before .before in
       let m = i .before .before .before .before in
-      let a = m .before .before .before .args in
-      let k = enough (a .n) (a .p .now) (m .before .before .before .pre .1 .3) in
+      let a = start m .args in
+      let k = enough (a .n) (a .p .now) (start m .pre .1 .3) in
       let d = m .trimmed .ensures .0 in
-      let e = two-left (a .n) (m .trimmed .result) (take (a .n) (pairs (a .p .now))) (Q m) (a .lower) (a .upper) (m .trimmed .ensures .1)
-      (counts (i .before)) (size m .1) (i .if3 .taken) in
-      front-same _ _ _ _ (z .quotient .ensures) _ (e ∙ line-of (pairs (a .p .now)) (m .trimmed .result) zero-pair (a .lower) (a .upper) (i .if3 .taken)
-      (omega (arith, i .if3 .taken))
-      ∙ ap₂ (λ (x y : Compensated). Of.quotient x y (a .lower) (a .upper)) (sym (z .before .before .before .pair-at .ensures))
-      (sym (z .before .before .pair-at2 .ensures)))
+      let e =
+      two-left (a .n) (m .trimmed .result) (P m) (Q m) (a .lower) (a .upper) (m .trimmed .ensures .1) (counts (i .before)) (size m .1) (i .if3 .taken)
+      ∙ line-of (pairs (a .p .now)) (m .trimmed .result) zero-pair (a .lower) (a .upper) (i .if3 .taken) (omega (arith, i .if3 .taken))
+      ∙ ap₂ (λ (x y : Compensated). Of.quotient x y (a .lower) (a .upper)) (sym (y .before .pair-at .ensures)) (sym (y .pair-at2 .ensures)) in (
+        front-same _ _ _ _ (z .quotient .ensures .0) _ e,
+        z .quotient .ensures .1 ∙ sym (ap (λ (l : List ℕ). l ++ drop (z .quotient .result) (now (a .kinds)))
+            (kinds-two (a .n) (P m) (a .lower) (a .upper) (size m .1) _ e (m .trimmed .result) (Q m) (m .trimmed .ensures .1) (size m .0) (i .if3 .taken))),
+      )
 
   roots-slice-aggregate-partitions : roots-lts.Need-slice-aggregate-partitions (outer t) (roots-at t) roots.Post
   roots-slice-aggregate-partitions c = search needs
 
-  -- past the test for a line: the partition points, that `scan` can go through them where they stand in the first places of A, and what it finds
+  -- past the test for a line: the partition points, that `roots_by` can go through them where they stand in the first places of A, and what it finds
   module _ (w : roots-lts.Else3 (outer t) (roots-at t) roots.Post) where
     abbrev lead : roots-lts.After-trimmed (outer t) (roots-at t) roots.Post
     lead = w .before .before .before .before
 
-    abbrev start : roots-lts.Start (outer t) (roots-at t) roots.Post
-    start = lead .before .before .before
+    abbrev s : roots-lts.Start (outer t) (roots-at t) roots.Post
+    s = start lead
 
     three : 2 < lead .trimmed .result
     three = lt-of-le-ne (w .before .before .before .if1 .left) (λ e. w .if3 .left (sym e))
 
     abbrev R : List Float
-    R = Of.roots-at (lead .trimmed .result - 1) (derivative (Q lead)) (start .args .lower) (start .args .upper)
+    R = Of.roots-at (lead .trimmed .result - 1) (derivative (Q lead)) (s .args .lower) (s .args .upper)
 
     abbrev points : List Float
-    points = Of.partitions (start .args .lower) (start .args .upper) R
+    points = Of.partitions (s .args .lower) (s .args .upper) R
 
     module _ (count : ℕ) (W A : List Float) (f : Front points W count A) where
+      -- a slice has twice as many places as there are points
+      room : (j : ℕ) (len : ℕ) → lead .trimmed .result ≤ j → 2 ^ j ≤ len → count + count ≤ len
+      room j len h k = points-room (lead .trimmed .result) (pairs (s .args .p .now)) (s .args .lower) (s .args .upper) three j len count h k (f .0)
+
       -- A has room for the points of j coefficients
       scannable : (j : ℕ) → lead .trimmed .result ≤ j → 2 ^ j ≤ length A
-          → (lead .trimmed .result ≤ 9) × (0 < count) × (count ≤ length A) × (count + count ≤ length (now (start .args .out))) × Ready (take count A)
-          × (lead .trimmed .result + lead .trimmed .result ≤ length (now (start .args .p)))
+          → (lead .trimmed .result ≤ 9) × (0 < count) × (count ≤ length A) × (count + count ≤ length (now (s .args .out))) × Ready (take count A)
+          × (lead .trimmed .result + lead .trimmed .result ≤ length (now (s .args .p))) × (count + count ≤ length (now (s .args .kinds)))
       scannable j h k =
-          let a = start .args in
+          let a = s .args in
           let z = points-some (a .lower) (a .upper) R in
-          let x = points-room (lead .trimmed .result) (pairs (a .p .now)) (a .lower) (a .upper) three j (length A) count h k (f .0) in
-          let g = points-room (lead .trimmed .result) (pairs (a .p .now)) (a .lower) (a .upper) three (a .n) (length (now (a .out))) count
-          (lead .trimmed .ensures .0) (start .pre .1 .1) (f .0) in (
+          let x = room j (length A) h k in (
             omega arith,
             omega (arith, f .0),
             omega arith,
-            omega arith,
-            subst Ready (sym (front-take points _ _ _ f)) (points-ready (a .lower) (a .upper) (start .pre .1 .2) R
-                (roots-in (a .lower) (a .upper) (start .pre .1 .2) (lead .trimmed .result - 1) (derivative (Q lead)))),
-            omega (arith, lead .trimmed .ensures .0, start .pre .1 .3),
+            room (a .n) (length (now (a .out))) (lead .trimmed .ensures .0) (s .pre .1 .1),
+            subst Ready (sym (front-take points _ _ _ f)) (points-ready (a .lower) (a .upper) (s .pre .1 .2) R
+                (roots-in (a .lower) (a .upper) (s .pre .1 .2) (lead .trimmed .result - 1) (derivative (Q lead)))),
+            omega (arith, lead .trimmed .ensures .0, s .pre .1 .3),
+            room (a .n) (length (now (a .kinds))) (lead .trimmed .ensures .0) (s .pre .1 .4),
           )
 
-      all-found : Of.roots-at (start .args .n) (take (start .args .n) (pairs (start .args .p .now))) (start .args .lower) (start .args .upper) ≡
-          found (Q lead) (take count A)
+      all-found : Of.roots-at (s .args .n) (P lead) (s .args .lower) (s .args .upper) ≡ found (Q lead) (take count A)
       all-found =
-          let a = start .args in
-          more-left (a .n) (lead .trimmed .result) (take (a .n) (pairs (a .p .now))) (Q lead) (a .lower) (a .upper) (lead .trimmed .ensures .1)
-          (counts (w .before)) (size lead .1) (size lead .0) three
+          let a = s .args in
+          more-left (a .n) (lead .trimmed .result) (P lead) (Q lead) (a .lower) (a .upper) (lead .trimmed .ensures .1) (counts (w .before)) (size lead .1)
+          (size lead .0) three
           ∙ ap (λ (l : List Float). found (Q lead) l) (sym (front-take points W A count f))
+
+      all-arose : kinds (P lead) (s .args .lower) (s .args .upper) ≡ kinds-of (Of.touches (Q lead) (take count A)) (found (Q lead) (take count A))
+      all-arose =
+          let a = s .args in
+          kinds-more (a .n) (P lead) (a .lower) (a .upper) (size lead .1) _ all-found (lead .trimmed .result) (Q lead) (lead .trimmed .ensures .1)
+          (size lead .0) three
+          ∙ ap (λ (l : List Float). kinds-of (Of.touches (Q lead) l) (found (Q lead) (take count A))) (sym (front-take points W A count f))
+
+      -- the two clauses of the result r, by those of `roots_by`
+      module _ (r : ℕ) (last : List Float) (arose : List ℕ) (h : Front (found (Q lead) (take count A)) (now (s .args .out)) r last)
+          (g : arose ≡ kinds-of (Of.touches (Q lead) (take count A)) (found (Q lead) (take count A)) ++ drop r (now (s .args .kinds))) where
+        all-said : Front (Of.roots-at (s .args .n) (P lead) (s .args .lower) (s .args .upper)) (now (s .args .out)) r last
+            × (arose ≡ kinds (P lead) (s .args .lower) (s .args .upper) ++ drop r (now (s .args .kinds)))
+        all-said = (front-same _ _ _ _ h _ all-found, g ∙ ap (λ (l : List ℕ). l ++ drop r (now (s .args .kinds))) (sym all-arose))
 
   roots-partitions-requires : roots-lts.Need-partitions-requires (outer t) (roots-at t) roots.Post
   roots-partitions-requires c κs =
       let w = c .before .before in
       let p : 2 ^ lead w .trimmed .result ≤ 2 ^ 5 = pow-mono {i = lead w .trimmed .result} {j = 5} (c .before .if4 .taken) in
-      (omega arith, (three w, omega arith, omega arith, start w .pre .1 .2, omega (arith, lead w .trimmed .ensures .0, start w .pre .1 .3)))
+      (omega arith, (three w, omega arith, omega arith, s w .pre .1 .2, omega (arith, lead w .trimmed .ensures .0, s w .pre .1 .3)))
 
-  roots-slice-aggregate-scan : roots-lts.Need-slice-aggregate-scan (outer t) (roots-at t) roots.Post
-  roots-slice-aggregate-scan c = search needs
+  roots-slice-aggregate-roots-by : roots-lts.Need-slice-aggregate-roots-by (outer t) (roots-at t) roots.Post
+  roots-slice-aggregate-roots-by c = search needs
 
-  roots-scan-requires : roots-lts.Need-scan-requires (outer t) (roots-at t) roots.Post
-  roots-scan-requires c κs =
-      let q = c .before .before .before in
+  roots-roots-by-requires : roots-lts.Need-roots-by-requires (outer t) (roots-at t) roots.Post
+  roots-roots-by-requires c κs =
+      let q = c .before .before .before .before in
       let i = q .before .before in
       let l = q .partitions .kept .1 .1 .1 .1 .0 in
       scannable (i .before) (q .partitions .result) _ (q .partitions .last .1 .1 .1 .1 .0) (q .partitions .ensures) 5 (i .if4 .taken) (omega arith)
 
-  roots-same-length-2 : roots-lts.Need-same-length-2 (outer t) (roots-at t) roots.Post
-  roots-same-length-2 c = search needs
+  roots-same-length-3 : roots-lts.Need-same-length-3 (outer t) (roots-at t) roots.Post
+  roots-same-length-3 c = search needs
+
+  roots-same-length-4 : roots-lts.Need-same-length-4 (outer t) (roots-at t) roots.Post
+  roots-same-length-4 c = search needs
 
   roots-returns-4 : roots-lts.Need-returns-4 (outer t) (roots-at t) roots.Post
   roots-returns-4 c =
-      let x = c .before .before in
-      let q = x .before .before .before .before in
-      front-same _ _ _ _ (x .scan .ensures) _ (all-found (q .before .before .before) _ _ _ (q .partitions .ensures))
+      let x = c .before .before .before .before .before in
+      let q = x .before .before .before .before .before in
+      all-said (q .before .before .before) _ _ _ (q .partitions .ensures) _ _ _ (x .roots-by .ensures .0) (x .roots-by .ensures .1)
 
   roots-slice-aggregate-partitions-2 : roots-lts.Need-slice-aggregate-partitions-2 (outer t) (roots-at t) roots.Post
   roots-slice-aggregate-partitions-2 c = search needs
@@ -319,26 +365,29 @@ module _ (t : ℕ) where
   roots-partitions-requires-2 c κs =
       let w = c .before .before in
       let p : 2 ^ lead w .trimmed .result ≤ 2 ^ 9 = pow-mono {i = lead w .trimmed .result} {j = 9} (omega arith) in
-      (omega arith, (three w, omega arith, omega arith, start w .pre .1 .2, omega (arith, lead w .trimmed .ensures .0, start w .pre .1 .3)))
+      (omega arith, (three w, omega arith, omega arith, s w .pre .1 .2, omega (arith, lead w .trimmed .ensures .0, s w .pre .1 .3)))
 
-  roots-slice-aggregate-scan-2 : roots-lts.Need-slice-aggregate-scan-2 (outer t) (roots-at t) roots.Post
-  roots-slice-aggregate-scan-2 c = search needs
+  roots-slice-aggregate-roots-by-2 : roots-lts.Need-slice-aggregate-roots-by-2 (outer t) (roots-at t) roots.Post
+  roots-slice-aggregate-roots-by-2 c = search needs
 
-  roots-scan-requires-2 : roots-lts.Need-scan-requires-2 (outer t) (roots-at t) roots.Post
-  roots-scan-requires-2 c κs =
-      let q = c .before .before .before in
+  roots-roots-by-requires-2 : roots-lts.Need-roots-by-requires-2 (outer t) (roots-at t) roots.Post
+  roots-roots-by-requires-2 c κs =
+      let q = c .before .before .before .before in
       let w = q .before .before .before in
       let l = q .partitions2 .kept .1 .1 .1 .1 .0 in
       scannable w (q .partitions2 .result) _ (q .partitions2 .last .1 .1 .1 .1 .0) (q .partitions2 .ensures) 9 (omega arith) (omega arith)
 
-  roots-same-length-3 : roots-lts.Need-same-length-3 (outer t) (roots-at t) roots.Post
-  roots-same-length-3 c = search needs
+  roots-same-length-5 : roots-lts.Need-same-length-5 (outer t) (roots-at t) roots.Post
+  roots-same-length-5 c = search needs
+
+  roots-same-length-6 : roots-lts.Need-same-length-6 (outer t) (roots-at t) roots.Post
+  roots-same-length-6 c = search needs
 
   roots-returns-5 : roots-lts.Need-returns-5 (outer t) (roots-at t) roots.Post
   roots-returns-5 c =
-      let x = c .before .before in
-      let q = x .before .before .before .before in
-      front-same _ _ _ _ (x .scan2 .ensures) _ (all-found (q .before .before .before) _ _ _ (q .partitions2 .ensures))
+      let x = c .before .before .before .before .before in
+      let q = x .before .before .before .before .before in
+      all-said (q .before .before .before) _ _ _ (q .partitions2 .ensures) _ _ _ (x .roots-by2 .ensures .0) (x .roots-by2 .ensures .1)
 
 pub +partitions+roots-spec : {M : Type 1} → statement M
 +partitions+roots-spec = close μ-partitions μ-roots (λ t. partitions-lts.spec (inner t)
@@ -348,6 +397,7 @@ pub +partitions+roots-spec : {M : Type 1} → statement M
     (partitions-spread-requires t)
     (partitions-slice-aggregate-roots t)
     (partitions-sub-roots t)
+    (partitions-slice-aggregate-roots-2 t)
     (partitions-roots-requires t)
     (partitions-keep-requires t)
     (partitions-keep-requires-2 t)
@@ -364,16 +414,19 @@ pub +partitions+roots-spec : {M : Type 1} → statement M
     (roots-pair-at-requires-2 t)
     (roots-quotient-requires t)
     (roots-same-length t)
+    (roots-same-length-2 t)
     (roots-returns-3 t)
     (roots-slice-aggregate-partitions t)
     (roots-partitions-requires t)
-    (roots-slice-aggregate-scan t)
-    (roots-scan-requires t)
-    (roots-same-length-2 t)
+    (roots-slice-aggregate-roots-by t)
+    (roots-roots-by-requires t)
+    (roots-same-length-3 t)
+    (roots-same-length-4 t)
     (roots-returns-4 t)
     (roots-slice-aggregate-partitions-2 t)
     (roots-partitions-requires-2 t)
-    (roots-slice-aggregate-scan-2 t)
-    (roots-scan-requires-2 t)
-    (roots-same-length-3 t)
+    (roots-slice-aggregate-roots-by-2 t)
+    (roots-roots-by-requires-2 t)
+    (roots-same-length-5 t)
+    (roots-same-length-6 t)
     (roots-returns-5 t)

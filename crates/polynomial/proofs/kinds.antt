@@ -1,0 +1,2 @@
+-- What the proofs of `marked` and `mark` share.
+mod Marks
