@@ -45,7 +45,8 @@ impl Case {
             Case::Roots(call) => {
                 let bounds = [call.lower, call.upper].map(word).join(" ");
                 let parts: Vec<String> = call.coefficients.iter().map(|&part| word(part)).collect();
-                format!("{bounds} {} {}", call.result, parts.join(" "))
+                let parts = parts.join(" ");
+                format!("{bounds} {} {} {parts}", call.result, call.kinds)
             }
             Case::Check(call) => format!("{} {}", hex(&call.sheet), call.work),
             Case::Floats(bits) => bits.map(|bits| format!("{bits:016X}")).join(" "),
@@ -68,6 +69,7 @@ impl Case {
                 lower: float_of(words.next()?)?,
                 upper: float_of(words.next()?)?,
                 result: words.next()?.parse().ok()?,
+                kinds: words.next()?.parse().ok()?,
                 coefficients: words.map(float_of).collect::<Option<_>>()?,
             })),
             "check" => Some(Case::Check(sheets::Call {
@@ -94,15 +96,7 @@ impl Case {
                 words.extend(output.chunks(8).map(little));
                 Answer { number, words }
             }
-            Case::Roots(call) => {
-                let mut result = vec![7.5; call.result];
-                let number =
-                    operations::roots_op(&call.coefficients, call.lower, call.upper, &mut result);
-                Answer {
-                    number,
-                    words: result.into_iter().map(float::bits).collect(),
-                }
-            }
+            Case::Roots(call) => roots_answer(call),
             Case::Check(call) => {
                 let mut work = vec![7.5; call.work];
                 let number = operations::check(&call.sheet, &mut work);
@@ -116,6 +110,23 @@ impl Case {
                 words: floor_and_trigonometry(*bits),
             },
         }
+    }
+}
+
+/// Roots: the words are the places of the result, then the kinds, a word each.
+fn roots_answer(call: &roots::Call) -> Answer {
+    let (mut result, mut kinds) = (vec![7.5; call.result], vec![0xA5; call.kinds]);
+    let number = operations::roots_op(
+        &call.coefficients,
+        call.lower,
+        call.upper,
+        &mut result,
+        &mut kinds,
+    );
+    let kinds = kinds.into_iter().map(u64::from);
+    Answer {
+        number,
+        words: result.into_iter().map(float::bits).chain(kinds).collect(),
     }
 }
 

@@ -8,6 +8,7 @@ pub mod parts;
 pub mod requests;
 pub mod roots;
 pub mod sheets;
+pub mod touching;
 
 /// A source of numbers (splitmix64).
 #[derive(Clone, Debug)]

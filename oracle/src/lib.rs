@@ -20,4 +20,5 @@ pub mod parts;
 pub mod pose;
 pub mod request;
 pub mod singularity;
+pub mod touching;
 pub mod trig;

@@ -175,13 +175,21 @@ pub mod polynomial {
             upper: f64,
             result: *mut f64,
             places: usize,
+            kinds: *mut u8,
+            bytes: usize,
         ) -> i64;
     }
 
     /// The operation Roots.
-    pub fn roots(coefficients: &[f64], lower: f64, upper: f64, result: &mut [f64]) -> i64 {
-        // SAFETY: both slices are lent with their own lengths, and the function
-        // is proved to stay inside them.
+    pub fn roots(
+        coefficients: &[f64],
+        lower: f64,
+        upper: f64,
+        result: &mut [f64],
+        kinds: &mut [u8],
+    ) -> i64 {
+        // SAFETY: each slice is lent with its own length, and the function is
+        // proved to stay inside them.
         unsafe {
             polynomial_roots(
                 coefficients.as_ptr(),
@@ -190,6 +198,8 @@ pub mod polynomial {
                 upper,
                 result.as_mut_ptr(),
                 result.len(),
+                kinds.as_mut_ptr(),
+                kinds.len(),
             )
         }
     }

@@ -9,8 +9,9 @@ use crate::observe::{self, Notes};
 use crate::parameters::opw_kinematics::Parameters;
 use crate::pose::{Pose, PoseError};
 use crate::request::{self, Reads, Request};
-use crate::singularity::j1j2free::{self, Compensated};
+use crate::singularity::j1j2free::{self, Compensated, Polynomial};
 use crate::singularity::{j1free, j2free};
+use crate::touching::{Root, marked_roots};
 
 /// The bytes of a trailer.
 pub const TRAILER: usize = 16;
@@ -160,23 +161,50 @@ pub fn roots_refusal(coefficients: &[f64], lower: f64, upper: f64) -> Option<i64
     }
 }
 
-/// Roots: writes the roots of a polynomial and returns their number.
-pub fn roots_op(coefficients: &[f64], lower: f64, upper: f64, result: &mut [f64]) -> i64 {
+/// Refusals 21 to 23, or the polynomial.
+fn polynomial(coefficients: &[f64], lower: f64, upper: f64) -> Result<Polynomial, i64> {
     if let Some(refusal) = roots_refusal(coefficients, lower, upper) {
-        return -refusal;
+        return Err(refusal);
     }
-    let polynomial = coefficients
-        .chunks_exact(2)
-        .map(|pair| Compensated {
-            high: pair[0],
-            low: pair[1],
-        })
-        .collect();
-    let roots = j1j2free::roots(polynomial, lower, upper);
-    if result.len() < roots.len() {
+    let pair = |pair: &[f64]| Compensated {
+        high: pair[0],
+        low: pair[1],
+    };
+    Ok(coefficients.chunks_exact(2).map(pair).collect())
+}
+
+/// Refusals 21 to 23, or the roots by value alone, as the ported body gives them.
+pub fn root_values(coefficients: &[f64], lower: f64, upper: f64) -> Result<Vec<f64>, i64> {
+    let polynomial = polynomial(coefficients, lower, upper)?;
+    Ok(j1j2free::roots(polynomial, lower, upper))
+}
+
+/// Refusals 21 to 23, or the roots.
+pub fn found_roots(coefficients: &[f64], lower: f64, upper: f64) -> Result<Vec<Root>, i64> {
+    let polynomial = polynomial(coefficients, lower, upper)?;
+    Ok(marked_roots(&polynomial, lower, upper))
+}
+
+/// Roots: writes the roots of a polynomial and their kinds, and returns their
+/// number.
+pub fn roots_op(
+    coefficients: &[f64],
+    lower: f64,
+    upper: f64,
+    result: &mut [f64],
+    kinds: &mut [u8],
+) -> i64 {
+    let roots = match found_roots(coefficients, lower, upper) {
+        Err(refusal) => return -refusal,
+        Ok(roots) => roots,
+    };
+    if result.len() < roots.len() || kinds.len() < roots.len() {
         return -24;
     }
-    result[..roots.len()].copy_from_slice(&roots);
+    for (place, root) in roots.iter().enumerate() {
+        result[place] = root.value();
+        kinds[place] = root.kind();
+    }
     roots.len() as i64
 }
 

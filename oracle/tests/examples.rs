@@ -1,4 +1,4 @@
-//! Document 01, 'Poses and curves to try'.
+//! Document 01, 'Poses and curves to try', and change request 1.
 
 use lemongully_oracle::constraints::Constraints;
 use lemongully_oracle::float::{self, P};
@@ -7,80 +7,119 @@ use lemongully_oracle::generate::sheets::one_angle;
 use lemongully_oracle::kinematics_impl::{wrapped_angle, wrist_limit_intervals};
 use lemongully_oracle::operations::{check, program_output, roots_op, sample};
 use lemongully_oracle::request::{FROM, TO};
+use lemongully_oracle::touching::Root::{self, Crossing, Touch};
 use lemongully_oracle::trig;
 
-/// Calls Roots with these high parts and zero low parts; the answer, or the roots' bits.
-fn roots(high: &[f64], lower: f64, upper: f64) -> Result<Vec<u64>, i64> {
+/// The roots by bits and kind, or the refusal's number.
+type Found = Result<Vec<(u64, u8)>, i64>;
+
+/// Calls Roots with these high parts and zero low parts.
+fn roots(high: &[f64], lower: f64, upper: f64) -> Found {
     let pairs: Vec<f64> = high.iter().flat_map(|&high| [high, 0.0]).collect();
-    let mut result = [0.0; 509];
-    let answer = roots_op(&pairs, lower, upper, &mut result);
+    let (mut result, mut kinds) = ([0.0; 509], [0; 509]);
+    let answer = roots_op(&pairs, lower, upper, &mut result, &mut kinds);
     if answer < 0 {
         return Err(-answer);
     }
-    Ok(result[..answer as usize]
-        .iter()
-        .map(|&root| float::bits(root))
+    let found = std::iter::zip(result, kinds).take(answer as usize);
+    Ok(found
+        .map(|(root, kind)| (float::bits(root), kind))
         .collect())
 }
 
-/// The bits of these floats.
-fn bits(floats: &[f64]) -> Result<Vec<u64>, i64> {
-    Ok(floats.iter().map(|&float| float::bits(float)).collect())
+/// The bits and kinds of these roots.
+fn marked(roots: &[Root]) -> Found {
+    let marked = |root: &Root| (float::bits(root.value()), root.kind());
+    Ok(roots.iter().map(marked).collect())
 }
 
 #[test]
 fn roots_of_simple_curves() {
-    assert_eq!(roots(&[-1.0, 0.0, 1.0], -4.0, 4.0), bits(&[-1.0, 1.0]));
-    assert_eq!(roots(&[0.0, 0.0, 1.0], -1.0, 1.0), bits(&[-0.0]));
-    assert_eq!(roots(&[-4.0, 1.0], -4.0, 4.0), bits(&[4.0]));
-    assert_eq!(roots(&[-5.0, 1.0], -4.0, 4.0), bits(&[]));
-    assert_eq!(roots(&[-1.0, 0.0, 1.0], 1.0, 1.0), bits(&[1.0]));
-    assert_eq!(roots(&[-1.0, 1.0, 0.0, 0.0], -4.0, 4.0), bits(&[1.0]));
-    assert_eq!(roots(&[7.0], -4.0, 4.0), bits(&[]));
-    assert_eq!(roots(&[], -4.0, 4.0), bits(&[]));
+    let (square, line) = ([-1.0, 0.0, 1.0], [-4.0, 1.0]);
+    let crossed = [Crossing(-1.0), Crossing(1.0)];
+    assert_eq!(roots(&square, -4.0, 4.0), marked(&crossed));
+    let touched = marked(&[Touch(-0.0)]);
+    assert_eq!(roots(&[0.0, 0.0, 1.0], -1.0, 1.0), touched);
+    assert_eq!(roots(&line, -4.0, 4.0), marked(&[Crossing(4.0)]));
+    assert_eq!(roots(&[-5.0, 1.0], -4.0, 4.0), marked(&[]));
+    assert_eq!(roots(&square, 1.0, 1.0), marked(&[Touch(1.0)]));
+    let trimmed = [-1.0, 1.0, 0.0, 0.0];
+    assert_eq!(roots(&trimmed, -4.0, 4.0), marked(&[Crossing(1.0)]));
+    assert_eq!(roots(&[7.0], -4.0, 4.0), marked(&[]));
+    assert_eq!(roots(&[], -4.0, 4.0), marked(&[]));
 }
 
 #[test]
 fn bounds_of_roots() {
     let beyond = 4.0f64.next_up();
-    assert_eq!(roots(&[-4.0, 1.0], -4.0, 4.0), bits(&[4.0]));
+    let four = marked(&[Crossing(4.0)]);
+    assert_eq!(roots(&[-4.0, 1.0], -4.0, 4.0), four);
+    assert_eq!(roots(&[-4.0, 1.0], 4.0, 4.0), four);
     assert_eq!(roots(&[-4.0, 1.0], -4.0, beyond), Err(22));
     assert_eq!(roots(&[-4.0, 1.0], -beyond, 4.0), Err(22));
-    assert_eq!(roots(&[0.0, 1.0], 0.0, -0.0), bits(&[-0.0]));
+    assert_eq!(roots(&[0.0, 1.0], 0.0, -0.0), marked(&[Crossing(-0.0)]));
     assert_eq!(roots(&[0.0, 1.0], 1.0, -1.0), Err(22));
     assert_eq!(roots(&[0.0, 1.0], f64::NAN, 1.0), Err(22));
 }
 
 #[test]
+fn kinds_at_zero() {
+    // x + x^2 touches at a bound, whose sign the root has, and crosses between
+    // bounds.
+    let curve = [0.0, 1.0, 1.0];
+    assert_eq!(roots(&curve, 0.0, 1.0), marked(&[Touch(0.0)]));
+    assert_eq!(roots(&curve, -0.0, 1.0), marked(&[Touch(-0.0)]));
+    assert_eq!(roots(&curve, -0.5, 1.0), marked(&[Crossing(0.0)]));
+    // The bisection ends at the bound, where the curve is not near zero.
+    let lifted = [5.0e-324, -2.0, 1.0];
+    assert_eq!(roots(&lifted, -0.0, 1.0), marked(&[Crossing(0.0)]));
+}
+
+#[test]
+fn a_number_that_arises_both_ways_is_a_touch() {
+    // 1 is near zero as a bound, and the bisection below it ends there.
+    let lifted = [1.0e-323, 0.0, -1.0, 1.0];
+    let beside = Crossing(f64::from_bits(0x1E65555555555556));
+    assert_eq!(roots(&lifted, 0.0, 1.0), marked(&[beside, Touch(1.0)]));
+    // With more room the bisection from 2/3 to 2 ends there alone.
+    assert_eq!(roots(&lifted, 0.0, 2.0), marked(&[beside, Crossing(1.0)]));
+}
+
+#[test]
 fn refusals_of_roots_in_order() {
     let most = f64::from_bits(0x58F0000000000000);
-    let room = &mut [0.0; 2];
-    assert_eq!(roots_op(&[1.0], 5.0, f64::NAN, room), -21);
-    assert_eq!(roots_op(&[f64::NAN; 20], 0.0, 1.0, room), -21);
-    assert_eq!(roots_op(&[f64::NAN; 2], 5.0, 5.0, room), -22);
-    assert_eq!(roots_op(&[f64::NAN; 2], 0.0, 1.0, room), -23);
-    assert_eq!(roots_op(&[most, 0.0], -1.0, 1.0, room), 0);
-    assert_eq!(roots_op(&[most.next_up(), 0.0], -1.0, 1.0, room), -23);
-    assert_eq!(roots_op(&[0.0, -most.next_up()], -1.0, 1.0, room), -23);
-    assert_eq!(
-        roots_op(&[-1.0, 0.0, 0.0, 0.0, 1.0, 0.0], -4.0, 4.0, &mut room[..1]),
-        -24
-    );
-    assert_eq!(room, &[0.0; 2]);
+    let (room, kinds) = (&mut [0.0; 2], &mut [0; 2]);
+    let mut refused = |pairs: &[f64], lower, upper| roots_op(pairs, lower, upper, room, kinds);
+    assert_eq!(refused(&[1.0], 5.0, f64::NAN), -21);
+    assert_eq!(refused(&[f64::NAN; 20], 0.0, 1.0), -21);
+    assert_eq!(refused(&[f64::NAN; 2], 5.0, 5.0), -22);
+    assert_eq!(refused(&[f64::NAN; 2], 0.0, 1.0), -23);
+    assert_eq!(refused(&[most, 0.0], -1.0, 1.0), 0);
+    assert_eq!(refused(&[most.next_up(), 0.0], -1.0, 1.0), -23);
+    assert_eq!(refused(&[0.0, -most.next_up()], -1.0, 1.0), -23);
+    let square = [-1.0, 0.0, 0.0, 0.0, 1.0, 0.0];
+    for [places, bytes] in [[1, 2], [2, 1], [1, 1], [0, 2], [2, 0]] {
+        let (room, kinds) = (&mut room[..places], &mut kinds[..bytes]);
+        assert_eq!(roots_op(&square, -4.0, 4.0, room, kinds), -24);
+    }
+    assert_eq!((&*room, &*kinds), (&[0.0; 2], &[0; 2]));
 }
 
 #[test]
 fn a_pair_that_cancels_is_not_trimmed() {
     // By division, and by halving beneath a leading pair (1, -1).
     let room = &mut [0.0; 1];
-    assert_eq!(roots_op(&[-1.0, 0.0, 3.0, 0.0], 0.0, 1.0, room), 1);
-    assert_eq!(room[0], 1.0 / 3.0);
+    let mut root = |pairs: &[f64], lower| {
+        assert_eq!(roots_op(pairs, lower, 1.0, room, &mut [0]), 1);
+        float::bits(room[0])
+    };
+    let third = 1.0f64 / 3.0;
     let pairs = [-1.0, 0.0, 3.0, 0.0, 1.0, -1.0];
-    assert_eq!(roots_op(&pairs, 0.0, 1.0, room), 1);
-    assert_eq!(room[0], (1.0f64 / 3.0).next_up());
-    assert_eq!(roots(&[0.0, 0.0, 1.0], 0.0, 1.0), bits(&[-0.0]));
-    assert_eq!(roots_op(&[-0.0, -0.0, 1.0, 0.0], -1.0, 1.0, room), 1);
-    assert_eq!(float::bits(room[0]), 0);
+    assert_eq!(root(&pairs[..4], 0.0), float::bits(third));
+    assert_eq!(root(&pairs, 0.0), float::bits(third.next_up()));
+    assert_eq!(root(&[-0.0, -0.0, 1.0, 0.0], -1.0), 0);
+    let touched = marked(&[Touch(-0.0)]);
+    assert_eq!(roots(&[0.0, 0.0, 1.0], 0.0, 1.0), touched);
 }
 
 #[test]

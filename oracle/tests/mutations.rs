@@ -1,5 +1,6 @@
-//! Document 01, 'Slips to rule out': each is built into a copy of the package,
-//! which must then answer the corpus otherwise than the package itself.
+//! Document 01, 'Slips to rule out', and slips of change request 1: each is built
+//! into a copy of the package, which must then answer the corpus otherwise than
+//! the package itself.
 //!
 //! The cases are generated once, by the package; a copy only answers them. To
 //! see which parts of the corpus catch a slip, add `-- --nocapture`.
@@ -273,4 +274,42 @@ fn cutting_every_interval_at_the_reference() {
         slip: "        let mut cuts = vec![lower, upper, near];\n",
     };
     is_caught(slip, &["generated-one-free", "kept-reference"]);
+}
+
+/// The sign changes beside such a number, so that a bisection ends there too.
+#[test]
+fn a_number_that_arises_both_ways_as_a_crossing() {
+    let slip = Slip {
+        name: "a-number-that-arises-both-ways-as-a-crossing",
+        file: "touching.rs",
+        text: "    points\n}\n\n/// The partition points of",
+        slip: "    let value = |x: f64| j1j2free::evaluate(polynomial, x);\n    \
+               points.retain(|&point| {\n        \
+               let beside = [point.next_down(), point.next_up()];\n        \
+               !beside.iter().any(|&x| value(x).signum() * value(point) < 0.0)\n    \
+               });\n    points\n}\n\n/// The partition points of",
+    };
+    is_caught(slip, &["generated-roots", "kept-both-ways"]);
+}
+
+#[test]
+fn the_quotient_as_a_touch() {
+    let slip = Slip {
+        name: "the-quotient-as-a-touch",
+        file: "touching.rs",
+        text: "        return Vec::new();\n",
+        slip: "        return j1j2free::roots(polynomial.to_vec(), lower, upper);\n",
+    };
+    is_caught(slip, &["generated-roots", "kept-quotient"]);
+}
+
+#[test]
+fn bounds_that_do_not_touch() {
+    let slip = Slip {
+        name: "bounds-that-do-not-touch",
+        file: "touching.rs",
+        text: "    points.extend([lower, upper]);\n",
+        slip: "",
+    };
+    is_caught(slip, &["generated-roots", "kept-bound"]);
 }

@@ -143,30 +143,76 @@ fn angles_are_finite_and_within_two_turns() {
     }
 }
 
+/// A call of Roots: its answer, the result and the kinds.
+fn found(call: &roots::Call) -> (i64, Vec<f64>, Vec<u64>) {
+    let Answer { number, words } = Case::Roots(call.clone()).answer();
+    let (result, kinds) = words.split_at(call.result);
+    let result = result.iter().map(|&root| f64::from_bits(root)).collect();
+    assert_eq!(kinds.len(), call.kinds);
+    (number, result, kinds.to_vec())
+}
+
 #[test]
 fn roots_answers_are_in_order_and_between_the_bounds() {
     let mut refusals = BTreeSet::new();
     for call in roots::calls(SEED, 6000) {
-        let answer = Case::Roots(call.clone()).answer();
-        let untouched = 7.5f64.to_bits();
-        if answer.number < 0 {
-            refusals.insert(-answer.number);
-            assert!(answer.words.iter().all(|&word| word == untouched));
+        let (number, result, kinds) = found(&call);
+        let (roots, rest) = result.split_at(number.max(0) as usize);
+        assert!(rest.iter().all(|&place| place == 7.5));
+        assert!(kinds[roots.len()..].iter().all(|&byte| byte == 0xA5));
+        if number < 0 {
+            refusals.insert(-number);
             continue;
         }
-        let (roots, rest) = answer.words.split_at(answer.number as usize);
-        assert!(rest.iter().all(|&word| word == untouched));
-        let roots: Vec<f64> = roots.iter().map(|&root| f64::from_bits(root)).collect();
-        assert!(
-            roots
-                .iter()
-                .all(|&root| call.lower <= root && root <= call.upper)
-        );
+        let between = |root: &f64| call.lower <= *root && *root <= call.upper;
+        assert!(roots.iter().all(between));
         assert!(roots.windows(2).all(|pair| pair[0] < pair[1]));
         let most = degree(&call.coefficients).map_or(0, |degree| (2 << degree) - 3);
         assert!(roots.len() <= most);
     }
     assert_eq!(refusals.into_iter().collect::<Vec<_>>(), [21, 22, 23, 24]);
+}
+
+#[test]
+fn kinds_are_touches_and_crossings() {
+    let mut seen = BTreeSet::new();
+    for call in roots::calls(SEED, 6000) {
+        let (number, result, kinds) = found(&call);
+        let values = operations::root_values(&call.coefficients, call.lower, call.upper);
+        let (Ok(values), 0..) = (values, number) else {
+            continue;
+        };
+        assert_eq!(values.len(), number as usize);
+        let first = degree(&call.coefficients) == Some(1);
+        for (value, (root, kind)) in std::iter::zip(values, std::iter::zip(result, kinds)) {
+            assert_eq!(value.to_bits(), root.to_bits());
+            assert!(kind == 1 || kind == 2);
+            // A quotient is a crossing, and no bisection ends in -0.0.
+            assert!(!first || kind == 2);
+            assert!(first || kind == 1 || root.to_bits() != 1 << 63);
+            let bound = root == call.lower || root == call.upper;
+            seen.insert((kind, bound, root == 0.0));
+        }
+    }
+    assert_eq!(seen.len(), 8);
+}
+
+#[test]
+fn roots_need_as_many_places_as_there_are_in_both_slices() {
+    for call in roots::calls(SEED, 3000) {
+        let (coefficients, lower, upper) = (&call.coefficients, call.lower, call.upper);
+        let Ok(values) = operations::root_values(coefficients, lower, upper) else {
+            continue;
+        };
+        let count = values.len();
+        let shorts = [[0, 0], [1, 0], [0, 1], [1, 1]];
+        for [result, kinds] in shorts.map(|short| short.map(|less| count.saturating_sub(less))) {
+            let (mut result, mut kinds) = (vec![7.5; result], vec![7; kinds]);
+            let fits = result.len().min(kinds.len()) >= count;
+            let answer = operations::roots_op(coefficients, lower, upper, &mut result, &mut kinds);
+            assert_eq!(answer, if fits { count as i64 } else { -24 });
+        }
+    }
 }
 
 /// The degree after trimming, if it is at least 1.
@@ -202,7 +248,7 @@ fn check_of_damaged_sheets() {
 #[test]
 fn any_bytes_are_answered() {
     let random = &mut Random::new(SEED, 0);
-    let work = &mut [0.0; 64];
+    let (work, kinds) = (&mut [0.0; 64], &mut [0; 64]);
     for _ in 0..20_000 {
         let mut bytes: Vec<u8> = (0..SIZE).map(|_| random.bits() as u8).collect();
         bytes[..4].copy_from_slice(&[1 + random.below(2) as u8, 1, random.below(2) as u8, 0]);
@@ -217,8 +263,8 @@ fn any_bytes_are_answered() {
             .map(|_| f64::from_bits(random.bits()))
             .collect();
         let bounds = [random.within(4.5), f64::from_bits(random.bits())];
-        operations::roots_op(&words, bounds[0], bounds[1], work);
-        operations::roots_op(&words, bounds[0], 4.0, work);
+        operations::roots_op(&words, bounds[0], bounds[1], work, kinds);
+        operations::roots_op(&words, bounds[0], 4.0, work, kinds);
         operations::check(&bytes, work);
         corpus::floor_and_trigonometry([(); 3].map(|()| random.bits()));
     }

@@ -7,7 +7,7 @@
 
 use lemongully_oracle::generate::{Random, limits, requests, roots};
 use lemongully_oracle::linked;
-use lemongully_oracle::operations::{PROGRAM_INPUT, PROGRAM_WORK, roots_op, sample};
+use lemongully_oracle::operations::{PROGRAM_INPUT, PROGRAM_WORK, root_values, sample};
 use lemongully_oracle::request::{FROM, OFFSETS, REFERENCES, SIGNS, TO};
 use std::hint::black_box;
 
@@ -43,11 +43,21 @@ const SAMPLING: Sides<Vec<u8>> = Sides {
     rust: |request, room| sample(request, &mut room.places, &mut room.bytes),
 };
 
+/// The library gives values and kinds. The Rust gives values alone, as ported:
+/// the oracle's definition of kinds finds the derivative's roots a second time,
+/// which is no yardstick.
 const ROOTS: Sides<roots::Call> = Sides {
     library: |call, room| {
-        linked::polynomial::roots(&call.coefficients, call.lower, call.upper, &mut room.places)
+        let (places, kinds) = (&mut room.places, &mut room.bytes);
+        linked::polynomial::roots(&call.coefficients, call.lower, call.upper, places, kinds)
     },
-    rust: |call, room| roots_op(&call.coefficients, call.lower, call.upper, &mut room.places),
+    rust: |call, room| match root_values(&call.coefficients, call.lower, call.upper) {
+        Err(refusal) => -refusal,
+        Ok(roots) => {
+            room.places[..roots.len()].copy_from_slice(&roots);
+            roots.len() as i64
+        }
+    },
 };
 
 /// A request with limits, plain signs and offsets and references in one turn.

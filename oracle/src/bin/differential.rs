@@ -136,23 +136,19 @@ fn remainder_runs(count: u64, seed: u64) -> Vec<Run> {
     }]
 }
 
-/// The section `polynomial`: the operation Roots, its answer and every place of
-/// the result slice, which holds rubbish beforehand.
+/// The section `polynomial`: the operation Roots, its answer, every place of the
+/// result and every byte of the kinds, all of which hold rubbish beforehand.
 fn polynomial_runs(count: u64, seed: u64) -> Vec<Run> {
+    let (places, bytes) = (rubbish_places(seed, 512), rubbish_bytes(seed, 512));
     let (mut differences, mut first) = (0, None);
     for index in 0..count {
         let call = roots::call(seed, index);
-        let rubbish = |place: usize| f64::from_bits(seed ^ (place as u64 * 0x9E37_79B9_7F4A_7C15));
-        let before: Vec<f64> = (0..call.result).map(rubbish).collect();
-        let (mut expected, mut found) = (before.clone(), before);
-        let answer = roots_op(&call.coefficients, call.lower, call.upper, &mut expected);
-        let linked =
-            linked::polynomial::roots(&call.coefficients, call.lower, call.upper, &mut found);
-        let same = expected
-            .iter()
-            .zip(&found)
-            .all(|(a, b)| a.to_bits() == b.to_bits());
-        if answer != linked || !same {
+        let (coefficients, lower, upper) = (&call.coefficients, call.lower, call.upper);
+        let [mut expected, mut found] = [(); 2].map(|()| places[..call.result].to_vec());
+        let [mut marks, mut kinds] = [(); 2].map(|()| bytes[..call.kinds].to_vec());
+        let answer = roots_op(coefficients, lower, upper, &mut expected, &mut marks);
+        let linked = linked::polynomial::roots(coefficients, lower, upper, &mut found, &mut kinds);
+        if answer != linked || marks != kinds || !same_places(&expected, &found) {
             differences += 1;
             first.get_or_insert_with(|| format!("{call:?}: {answer}, linked {linked}"));
         }

@@ -170,15 +170,24 @@ fn checking(random: &mut Random, call: &sheets::Call) -> Found {
 fn finding(random: &mut Random, call: &roots::Call) -> Found {
     let mut coefficients = Lent::holding(random, &call.coefficients);
     let mut result = Lent::rubbish(random, call.result);
-    let before = (coefficients.clone(), result.clone());
+    let mut kinds = Lent::rubbish(random, call.kinds);
+    let before = (coefficients.clone(), result.clone(), kinds.clone());
     let (lower, upper) = (call.lower, call.upper);
-    let number = linked::polynomial::roots(coefficients.slice(), lower, upper, result.slice());
+    let number = linked::polynomial::roots(
+        coefficients.slice(),
+        lower,
+        upper,
+        result.slice(),
+        kinds.slice(),
+    );
     demand(coefficients.same(&before.0), "a coefficient was written to")?;
-    let mut oracle = before.1.clone();
-    let expected = roots_op(&call.coefficients, lower, upper, oracle.slice());
-    answers(number, expected, call.result, [21, 24])?;
+    let mut oracle = (before.1.clone(), before.2.clone());
+    let (values, marks) = (oracle.0.slice(), oracle.1.slice());
+    let expected = roots_op(&call.coefficients, lower, upper, values, marks);
+    answers(number, expected, call.result.min(call.kinds), [21, 24])?;
     let size = usize::try_from(number).unwrap_or(0);
-    written(&mut result, &oracle, before.1, size)?;
+    written(&mut result, &oracle.0, before.1, size)?;
+    written(&mut kinds, &oracle.1, before.2, size)?;
     Ok(number)
 }
 

@@ -4,7 +4,8 @@
 
 use lemongully_oracle::float;
 use lemongully_oracle::generate::roots::{Call, call};
-use lemongully_oracle::operations::roots_op;
+use lemongully_oracle::operations::{found_roots, root_values};
+use lemongully_oracle::touching::Root::{self, Crossing, Touch};
 use std::io::{BufWriter, Result, Write};
 
 const SEED: u64 = 754;
@@ -13,13 +14,13 @@ const SEED: u64 = 754;
 struct Stored {
     mark: char,
     call: Call,
-    answer: std::result::Result<Vec<f64>, i64>,
+    answer: std::result::Result<Vec<Root>, i64>,
 }
 
 impl Stored {
-    /// An example of document 01: high parts, the low parts zero, and a result
-    /// slice of as many places as there are roots.
-    fn example(mark: char, high: &[f64], bounds: [f64; 2], answer: &[f64]) -> Self {
+    /// An example: high parts, the low parts zero, and slices of as many places
+    /// as there are roots.
+    fn example(mark: char, high: &[f64], bounds: [f64; 2], answer: &[Root]) -> Self {
         Self {
             mark,
             call: Call {
@@ -27,6 +28,7 @@ impl Stored {
                 lower: bounds[0],
                 upper: bounds[1],
                 result: answer.len(),
+                kinds: answer.len(),
             },
             answer: Ok(answer.to_vec()),
         }
@@ -40,19 +42,27 @@ impl Stored {
         }
     }
 
+    /// The same call with so many places less, refused for it.
+    fn short(mut self, result: usize, kinds: usize) -> Self {
+        self.call.result -= result;
+        self.call.kinds -= kinds;
+        self.refused(24)
+    }
+
     fn generated(index: u64) -> Self {
         let call = call(SEED, index);
-        let mut result = vec![0.0; call.result];
-        let answer = roots_op(&call.coefficients, call.lower, call.upper, &mut result);
-        result.truncate(answer.max(0) as usize);
+        let answer = found_roots(&call.coefficients, call.lower, call.upper);
+        let fits = |roots: &Vec<Root>| roots.len() <= call.result.min(call.kinds);
         Self {
             mark: '3',
+            answer: answer.and_then(|roots| if fits(&roots) { Ok(roots) } else { Err(24) }),
             call,
-            answer: if answer < 0 { Err(-answer) } else { Ok(result) },
         }
     }
 
-    /// The line's words.
+    /// The line's words: the number of parts and the parts, the bounds, the
+    /// places of the result and of the kinds, the answer, the roots' values and
+    /// their kinds.
     fn words(&self) -> Vec<u64> {
         let bits = |floats: &[f64]| floats.iter().map(|&x| float::bits(x)).collect::<Vec<_>>();
         let call = &self.call;
@@ -64,32 +74,43 @@ impl Stored {
         let mut words = vec![call.coefficients.len() as u64];
         words.extend(bits(&call.coefficients));
         words.extend(bits(&[call.lower, call.upper]));
-        words.extend([call.result as u64, answer as u64]);
-        words.extend(bits(roots));
+        words.extend([call.result as u64, call.kinds as u64, answer as u64]);
+        words.extend(roots.iter().map(|root| float::bits(root.value())));
+        words.extend(roots.iter().map(|root| u64::from(root.kind())));
         words
     }
 }
 
-/// The examples of document 01: 1 are those that it marks P.
+/// The examples of document 01, 1 those that it marks P, and of change request 1.
 fn examples() -> Vec<Stored> {
     let beyond = 4.0f64.next_up();
     let square = [-1.0, 0.0, 1.0];
     let line = [-4.0, 1.0];
     let whole = [-4.0, 4.0];
+    let crossed = [Crossing(-1.0), Crossing(1.0)];
+    let four = [Crossing(4.0)];
+    // 1 is a bound near zero, and the end of a bisection too.
+    let lifted = [1.0e-323, 0.0, -1.0, 1.0];
+    let beside = Crossing(f64::from_bits(0x1E65555555555556));
+    let two = || Stored::example('2', &square, whole, &crossed);
     vec![
-        Stored::example('1', &square, whole, &[-1.0, 1.0]),
-        Stored::example('1', &[0.0, 0.0, 1.0], [-1.0, 1.0], &[-0.0]),
-        Stored::example('1', &line, whole, &[4.0]),
+        Stored::example('1', &square, whole, &crossed),
+        Stored::example('1', &[0.0, 0.0, 1.0], [-1.0, 1.0], &[Touch(-0.0)]),
+        Stored::example('1', &line, whole, &four),
         Stored::example('1', &[-5.0, 1.0], whole, &[]),
-        Stored::example('1', &square, [1.0, 1.0], &[1.0]),
-        Stored::example('1', &[-1.0, 1.0, 0.0, 0.0], whole, &[1.0]),
+        Stored::example('1', &square, [1.0, 1.0], &[Touch(1.0)]),
+        Stored::example('1', &[-1.0, 1.0, 0.0, 0.0], whole, &[Crossing(1.0)]),
         Stored::example('1', &[7.0], whole, &[]),
         Stored::example('1', &[], whole, &[]),
-        Stored::example('2', &line, [4.0, 4.0], &[4.0]),
-        Stored::example('2', &[4.0, 1.0], [-4.0, -4.0], &[-4.0]),
-        Stored::example('2', &line, [-4.0, beyond], &[4.0]).refused(22),
-        Stored::example('2', &line, [-beyond, 4.0], &[4.0]).refused(22),
-        Stored::example('2', &line, [beyond, beyond], &[4.0]).refused(22),
+        Stored::example('2', &line, [4.0, 4.0], &four),
+        Stored::example('2', &[4.0, 1.0], [-4.0, -4.0], &[Crossing(-4.0)]),
+        Stored::example('2', &line, [-4.0, beyond], &four).refused(22),
+        Stored::example('2', &line, [-beyond, 4.0], &four).refused(22),
+        Stored::example('2', &line, [beyond, beyond], &four).refused(22),
+        Stored::example('2', &lifted, [0.0, 1.0], &[beside, Touch(1.0)]),
+        two().short(1, 0),
+        two().short(0, 1),
+        two().short(1, 1),
     ]
 }
 
@@ -101,16 +122,17 @@ fn degree(call: &Call) -> Option<usize> {
 }
 
 /// The sorts of calls, by degree where the call is not refused for another
-/// reason than its slice's length.
+/// reason than its slices' lengths.
 #[derive(PartialEq)]
 enum Sort {
-    /// One place or more, as many as there are roots.
-    Exact(Option<usize>),
+    /// One root or more, as many places in both slices: whether some touch, and
+    /// whether some cross.
+    Exact(Option<usize>, [bool; 2]),
     /// No root, or more places than roots.
     Roomy(Option<usize>),
-    /// 24, one place less than there are roots.
-    OneShort(Option<usize>),
-    /// 24, no place for two roots or more.
+    /// 24, one place less than there are roots: of the result, of the kinds.
+    OneShort(Option<usize>, [bool; 2]),
+    /// 24, no place in one of the slices for two roots or more.
     NoPlace,
     /// 21, 22 or 23.
     Refused(i64),
@@ -118,14 +140,18 @@ enum Sort {
 
 fn sort(stored: &Stored) -> Sort {
     let (call, degree) = (&stored.call, degree(&stored.call));
+    let places = [call.result, call.kinds];
     match &stored.answer {
-        Ok(roots) if roots.len() == call.result && !roots.is_empty() => Sort::Exact(degree),
+        Ok(roots) if places == [roots.len(); 2] && !roots.is_empty() => Sort::Exact(
+            degree,
+            [1, 2].map(|kind| roots.iter().any(|root| root.kind() == kind)),
+        ),
         Ok(_) => Sort::Roomy(degree),
         Err(24) => {
-            let mut room = [0.0; 509];
-            let roots = roots_op(&call.coefficients, call.lower, call.upper, &mut room);
-            if roots == call.result as i64 + 1 {
-                Sort::OneShort(degree)
+            let roots = root_values(&call.coefficients, call.lower, call.upper);
+            let count = roots.map_or(0, |roots| roots.len());
+            if places.iter().all(|places| places + 1 >= count) {
+                Sort::OneShort(degree, places.map(|places| places < count))
             } else {
                 Sort::NoPlace
             }
@@ -134,13 +160,22 @@ fn sort(stored: &Stored) -> Sort {
     }
 }
 
-/// How many calls of each sort are stored.
+/// How many calls of each sort are stored. Degree 1 has no touch.
 fn wanted() -> Vec<(Sort, usize)> {
     let mut wanted = vec![(Sort::Roomy(None), 8), (Sort::Roomy(Some(0)), 16)];
     for degree in (1..=8).map(Some) {
-        wanted.push((Sort::Exact(degree), 24));
+        let kinds: &[_] = match degree {
+            Some(1) => &[([false, true], 24)],
+            _ => &[([true, false], 8), ([false, true], 8), ([true, true], 8)],
+        };
+        let short = [([true, false], 6), ([false, true], 6), ([true, true], 4)];
+        wanted.extend(
+            kinds
+                .iter()
+                .map(|&(kinds, count)| (Sort::Exact(degree, kinds), count)),
+        );
+        wanted.extend(short.map(|(short, count)| (Sort::OneShort(degree, short), count)));
         wanted.push((Sort::Roomy(degree), 16));
-        wanted.push((Sort::OneShort(degree), 16));
     }
     wanted.push((Sort::NoPlace, 16));
     wanted.push((Sort::Refused(21), 32));

@@ -3,7 +3,6 @@
 
 use super::{Random, floats, power, requests, roots, sheets};
 use crate::corpus::Case;
-use crate::observe::LENT;
 use crate::operations::{self, FRAME, PROGRAM_INPUT, PROGRAM_WORK, TRAILER};
 use crate::request::SIZE;
 
@@ -61,9 +60,10 @@ fn roots(random: &mut Random) -> roots::Call {
         5 => call.upper = hard(random),
         _ => {}
     }
-    let found = &mut [0.0; LENT];
-    let found = operations::roots_op(&call.coefficients, call.lower, call.upper, found);
-    call.result = length(random, found.max(1) as usize);
+    let found = operations::root_values(&call.coefficients, call.lower, call.upper);
+    let count = found.map_or(1, |roots| roots.len().max(1));
+    call.result = length(random, count);
+    call.kinds = length(random, count);
     call
 }
 

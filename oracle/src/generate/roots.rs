@@ -1,16 +1,18 @@
 //! Calls of the operation Roots, accepted and refused.
 
-use super::{Random, floats, power};
+use super::{Random, floats, power, touching};
 use crate::float::P;
+use crate::observe::LENT;
 use crate::operations;
 
-/// A call of Roots: coefficients, bounds and the length of the result slice.
+/// A call of Roots: coefficients, bounds and the lengths of the two lent slices.
 #[derive(Clone, Debug)]
 pub struct Call {
     pub coefficients: Vec<f64>,
     pub lower: f64,
     pub upper: f64,
     pub result: usize,
+    pub kinds: usize,
 }
 
 /// Calls of all sorts.
@@ -23,27 +25,40 @@ pub fn call(seed: u64, index: u64) -> Call {
     let random = &mut Random::new(seed, index);
     let [lower, upper] = bounds(random);
     let mut coefficients = match random.below(16) {
-        0 => nearly_touching(random),
+        0 => touching::nearly(random),
+        1..=5 => {
+            let degree = 1 + random.below(8);
+            let roots = some_roots(random, degree, lower, upper);
+            touching::repeated(random, &roots)
+        }
+        6..=8 => touching::lifted(random, lower, upper),
+        9 => touching::symmetric(random),
         _ => curve(random, lower, upper),
     };
     lead(random, &mut coefficients);
     if random.once_in(12) {
         spoil(random, &mut coefficients);
     }
-    let mut found = [0.0; 509];
-    let count = operations::roots_op(&coefficients, lower, upper, &mut found).max(0) as usize;
-    let result = match random.below(6) {
-        0 => count.saturating_sub(1),
-        1 => 0,
-        2 => 509,
-        3 => count + 1,
-        _ => count,
-    };
+    let found = operations::root_values(&coefficients, lower, upper);
+    let count = found.map_or(0, |roots| roots.len());
     Call {
         coefficients,
         lower,
         upper,
-        result,
+        result: places(random, count),
+        kinds: places(random, count),
+    }
+}
+
+/// The places of a slice for so many roots: mostly enough, now and then one
+/// short or none.
+fn places(random: &mut Random, count: usize) -> usize {
+    match random.below(12) {
+        0 => count.saturating_sub(1),
+        1 => 0,
+        2 | 3 => LENT,
+        4 | 5 => count + 1,
+        _ => count,
     }
 }
 
@@ -81,18 +96,20 @@ fn bounds(random: &mut Random) -> [f64; 2] {
         3 => [one, one],
         4 => random.pick(&[[0.0, -0.0], [-0.0, 0.0], [0.0, 0.0], [-0.0, -0.0]]),
         5 => [one, one.next_up()],
-        6 => random.pick(&[
+        6 | 7 => random.pick(&[
             [0.0, 1.0],
             [-1.0, 0.0],
             [-1.0, -0.0],
             [-0.0, 1.0],
             [0.0, 5.0e-324],
+            [-0.0, one.abs()],
+            [-one.abs(), 0.0],
         ]),
-        7 => {
+        8 => {
             let small = random.decimal(-300, -3);
             [-small, small * random.unit()]
         }
-        8..=11 => [-1.0, 1.0],
+        9..=11 => [-1.0, 1.0],
         12..=14 => [-4.0, 4.0],
         _ => [one.min(other), one.max(other)],
     }
@@ -130,44 +147,40 @@ fn curve(random: &mut Random, lower: f64, upper: f64) -> Vec<f64> {
     pairs
 }
 
-/// The polynomial of these roots: repeated, nearly so, or at the ends.
+/// The polynomial of such roots, each coefficient rounded to one float.
 fn of_roots(random: &mut Random, degree: usize, lower: f64, upper: f64) -> Vec<f64> {
-    let mut coefficients = vec![random.pick(&[1.0, -1.0, 0.375, 3.0])];
+    let scale = random.pick(&[1.0, -1.0, 0.375, 3.0]);
+    some_roots(random, degree, lower, upper)
+        .into_iter()
+        .fold(vec![scale], |coefficients, root| {
+            with_root(&coefficients, root)
+        })
+}
+
+/// So many roots: repeated, nearly so, at the bounds, between them or anywhere.
+fn some_roots(random: &mut Random, degree: usize, lower: f64, upper: f64) -> Vec<f64> {
     let mut last = random.within(1.0);
     let whole = random.once_in(3);
+    let mut roots = Vec::new();
     for _ in 0..degree {
         let root = match random.below(6) {
             0 => last,
             1 => last + random.decimal(-16, -4),
             2 => random.pick(&[lower, upper]),
             3 => random.pick(&[0.0, -0.0, 1.0, -1.0, 0.5, P / 4.0]),
+            4 => lower + (upper - lower) * random.unit(),
             _ => random.within(2.0),
         };
-        let root = if !root.is_finite() {
+        last = if !root.is_finite() {
             1.0
         } else if whole {
             (root * 4.0).round() / 4.0
         } else {
             root
         };
-        last = root;
-        coefficients = with_root(&coefficients, root);
+        roots.push(last);
     }
-    coefficients
-}
-
-/// A square plus a constant about as large as what still counts as zero there.
-fn nearly_touching(random: &mut Random) -> Vec<f64> {
-    let root = random.pick(&[1.0, -1.0, 0.5, 2.0, 0.75]);
-    let bound = 128.0 * f64::EPSILON * f64::EPSILON * (4.0 * root * root);
-    let rest = random.sign() * random.near(bound);
-    let slope = random.pick(&[[-2.0 * root, 0.0], [-root, -root], [-3.0 * root, root]]);
-    let mut pairs = vec![root * root, rest, slope[0], slope[1], 1.0, 0.0];
-    if random.once_in(2) {
-        // Times x.
-        pairs.splice(0..0, [0.0, 0.0]);
-    }
-    pairs
+    roots
 }
 
 /// The polynomial times (x − root).
