@@ -142,30 +142,66 @@ fn bytes_hold(s: &[u8], at: usize, m: usize, kinds: &[u8]) -> bool
     good
 }
 
-// Whether the call of n floats and m roots at `at` has the expected answer, and every place of
-// the slices and behind them what it is to hold. `after` is where the bounds stand.
+// What a line says of its call beside the coefficients, the roots and the kinds.
+struct Stored {
+    lower: u64,
+    upper: u64,
+    places: usize,
+    bytes: usize,
+    answer: u64,
+}
+
+// Whether the call on the first n floats of c has the expected answer, and every place of the slices
+// and behind them what it is to hold. m roots stand at `at`, their kinds behind them.
+fn replays(s: &[u8], at: usize, m: usize, c: &[f64], n: usize, call: Stored) -> bool
+    requires { ⌜ (n ≤ length (now c)) × (call .places ≤ 512) × (call .bytes ≤ 512) × (at + 17 * (m + m) ≤ length (now s)) ⌝ }
+{
+    let arose = at + 17 * m;
+    let mut result = [0.0; 512];
+    blot(&mut result);
+    let mut kinds = [165; 512];
+    let places = call.places;
+    let bytes = call.bytes;
+    let found = run(
+        c,
+        n,
+        call.lower,
+        call.upper,
+        places,
+        &mut result,
+        bytes,
+        &mut kinds,
+    );
+    let listed = holds(s, at, m, &result);
+    let marked = bytes_hold(s, arose, m, &kinds);
+    (found == call.answer) & listed & marked
+}
+
+// The same for the call of n floats and m roots at `at`. `after` is where the bounds stand.
 fn answers(s: &[u8], at: usize, n: usize, m: usize) -> bool
     requires { ⌜ (n ≤ 64) × (at + 17 * (n + m + m) + 104 ≤ length (now s)) ⌝ }
 {
     let after = at + 17 * n + 19;
+    let lower = word(s, after);
+    let upper = word(s, after + 17);
     let places = held(word(s, after + 34), 512);
+    let bytes = held(word(s, after + 51), 512);
+    let answer = word(s, after + 68);
     if 512 < places {
         return false;
     }
-    let bytes = held(word(s, after + 51), 512);
     if 512 < bytes {
         return false;
     }
     let c = floats(s, at + 19, n);
-    let mut result = [0.0; 512];
-    blot(&mut result);
-    let mut kinds = [165; 512];
-    let lower = word(s, after);
-    let upper = word(s, after + 17);
-    let found = run(&c, n, lower, upper, places, &mut result, bytes, &mut kinds);
-    let listed = holds(s, after + 85, m, &result);
-    let marked = bytes_hold(s, after + 85 + 17 * m, m, &kinds);
-    (found == word(s, after + 68)) & listed & marked
+    let call = Stored {
+        lower,
+        upper,
+        places,
+        bytes,
+        answer,
+    };
+    replays(s, after + 85, m, &c, n, call)
 }
 
 // Whether Roots answers as stored, for a call whose line has k words.

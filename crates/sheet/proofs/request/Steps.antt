@@ -114,8 +114,8 @@ module _ (s : Shape) (r : List ℕ) where
     field false e = run-unread 8 i room (λ k l. alike k l ∙ e)
 
     -- a step stores the first field of those that are left
-    pub field-turn : (out : List ℕ) (at v : ℕ) → v ≡ cond (byte-read s i) w 0
+    pub field-step : (out : List ℕ) (at v : ℕ) → v ≡ cond (byte-read s i) w 0
         → sets (sets out (at + i) (bytes 8 v)) (at + (i + 8)) (blank-from s (i + 8) (drop (i + 8) r)) ≡ sets out (at + i) (blank-from s i (drop i r))
-    field-turn out at v q =
+    field-step out at v q =
         let e : at + (i + 8) ≡ at + i + 8 = omega arith in
         rw (field (byte-read s i) refl, sets-append, length-bytes, q, e)

@@ -10,7 +10,7 @@ use borrow.Author.Needs.{needs}
 use Rattle.sheet.specs.Bytes.{bytes, part}
 use Rattle.sheet.specs.Laws.Bytes.{bytes-part}
 use Rattle.sheet.specs.Request.{request-size, blank-from}
-use Rattle.sheet.proofs.request.Steps.{field-turn, put-end}
+use Rattle.sheet.proofs.request.Steps.{field-step, put-end}
 use Rattle.sheet.proofs.request.put_fields.Statement.{statement}
 use Rattle.sheet.proofs.request.put_fields.Tie as tie
 
@@ -61,7 +61,7 @@ loop-again c =
       omega arith,
       ap length (c .before .before .put .ensures) ∙ length-sets (b .loop .out) (a .at + i) (bytes 8 (k .kept-word .result)) ∙ b .loop .inv .3,
       ap (λ (o : List ℕ). sets o (a .at + (i + 8)) (blank-from (a .s) (i + 8) (drop (i + 8) r))) (c .before .before .put .ensures)
-          ∙ field-turn (a .s) r i (k .before .word .result) (b .loop .inv .0) (b .loop .inv .2) room has (b .loop .out) (a .at) (k .kept-word .result)
+          ∙ field-step (a .s) r i (k .before .word .result) (b .loop .inv .0) (b .loop .inv .2) room has (b .loop .out) (a .at) (k .kept-word .result)
           (k .kept-word .ensures ∙ ap (λ (t : Bool). cond t (k .before .word .result) 0) (k .before .before .byte-read .ensures))
           ∙ b .loop .inv .4,
     )

@@ -23,6 +23,9 @@ shared-slice-read-bits c = search needs
 bits-requires : tie.Need-bits-requires Inv-loop μ-loop
 bits-requires c κs = search needs
 
+rubbish-requires : tie.Need-rubbish-requires Inv-loop μ-loop
+rubbish-requires c κs = search needs
+
 expected-requires : tie.Need-expected-requires Inv-loop μ-loop
 expected-requires c κs = search needs
 
@@ -48,6 +51,7 @@ holds-spec =
     mul-bits
     shared-slice-read-bits
     bits-requires
+    rubbish-requires
     expected-requires
     add-i
     loop-less
