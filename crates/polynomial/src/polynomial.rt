@@ -124,10 +124,7 @@ pub(crate) fn all_finite(p: &[f64], n: usize) -> bool
     while i < n {
         let c = pair_at(p, i);
         i += 1;
-        if !is_finite(c.high) {
-            return false;
-        }
-        if !is_finite(c.low) {
+        if !(is_finite(c.high) & is_finite(c.low)) {
             return false;
         }
     }

@@ -229,26 +229,37 @@ pub(crate) fn roots(
     if m <= 5 {
         // fewer places have to be cleared than 512
         let mut few = [0.0; 32];
-        let count = partitions(p, m, lower, upper, &mut few);
+        let mut arose = [0; 16];
+        let count = partitions(p, m, lower, upper, &mut few, &mut arose);
         return roots_by(p, m, &mut few, count, out, kinds);
     }
     let mut points = [0.0; 512];
-    let count = partitions(p, m, lower, upper, &mut points);
+    let mut arose = [0; 256];
+    let count = partitions(p, m, lower, upper, &mut points, &mut arose);
     roots_by(p, m, &mut points, count, out, kinds)
 }
 
 // The bounds with the derivative's roots between them, sorted, each once, in the first places of
-// points. What stands behind them is left. How the derivative's roots arose does not matter.
-pub(crate) fn partitions(p: &[f64], n: usize, lower: f64, upper: f64, points: &mut [f64]) -> usize
-    requires { ⌜ (2 < n) × (n ≤ 9) × (2 ^ n ≤ length (now points)) × Span 2 lower upper × (n + n ≤ length (now p)) ⌝ }
+// points; the kinds of these roots, which a partition point is the same without, in those of arose.
+// What stands behind them is left.
+pub(crate) fn partitions(
+    p: &[f64],
+    n: usize,
+    lower: f64,
+    upper: f64,
+    points: &mut [f64],
+    arose: &mut [u8],
+) -> usize
+    requires { ⌜ (2 < n) × (n ≤ 9) × (2 ^ n ≤ length (now points)) × Span 2 lower upper × (n + n ≤ length (now p)) × (2 ^ (n - 1) ≤ length (now arose)) ⌝ }
     ensures { λ r. ⌜ (r ≡ length (Roots.partitions lower upper
         (Roots.roots-at (n - 1) (Of.derivative (take n (pairs (now (p .entry))))) lower upper))) ×
         (now (points .exit) ≡ Roots.partitions lower upper
         (Roots.roots-at (n - 1) (Of.derivative (take n (pairs (now (p .entry))))) lower upper) ++ drop r (now (points .entry))) ⌝ }
+    ensures { λ _. ⌜ now (arose .exit) ≡ Kinds.kinds (Of.derivative (take n (pairs (now (p .entry))))) lower upper ++
+        drop (length (Roots.roots-at (n - 1) (Of.derivative (take n (pairs (now (p .entry))))) lower upper)) (now (arose .entry)) ⌝ }
 {
     let d = spread(derivative(p, n));
-    let mut kinds = [0; 256];
-    let k = roots(&d, n - 1, lower, upper, points, &mut kinds);
+    let k = roots(&d, n - 1, lower, upper, points, arose);
     let with_lower = keep(points, k, lower);
     keep(points, with_lower, upper)
 }

@@ -1,5 +1,5 @@
 -- Bounds on the arctangent and what is worked out with it: atan is within 3, and atan2, acos and
--- asin within 7. Each halving divides by 2 at least, since 1 ≤ sqrt(1 + a·a).
+-- asin within 7. Each step to the half angle divides by 2 at least, since 1 ≤ sqrt(1 + a·a).
 -- Sizes alone are counted, so the bounds are wide.
 use mathlib.Core.Path.{_≡_, refl, sym, subst}
 use mathlib.Core.Bool.{Bool, true, false, not, _||_, cond}
@@ -34,7 +34,7 @@ three-float = fin false 3 (pos 0)
 abbrev pub seven-float : Float
 seven-float = fin false 7 (pos 0)
 
--- ---- the halvings
+-- ---- the half angle
 one-one : one-float ⊕ one-float ≡ two-float
 unfolding add
 one-one = refl

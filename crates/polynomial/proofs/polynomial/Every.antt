@@ -29,5 +29,16 @@ module _ {passes : Float → Bool} {all : List Compensated → Bool} (e : Every 
     pub bad-low : passes (getD p i d .high) ≡ true → passes (getD p i d .low) ≡ false → all (slice i n p) ≡ false
     bad-low a b = parts true false a b
 
+    -- both parts by one test
+    module _ (b : Bool) (t : (passes (getD p i d .high) && passes (getD p i d .low)) ≡ b) where
+      pair : all (slice i n p) ≡ (b && all (slice (suc i) n p))
+      pair = ap all (slice-cons i n p d I h) ∙ e .more (getD p i d) (slice (suc i) n p) ∙ ap (λ (x : Bool). x && all (slice (suc i) n p)) t
+
+    pub pair-on : (passes (getD p i d .high) && passes (getD p i d .low)) ≡ true → all (slice i n p) ≡ all (slice (i + 1) n p)
+    pair-on t = pair true t ∙ ap (λ (j : ℕ). all (slice j n p)) (sym (add-one i))
+
+    pub pair-bad : (passes (getD p i d .high) && passes (getD p i d .low)) ≡ false → all (slice i n p) ≡ false
+    pair-bad t = pair false t
+
   pub every-end : (p : List Compensated) (n i : ℕ) → n ≤ i → i ≤ n → all (slice i n p) ≡ true
   every-end p n i a b = let s : i ≡ n = omega arith in ap all (ap (λ (j : ℕ). slice j n p) s ∙ slice-empty n p) ∙ e .none

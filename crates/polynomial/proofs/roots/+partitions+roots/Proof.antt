@@ -45,17 +45,17 @@ use Rattle.polynomial.proofs.roots.keep.Reads as keep-reads
 use Rattle.polynomial.proofs.roots.quotient.Reads as quotient-reads
 use Rattle.polynomial.proofs.roots.roots_by.Reads as roots-by-reads
 
-abbrev μ-partitions : Measures 2 partitions-kinds.ps ℕ
+abbrev μ-partitions : Measures 3 partitions-kinds.ps ℕ
 μ-partitions κs a = a .1 .0 + a .1 .0
 
 abbrev μ-roots : Measures 3 roots-kinds.ps ℕ
 μ-roots κs a = a .1 .0 + a .1 .0 + 1
 
-abbrev partitions-at : ℕ → In 2 partitions-kinds.ps
-partitions-at t = and 2 partitions-kinds.ps (is 2 partitions-kinds.ps μ-partitions t) partitions.Pre
+abbrev partitions-at : ℕ → In 3 partitions-kinds.ps
+partitions-at t = and 3 partitions-kinds.ps (is 3 partitions-kinds.ps μ-partitions t) partitions.Pre
 
-abbrev partitions-below : ℕ → In 2 partitions-kinds.ps
-partitions-below t = and 2 partitions-kinds.ps (falls 2 partitions-kinds.ps _<_ μ-partitions t) partitions.Pre
+abbrev partitions-below : ℕ → In 3 partitions-kinds.ps
+partitions-below t = and 3 partitions-kinds.ps (falls 3 partitions-kinds.ps _<_ μ-partitions t) partitions.Pre
 
 abbrev roots-at : ℕ → In 3 roots-kinds.ps
 roots-at t = and 3 roots-kinds.ps (is 3 roots-kinds.ps μ-roots t) roots.Pre
@@ -107,25 +107,33 @@ module _ (t : ℕ) where
   partitions-sub-roots : partitions-lts.Need-sub-roots (inner t) (partitions-at t) partitions.Post
   partitions-sub-roots c = search needs
 
-  partitions-slice-aggregate-roots-2 : partitions-lts.Need-slice-aggregate-roots-2 (inner t) (partitions-at t) partitions.Post
-  partitions-slice-aggregate-roots-2 c = search needs
-
   partitions-roots-requires : partitions-lts.Need-roots-requires (inner t) (partitions-at t) partitions.Post
   partitions-roots-requires c κs =
       let e = c .before .before .before in
-      let s = e .before .before .before .before in
+      let s = e .before .before .before .before .before in
       let a = s .args in
       let r = inner-room (a .n) (pairs (a .p .now)) (a .lower) (a .upper) (s .pre .1 .0) (length (now (a .points))) _ (s .pre .1 .2) refl in
-      let k : 2 ^ (a .n - 1) ≤ 2 ^ 8 = pow-mono {i = a .n - 1} {j = 8} (omega (arith, s .pre .1 .1)) in
-      (omega arith, (omega arith, r .0, s .pre .1 .3, omega (arith, e .spread .ok, s .pre .1 .1), omega arith))
+      (omega arith, (omega arith, r .0, s .pre .1 .3, omega (arith, e .spread .ok, s .pre .1 .1), s .pre .1 .5))
 
   -- the function's entry, from the call of `roots`
   abbrev entry : partitions-lts.After-roots (inner t) (partitions-at t) partitions.Post → partitions-lts.Start (inner t) (partitions-at t) partitions.Post
-  entry c = c .before .before .before .before .before .before .before .before
+  entry c = c .before .before .before .before .before .before .before .before .before
 
   -- the derivative's roots, and their number, after the call
   abbrev Roots : partitions-lts.After-roots (inner t) (partitions-at t) partitions.Post → List Float
   Roots c = let a = entry c .args in Of.roots-at (a .n - 1) (derivative (take (a .n) (pairs (a .p .now)))) (a .lower) (a .upper)
+
+  -- the coefficients that it is given are the derivative's
+  given : (c : partitions-lts.After-roots (inner t) (partitions-at t) partitions.Post)
+      → take (entry c .args .n - 1) (pairs (c .before .before .before .before .spread .result)) ≡
+      derivative (take (entry c .args .n) (pairs (entry c .args .p .now)))
+  given c =
+      let s = entry c in
+      let a = s .args in
+      let e = c .before .before .before .before in
+      let d = e .before in
+      ap (take (a .n - 1)) (e .spread .ensures)
+      ∙ derivative-front (d .derivative .result) (pairs (a .p .now)) (a .n) (enough (a .n) (a .p .now) (s .pre .1 .4)) (d .derivative .ensures)
 
   called : (c : partitions-lts.After-roots (inner t) (partitions-at t) partitions.Post)
       → Front (Roots c) (now (entry c .args .points)) (c .roots .result) (c .roots .last .1 .1 .1 .1 .0)
@@ -133,24 +141,19 @@ module _ (t : ℕ) where
   called c =
       let s = entry c in
       let a = s .args in
-      let d = c .before .before .before .before .before in
-      let e =
-      ap (λ (q : List Compensated). Of.roots-at (a .n - 1) q (a .lower) (a .upper))
-      (ap (take (a .n - 1)) (c .before .before .before .before .spread .ensures)
-      ∙ derivative-front (d .derivative .result) (pairs (a .p .now)) (a .n)
-      (enough (a .n) (a .p .now) (s .pre .1 .4)) (d .derivative .ensures)) in
+      let e = ap (λ (q : List Compensated). Of.roots-at (a .n - 1) q (a .lower) (a .upper)) (given c) in
       let n = c .roots .ensures .0 .0 ∙ ap length e in
       let l = c .roots .kept .1 .1 .1 .1 .0 in
       let r = inner-room (a .n) (pairs (a .p .now)) (a .lower) (a .upper) (s .pre .1 .0) (length (now (a .points))) (c .roots .result) (s .pre .1 .2) n in
       (front-same _ _ _ _ (c .roots .ensures .0) (Roots c) (sym e), omega arith)
 
   partitions-keep-requires : partitions-lts.Need-keep-requires (inner t) (partitions-at t) partitions.Post
-  partitions-keep-requires c κs = let r = called (c .before .before .before .before) .1 in omega arith
+  partitions-keep-requires c κs = let r = called (c .before .before .before .before .before) .1 in omega arith
 
   partitions-keep-requires-2 : partitions-lts.Need-keep-requires-2 (inner t) (partitions-at t) partitions.Post
   partitions-keep-requires-2 c κs =
       let k = c .before .before .before in
-      let r = k .before .before .before .before .before in
+      let r = k .before .before .before .before .before .before in
       let m = called r .1 in
       let l = k .keep .kept .0 in
       let b = put-room (entry r .args .lower) (r .roots .result) (r .roots .last .1 .1 .1 .1 .0) (k .keep .result) (k .keep .ensures .0) in
@@ -159,19 +162,24 @@ module _ (t : ℕ) where
   partitions-same-length : partitions-lts.Need-same-length (inner t) (partitions-at t) partitions.Post
   partitions-same-length c = search needs
 
+  partitions-same-length-2 : partitions-lts.Need-same-length-2 (inner t) (partitions-at t) partitions.Post
+  partitions-same-length-2 c = search needs
+
   partitions-returns : partitions-lts.Need-returns (inner t) (partitions-at t) partitions.Post
   partitions-returns c =
       let d = c .before .before in
       let k = d .before .before .before .before in
-      let r = k .before .before .before .before .before in
+      let r = k .before .before .before .before .before .before in
       let s = entry r in
       let a = s .args in
       let m = called r .1 in
       let l = k .keep .kept .0 in
-      let b = put-room (a .lower) (r .roots .result) (r .roots .last .1 .1 .1 .1 .0) (k .keep .result) (k .keep .ensures .0) in
-      bounded (a .n - 1) (derivative (take (a .n) (pairs (a .p .now)))) (a .lower) (a .upper) (s .pre .1 .3) (r .roots .last .1 .1 .1 .1 .0)
-      (k .keep .last .0) (d .keep2 .last .0) (r .roots .result) (k .keep .result) (d .keep2 .result)
-      (now (a .points)) (called r .0) (k .keep .ensures) (d .keep2 .ensures) (omega arith) (omega arith)
+      let b = put-room (a .lower) (r .roots .result) (r .roots .last .1 .1 .1 .1 .0) (k .keep .result) (k .keep .ensures .0) in (
+        bounded (a .n - 1) (derivative (take (a .n) (pairs (a .p .now)))) (a .lower) (a .upper) (s .pre .1 .3) (r .roots .last .1 .1 .1 .1 .0)
+            (k .keep .last .0) (d .keep2 .last .0) (r .roots .result) (k .keep .result) (d .keep2 .result)
+            (now (a .points)) (called r .0) (k .keep .ensures) (d .keep2 .ensures) (omega arith) (omega arith),
+        r .roots .ensures .1 ∙ ap₂ (λ (q : List Compensated) (j : ℕ). kinds q (a .lower) (a .upper) ++ drop j (now (a .arose))) (given r) (called r .0 .0),
+      )
 
   -- ---- roots
 
@@ -330,21 +338,27 @@ module _ (t : ℕ) where
             × (arose ≡ kinds (P lead) (s .args .lower) (s .args .upper) ++ drop r (now (s .args .kinds)))
         all-said = (front-same _ _ _ _ h _ all-found, g ∙ ap (λ (l : List ℕ). l ++ drop r (now (s .args .kinds))) (sym all-arose))
 
+  roots-slice-aggregate-partitions-2 : roots-lts.Need-slice-aggregate-partitions-2 (outer t) (roots-at t) roots.Post
+  roots-slice-aggregate-partitions-2 c = search needs
+
   roots-partitions-requires : roots-lts.Need-partitions-requires (outer t) (roots-at t) roots.Post
   roots-partitions-requires c κs =
-      let w = c .before .before in
-      let p : 2 ^ lead w .trimmed .result ≤ 2 ^ 5 = pow-mono {i = lead w .trimmed .result} {j = 5} (c .before .if4 .taken) in
-      (omega arith, (three w, omega arith, omega arith, s w .pre .1 .2, omega (arith, lead w .trimmed .ensures .0, s w .pre .1 .3)))
+      let i = c .before .before in
+      let w = i .before in
+      let m = lead w .trimmed .result in
+      let p : 2 ^ m ≤ 2 ^ 5 = pow-mono {i = m} {j = 5} (i .if4 .taken) in
+      let q : 2 ^ (m - 1) ≤ 2 ^ 4 = pow-mono {i = m - 1} {j = 4} (omega (arith, i .if4 .taken)) in
+      (omega arith, (three w, omega arith, omega arith, s w .pre .1 .2, omega (arith, lead w .trimmed .ensures .0, s w .pre .1 .3), omega arith))
 
   roots-slice-aggregate-roots-by : roots-lts.Need-slice-aggregate-roots-by (outer t) (roots-at t) roots.Post
   roots-slice-aggregate-roots-by c = search needs
 
   roots-roots-by-requires : roots-lts.Need-roots-by-requires (outer t) (roots-at t) roots.Post
   roots-roots-by-requires c κs =
-      let q = c .before .before .before .before in
-      let i = q .before .before in
+      let q = c .before .before .before .before .before in
+      let i = q .before .before .before in
       let l = q .partitions .kept .1 .1 .1 .1 .0 in
-      scannable (i .before) (q .partitions .result) _ (q .partitions .last .1 .1 .1 .1 .0) (q .partitions .ensures) 5 (i .if4 .taken) (omega arith)
+      scannable (i .before) (q .partitions .result) _ (q .partitions .last .1 .1 .1 .1 .0) (q .partitions .ensures .0) 5 (i .if4 .taken) (omega arith)
 
   roots-same-length-3 : roots-lts.Need-same-length-3 (outer t) (roots-at t) roots.Post
   roots-same-length-3 c = search needs
@@ -355,27 +369,33 @@ module _ (t : ℕ) where
   roots-returns-4 : roots-lts.Need-returns-4 (outer t) (roots-at t) roots.Post
   roots-returns-4 c =
       let x = c .before .before .before .before .before in
-      let q = x .before .before .before .before .before in
-      all-said (q .before .before .before) _ _ _ (q .partitions .ensures) _ _ _ (x .roots-by .ensures .0) (x .roots-by .ensures .1)
+      let q = x .before .before .before .before .before .before in
+      all-said (q .before .before .before .before) _ _ _ (q .partitions .ensures .0) _ _ _ (x .roots-by .ensures .0) (x .roots-by .ensures .1)
 
-  roots-slice-aggregate-partitions-2 : roots-lts.Need-slice-aggregate-partitions-2 (outer t) (roots-at t) roots.Post
-  roots-slice-aggregate-partitions-2 c = search needs
+  roots-slice-aggregate-partitions-3 : roots-lts.Need-slice-aggregate-partitions-3 (outer t) (roots-at t) roots.Post
+  roots-slice-aggregate-partitions-3 c = search needs
+
+  roots-slice-aggregate-partitions-4 : roots-lts.Need-slice-aggregate-partitions-4 (outer t) (roots-at t) roots.Post
+  roots-slice-aggregate-partitions-4 c = search needs
 
   roots-partitions-requires-2 : roots-lts.Need-partitions-requires-2 (outer t) (roots-at t) roots.Post
   roots-partitions-requires-2 c κs =
-      let w = c .before .before in
-      let p : 2 ^ lead w .trimmed .result ≤ 2 ^ 9 = pow-mono {i = lead w .trimmed .result} {j = 9} (omega arith) in
-      (omega arith, (three w, omega arith, omega arith, s w .pre .1 .2, omega (arith, lead w .trimmed .ensures .0, s w .pre .1 .3)))
+      let w = c .before .before .before in
+      let m = lead w .trimmed .result in
+      let k : m ≤ 9 = omega arith in
+      let p : 2 ^ m ≤ 2 ^ 9 = pow-mono {i = m} {j = 9} k in
+      let q : 2 ^ (m - 1) ≤ 2 ^ 8 = pow-mono {i = m - 1} {j = 8} (omega arith) in
+      (omega arith, (three w, omega arith, omega arith, s w .pre .1 .2, omega (arith, lead w .trimmed .ensures .0, s w .pre .1 .3), omega arith))
 
   roots-slice-aggregate-roots-by-2 : roots-lts.Need-slice-aggregate-roots-by-2 (outer t) (roots-at t) roots.Post
   roots-slice-aggregate-roots-by-2 c = search needs
 
   roots-roots-by-requires-2 : roots-lts.Need-roots-by-requires-2 (outer t) (roots-at t) roots.Post
   roots-roots-by-requires-2 c κs =
-      let q = c .before .before .before .before in
-      let w = q .before .before .before in
+      let q = c .before .before .before .before .before in
+      let w = q .before .before .before .before in
       let l = q .partitions2 .kept .1 .1 .1 .1 .0 in
-      scannable w (q .partitions2 .result) _ (q .partitions2 .last .1 .1 .1 .1 .0) (q .partitions2 .ensures) 9 (omega arith) (omega arith)
+      scannable w (q .partitions2 .result) _ (q .partitions2 .last .1 .1 .1 .1 .0) (q .partitions2 .ensures .0) 9 (omega arith) (omega arith)
 
   roots-same-length-5 : roots-lts.Need-same-length-5 (outer t) (roots-at t) roots.Post
   roots-same-length-5 c = search needs
@@ -386,8 +406,8 @@ module _ (t : ℕ) where
   roots-returns-5 : roots-lts.Need-returns-5 (outer t) (roots-at t) roots.Post
   roots-returns-5 c =
       let x = c .before .before .before .before .before in
-      let q = x .before .before .before .before .before in
-      all-said (q .before .before .before) _ _ _ (q .partitions2 .ensures) _ _ _ (x .roots-by2 .ensures .0) (x .roots-by2 .ensures .1)
+      let q = x .before .before .before .before .before .before in
+      all-said (q .before .before .before .before) _ _ _ (q .partitions2 .ensures .0) _ _ _ (x .roots-by2 .ensures .0) (x .roots-by2 .ensures .1)
 
 pub +partitions+roots-spec : {M : Type 1} → statement M
 +partitions+roots-spec = close μ-partitions μ-roots (λ t. partitions-lts.spec (inner t)
@@ -397,11 +417,11 @@ pub +partitions+roots-spec : {M : Type 1} → statement M
     (partitions-spread-requires t)
     (partitions-slice-aggregate-roots t)
     (partitions-sub-roots t)
-    (partitions-slice-aggregate-roots-2 t)
     (partitions-roots-requires t)
     (partitions-keep-requires t)
     (partitions-keep-requires-2 t)
     (partitions-same-length t)
+    (partitions-same-length-2 t)
     (partitions-returns t))
     λ t. roots-lts.spec (outer t)
     (roots-at t)
@@ -417,13 +437,15 @@ pub +partitions+roots-spec : {M : Type 1} → statement M
     (roots-same-length-2 t)
     (roots-returns-3 t)
     (roots-slice-aggregate-partitions t)
+    (roots-slice-aggregate-partitions-2 t)
     (roots-partitions-requires t)
     (roots-slice-aggregate-roots-by t)
     (roots-roots-by-requires t)
     (roots-same-length-3 t)
     (roots-same-length-4 t)
     (roots-returns-4 t)
-    (roots-slice-aggregate-partitions-2 t)
+    (roots-slice-aggregate-partitions-3 t)
+    (roots-slice-aggregate-partitions-4 t)
     (roots-partitions-requires-2 t)
     (roots-slice-aggregate-roots-by-2 t)
     (roots-roots-by-requires-2 t)
