@@ -7,7 +7,7 @@
  * but that each pointer lends as many elements as the number behind it says, is not null (also where
  * the number is 0), is aligned for its type, and that no two slices overlap. The functions keep no
  * state: they may be called from several threads at once. Measured on the examples, a call takes 18 KB
- * of stack for kinds 1 and 2, 61 KB for kind 3 and 42 KB for Roots; nothing is allocated. The float
+ * of stack for kinds 1 and 2, 64 KB for kind 3 and 45 KB for Roots; nothing is allocated. The float
  * environment is IEEE 754's default, as C starts with it: round to nearest, no flush to zero, no
  * denormals-are-zero (MXCSR 1F80), SSE2.
  */
