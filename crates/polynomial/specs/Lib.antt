@@ -4,7 +4,6 @@
 -- `Roots` (the root finder), `Kinds` (how a root arose), `Operation` (Roots with its refusals), `Angle`, `Curve`.
 -- `Promises`: what inner functions promise one another.
 -- `Laws`: theorems that upper crates cite.
--- `Examples`: computed examples.
 pub mod Compensated
 pub mod Cuts
 pub mod Polynomial
@@ -14,5 +13,4 @@ pub mod Operation
 pub mod Angle
 pub mod Curve
 pub mod Laws
-mod Examples
 pub mod Promises

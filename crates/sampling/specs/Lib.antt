@@ -5,7 +5,7 @@
 -- of module 6, `Boundaries` (the boundary curves of two free joints), `BendSlices` (the slices of narrow bends),
 -- `CriticalSlices` (where curves meet), `Slices` and `J1j2free` (the values at which joint 1 is tried);
 -- of both, `Angles` (a job's angles by its kind) and `Reads` (which fields of a job each kind reads).
--- `Promises`: what functions promise one another, and `plan_of` its callers. `Examples`: 01's examples, computed. `Laws`: theorems that upper crates cite.
+-- `Promises`: what functions promise one another, and `plan_of` its callers. `Laws`: theorems that upper crates cite.
 pub mod Constraints
 pub mod Intervals
 pub mod Pose
@@ -28,4 +28,3 @@ pub mod Angles
 pub mod Reads
 pub mod Laws
 pub mod Promises
-mod Examples

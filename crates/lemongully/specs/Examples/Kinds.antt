@@ -7,19 +7,14 @@ use lib.ListN.{length}
 use lib.Ieee.{Float, binary64, ofBits, ofInt, add, sub, mul, div, neg, eq, le, lt}
 use Rattle.float.specs.Number.{abs, middle, total-le}
 use Rattle.float.specs.MulAdd.{mul-add}
-use Rattle.polynomial.specs.Compensated.{from, plus, times}
+use Rattle.polynomial.specs.Compensated.{plus, times}
 use Rattle.polynomial.specs.Cuts.{cuts}
 use Rattle.polynomial.specs.Polynomial.{horner, evaluate, magnitudes, value-near, near-zero, kept, trim, all-finite, powered, derivative}
 use Rattle.polynomial.specs.Roots.{bisect-steps, bisected, partitions, touches, crossings, quotient, by-count, roots-at, roots}
 use Rattle.polynomial.specs.Kinds.{among, marked, near-points, marked-roots}
-use Rattle.polynomial.specs.declared.compensated.Compensated.{Compensated}
 use Rattle.polynomial.specs.declared.kinds.Root.{Root}
 use Rattle.polynomial.specs.declared.kinds.Root.the-variants.{Touch, Crossing}
-
--- the coefficients whose high parts have these patterns, low parts zero
-abbrev coefficients : List ℕ → List Compensated
-coefficients [] = []
-coefficients (b ∷ bs) = from (ofBits binary64 b) ∷ coefficients bs
+use Rattle.lemongully.specs.Examples.Tried.{coefficients, minus-zero, one, minus-one, four, minus-four}
 
 -- what is found between two bounds
 found : List ℕ → ℕ → ℕ → List Root
@@ -52,21 +47,6 @@ touch b = Touch (ofBits binary64 b)
 
 abbrev crossing : ℕ → Root
 crossing b = Crossing (ofBits binary64 b)
-
-abbrev minus-zero : ℕ
-minus-zero = 0x8000_0000_0000_0000
-
-abbrev one : ℕ
-one = 0x3ff0_0000_0000_0000
-
-abbrev minus-one : ℕ
-minus-one = 0xbff0_0000_0000_0000
-
-abbrev four : ℕ
-four = 0x4010_0000_0000_0000
-
-abbrev minus-four : ℕ
-minus-four = 0xc010_0000_0000_0000
 
 -- -1, 0, 1 on ±4 crosses at -1 and 1
 two-crossings : found (minus-one ∷ 0 ∷ one ∷ []) minus-four four ≡ crossing minus-one ∷ crossing one ∷ []

@@ -26,7 +26,7 @@ abbrev floats : List ℕ → List Float
 floats [] = []
 floats (b ∷ bs) = ofBits binary64 b ∷ floats bs
 
-abbrev coefficients : List ℕ → List Compensated
+abbrev pub coefficients : List ℕ → List Compensated
 coefficients [] = []
 coefficients (b ∷ bs) = from (ofBits binary64 b) ∷ coefficients bs
 
@@ -40,19 +40,19 @@ wrapped : ℕ → Float
 unfolding wrapped-angle rem-euclid abs ofBits add sub rem lt
 wrapped angle = wrapped-angle (ofBits binary64 angle)
 
-abbrev minus-zero : ℕ
+abbrev pub minus-zero : ℕ
 minus-zero = 0x8000_0000_0000_0000
 
-abbrev one : ℕ
+abbrev pub one : ℕ
 one = 0x3ff0_0000_0000_0000
 
-abbrev minus-one : ℕ
+abbrev pub minus-one : ℕ
 minus-one = 0xbff0_0000_0000_0000
 
-abbrev four : ℕ
+abbrev pub four : ℕ
 four = 0x4010_0000_0000_0000
 
-abbrev minus-four : ℕ
+abbrev pub minus-four : ℕ
 minus-four = 0xc010_0000_0000_0000
 
 abbrev minus-five : ℕ

@@ -1,0 +1,2 @@
+-- Examples of all layers, computed. Nothing that a contract says.
+mod Examples
