@@ -1,3 +1,4 @@
--- What the proofs of the loops over the tests use.
+-- What the proofs of the loops over the tests and over the name use.
 
 mod Steps
+mod Names

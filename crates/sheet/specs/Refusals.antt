@@ -1,4 +1,4 @@
--- Answers, and 01's number of each refusal. Definitions only.
+-- Answers, and the papers' number of each refusal. Definitions only.
 use Prim.Native.Nat.{ℕ}
 use mathlib.Core.Bool.{Bool, true, false}
 use lib.IntN.{ℤ, pos, negℤ}
@@ -21,6 +21,7 @@ need false k v = refused k
 abbrev pub number : Refusal → ℕ
 number refusal.Length = 1
 number refusal.Head = 2
+number refusal.Name = 41
 number refusal.Sign = 3
 number refusal.NotFinite = 4
 number refusal.Zero = 5

@@ -8,6 +8,8 @@ use lib.Dec.{T, eqb, ltb}
 use Rattle.sampling.specs.Reads.{joint-read, reference-read, arm-read}
 use Rattle.sampling.specs.declared.job.Kind.the-variants.{J1free, J2free, J1j2free}
 use Rattle.sheet.specs.Bytes.{part}
+use Rattle.sheet.specs.declared.edition.Edition.{Edition}
+use Rattle.sheet.specs.declared.edition.Edition.the-variants.{One, Two}
 use Rattle.sheet.specs.declared.request.Shape.{Shape}
 use Rattle.sheet.specs.declared.request.Shape.the-variants.{Bad, Right}
 use Rattle.sheet.specs.declared.request.Field.{Field}
@@ -19,8 +21,16 @@ use Rattle.sheet.specs.declared.request.Field.the-variants.{Sign, Arm, R
 abbrev pub core-size : ℕ
 core-size = 264
 
-abbrev pub request-size : ℕ
-request-size = core-size
+-- from edition 2 on the card's name stands behind it (02, change 2)
+abbrev pub name-at : ℕ
+name-at = core-size
+
+abbrev pub name-size : ℕ
+name-size = 32
+
+abbrev pub request-size : Edition → ℕ
+request-size One = core-size
+request-size Two = core-size + name-size
 
 -- bytes 10 to 15 are reserved
 abbrev pub reserved-at : ℕ
@@ -91,7 +101,7 @@ reads (Right kind limits fixed) Offset j = joint-read kind limits fixed j
 reads (Right kind limits fixed) From j = limits && joint-read kind limits fixed j
 reads (Right kind limits fixed) To j = limits && joint-read kind limits fixed j
 
--- a byte of the request: bytes 0 to 3 and 10 to 15 and the rotation are read always, any other as its field is
+-- a byte of the request: bytes 0 to 3 and 10 to 15, the rotation and the name are read always, any other as its field is
 unfoldable pub byte-read : Shape → ℕ → Bool
 byte-read s i =
     cond (ltb i (start Sign)) true
@@ -101,24 +111,26 @@ byte-read s i =
     (cond (ltb i (start Offset)) (reads s Reference ((i - start Reference) / 8 + 1))
     (cond (ltb i (start From)) (reads s Offset ((i - start Offset) / 8 + 1))
     (cond (ltb i (start To)) (reads s From ((i - start From) / 8 + 1))
-    (reads s To ((i - start To) / 8 + 1))))))))
+    (cond (ltb i name-at) (reads s To ((i - start To) / 8 + 1))
+    true)))))))
 
 -- ---- two requests agree in all that is read
 
--- byte by byte
-pub record Agree (r s : List ℕ) : Type 0 where
-  pub whole : length r ≡ request-size
-  pub whole' : length s ≡ request-size
+-- byte by byte, as requests of an edition
+pub record Agree (e : Edition) (r s : List ℕ) : Type 0 where
+  pub whole : length r ≡ request-size e
+  pub whole' : length s ≡ request-size e
   pub same : (i : ℕ) → T (byte-read (shape-of r) i) → getD r i 0 ≡ getD s i 0
 
 -- field by field; `agree-fields` of Laws/Agree says that this is the same
-pub record AgreeFields (r s : List ℕ) : Type 0 where
-  pub whole : length r ≡ request-size
-  pub whole' : length s ≡ request-size
+pub record AgreeFields (e : Edition) (r s : List ℕ) : Type 0 where
+  pub whole : length r ≡ request-size e
+  pub whole' : length s ≡ request-size e
   pub head : part 0 4 r ≡ part 0 4 s
   pub reserved : part reserved-at 6 r ≡ part reserved-at 6 s
   pub rotation : part rotation-at 32 r ≡ part rotation-at 32 s
   pub field : (f : Field) (j : ℕ) → 1 ≤ j → j ≤ last f → T (reads (shape-of r) f j) → part (place f j) (width f) r ≡ part (place f j) (width f) s
+  pub name : part name-at name-size r ≡ part name-at name-size s
 
 -- ---- the request with every unread field zero
 

@@ -1,9 +1,9 @@
--- The tests that a request must pass: refusals 1 to 8 (01, Sampling). An unread field passes every test, and NaN is within no range. Definitions only.
+-- The tests that a request must pass: refusals 1 to 8 (01, Sampling) and 41 (02, change 2). An unread field passes every test, and NaN is within no range. Definitions only.
 use Prim.Native.Nat.{ℕ, zero, suc}
-use mathlib.Core.List.{List}
+use mathlib.Core.List.{List, [], _∷_}
 use mathlib.Core.Bool.{Bool, true, false, cond, _&&_, _||_}
-use lib.ListN.{length, getD}
-use lib.Dec.{eqb}
+use lib.ListN.{length, getD, drop}
+use lib.Dec.{eqb, leb}
 use lib.IntN.{pos}
 use lib.Ieee.{Float, fin, le, neg}
 use lib.Ieee.Scale.{finite}
@@ -11,12 +11,13 @@ use Rattle.polynomial.specs.Angle.{two-pi}
 use Rattle.sampling.specs.Pose.{try-normalize}
 use Rattle.sampling.specs.declared.pose.Normalized.{Normalized}
 use Rattle.sampling.specs.declared.pose.Normalized.the-variants.{Unit, NotFinite, Zero}
+use Rattle.sheet.specs.declared.edition.Edition.{Edition}
 use Rattle.sheet.specs.declared.request.Shape.{Shape}
 use Rattle.sheet.specs.declared.request.Shape.the-variants.{Bad, Right}
 use Rattle.sheet.specs.declared.request.Field.{Field}
 use Rattle.sheet.specs.declared.request.Field.the-variants.{Sign, Arm, Reference, Offset, From, To}
 use Rattle.sheet.specs.Refusals.{Answer, need}
-use Rattle.sheet.specs.Request.{request-size, shape-of, reads, place, last, reserved-at}
+use Rattle.sheet.specs.Request.{request-size, shape-of, reads, place, last, reserved-at, name-at}
 use Rattle.sheet.specs.Fields.{field, rotation-of}
 
 -- p at n numbers from j on
@@ -35,6 +36,22 @@ zero-at r i = eqb (getD r i 0) 0
 
 unfoldable pub head-right : List ℕ → Bool
 head-right r = right (shape-of r) && (zero-at r 3 && all-from 6 reserved-at (zero-at r))
+
+-- ---- 41: the name, which a request of edition 1 lacks, is characters 32 to 126, then zeros to the end
+
+abbrev pub is-character : ℕ → Bool
+is-character b = leb 32 b && leb b 126
+
+unfoldable pub all-zero : List ℕ → Bool
+all-zero [] = true
+all-zero (b ∷ bs) = eqb b 0 && all-zero bs
+
+unfoldable pub is-name : List ℕ → Bool
+is-name [] = true
+is-name (b ∷ bs) = cond (is-character b) (is-name bs) (all-zero (b ∷ bs))
+
+unfoldable pub name-right : List ℕ → Bool
+name-right r = is-name (drop name-at r)
 
 -- ---- 3: a read sign is 1 or 255
 
@@ -87,16 +104,17 @@ references-finite r = fields-right Reference r
 unfoldable pub offsets-within : List ℕ → Bool
 offsets-within r = fields-right Offset r
 
--- ---- 1 to 8 in this order, and then v
+-- ---- 1 to 8 in this order, of a request of an edition, 41 after 2, and then v
 
-unfoldable pub validate : List ℕ → Answer → Answer
-validate r v =
-    need (eqb (length r) request-size) 1
+unfoldable pub validate : Edition → List ℕ → Answer → Answer
+validate e r v =
+    need (eqb (length r) (request-size e)) 1
     (need (head-right r) 2
+    (need (name-right r) 41
     (need (signs-right r) 3
     (need (rotation-finite (try-normalize (rotation-of r))) 4
     (need (rotation-nonzero (try-normalize (rotation-of r))) 5
     (need (arm-within r) 6
     (need (references-finite r) 7
     (need (offsets-within r) 8
-    v)))))))
+    v))))))))

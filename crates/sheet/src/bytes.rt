@@ -8,6 +8,13 @@ ghost use Rattle.sheet.specs.Promises.Floats as Floats;
 use float::number::bits;
 use float::number::of_bits;
 
+// The number of two bytes.
+fn of_two(b0: u8, b1: u8) -> u16
+    ensures { λ r. ⌜ r ≡ b0 + 256 * b1 ⌝ }
+{
+    b0 as u16 + 256 * (b1 as u16)
+}
+
 // The number of four bytes.
 fn of_four(b0: u8, b1: u8, b2: u8, b3: u8) -> u32
     ensures { λ r. ⌜ r ≡ b0 + 256 * (b1 + 256 * (b2 + 256 * b3)) ⌝ }
@@ -30,6 +37,14 @@ pub(crate) fn byte_at(s: &[u8], at: usize) -> u8
     ensures { λ r. ⌜ r ≡ getD (now (s .entry)) at 0 ⌝ }
 {
     s[at]
+}
+
+// The number whose two bytes start at `at`.
+pub(crate) fn pair(s: &[u8], at: usize) -> u16
+    requires { ⌜ at + 2 ≤ length (now s) ⌝ }
+    ensures { λ r. ⌜ r ≡ Bytes.little-endian (Bytes.part at 2 (now (s .entry))) ⌝ }
+{
+    of_two(s[at], s[at + 1])
 }
 
 // The number whose four bytes start at `at`.

@@ -1,4 +1,5 @@
-// The operation Check: whether a sheet is the one written for the request inside it.
+// The operation Check: whether a sheet is the one that its edition lays out for the request inside
+// it.
 ghost use mathlib.Core.Path.{_≡_};
 ghost use mathlib.Core.Bool.{false};
 ghost use Prim.Native.Nat.{_+_, _^_, _<_, _≤_};
@@ -7,23 +8,27 @@ ghost use Rattle.sampling.specs.Promises.Stream.{start};
 ghost use Rattle.sampling.specs.Promises.Plan.{to-come, Ready};
 ghost use Rattle.sheet.specs.Bytes as Bytes;
 ghost use Rattle.sheet.specs.Promises.Floats as Floats;
+ghost use Rattle.sheet.specs.Edition.{newest, known};
 ghost use Rattle.sheet.specs.Request as Request;
 ghost use Rattle.sheet.specs.Sheet as Sheet;
 ghost use Rattle.sheet.specs.Check as Check;
 ghost use Rattle.sheet.specs.Promises.Plan as Promise;
 use crate::bytes::half;
+use crate::bytes::pair;
 use crate::bytes::same_at;
 use crate::bytes::same_float;
+use crate::edition::Edition;
+use crate::edition::Said;
+use crate::edition::known;
 use crate::plan::is_refused;
 use crate::plan::is_short;
 use crate::plan::plan_request;
 use crate::refusals::Fault;
-use crate::request::REQUEST;
 use crate::request::unread_zero;
-use crate::trailer::FRAME;
 use crate::trailer::ITEMS_BOUND;
 use crate::trailer::LEAST;
 use crate::trailer::TRAILER;
+use crate::trailer::frame_size;
 use crate::trailer::put_trailer;
 use crate::validate::Tested;
 use crate::validate::validate;
@@ -76,27 +81,36 @@ fn count_of(sheet: &[u8]) -> usize
     half(sheet, at) as usize
 }
 
+// The edition that the trailer says.
+fn edition_of(sheet: &[u8]) -> Said
+    requires { ⌜ Request.core-size + Sheet.trailer-size ≤ length (now sheet) ⌝ }
+    ensures { λ r. ⌜ r ≡ known newest (Check.edition-of (now (sheet .entry))) ⌝ }
+{
+    let at = sheet.len() - TRAILER;
+    known(pair(sheet, at + 8))
+}
+
 // 32: the length is that of n angles, 8n is a u32, and the trailer is theirs.
-fn formed(sheet: &[u8], n: usize) -> bool
+fn formed(e: Edition, sheet: &[u8], n: usize) -> bool
     requires { ⌜ Request.core-size + Sheet.trailer-size ≤ length (now sheet) ⌝ }
     requires { ⌜ n ≡ Check.count-of (now sheet) ⌝ }
     requires { ⌜ n < 2 ^ 32 ⌝ }
-    ensures { λ r. ⌜ r ≡ Check.formed (now (sheet .entry)) ⌝ }
+    ensures { λ r. ⌜ r ≡ Check.formed e (now (sheet .entry)) ⌝ }
 {
-    if sheet.len() != 8 * n + FRAME {
+    if sheet.len() != 8 * n + frame_size(e) {
         return false;
     }
     if n >= ITEMS_BOUND {
         return false;
     }
     let mut t = [0u8; TRAILER];
-    put_trailer(&mut t, 0, n);
+    put_trailer(&mut t, 0, e, n);
     same_at(sheet, sheet.len() - TRAILER, &t)
 }
 
 // 34 to 36, for a plan that no inner call refused.
 fn compare(s: &[u8], request: &[u8], work: &[f64], plan: Plan, n: usize) -> Checked
-    requires { ⌜ length (now request) ≡ Request.request-size ⌝ }
+    requires { ⌜ Request.core-size ≤ length (now request) ⌝ }
     requires { ⌜ Promise.PlannedFor (now request) plan (now work) ⌝ }
     requires { ⌜ Promise.is-refused plan ≡ false ⌝ }
     ensures { λ r. ⌜ Check.answer-of r ≡ Promise.compared (now (request .entry)) (now (s .entry)) n (length (now (work .entry))) ⌝ }
@@ -114,11 +128,11 @@ fn compare(s: &[u8], request: &[u8], work: &[f64], plan: Plan, n: usize) -> Chec
 }
 
 // 33 to 36, for the angles' bytes s and n angles.
-fn check_request(s: &[u8], request: &[u8], work: &mut [f64], n: usize) -> Checked
-    ensures { λ r. ⌜ Check.answer-of r ≡ Promise.checked (now (request .entry)) (now (s .entry)) n (length (now (work .entry))) ⌝ }
-    ensures { λ _. ⌜ now (work .exit) ≡ Promise.work-left (now (request .entry)) (now (work .entry)) ⌝ }
+fn check_request(e: Edition, s: &[u8], request: &[u8], work: &mut [f64], n: usize) -> Checked
+    ensures { λ r. ⌜ Check.answer-of r ≡ Promise.checked e (now (request .entry)) (now (s .entry)) n (length (now (work .entry))) ⌝ }
+    ensures { λ _. ⌜ now (work .exit) ≡ Promise.work-left e (now (request .entry)) (now (work .entry)) ⌝ }
 {
-    let t = validate(request);
+    let t = validate(e, request);
     match t {
         Tested::Passed(q) => {
             let plan = plan_request(work, request, q);
@@ -131,25 +145,39 @@ fn check_request(s: &[u8], request: &[u8], work: &mut [f64], n: usize) -> Checke
     }
 }
 
+// 32 to 36 of a sheet that says this edition.
+fn inspect_edition(e: Edition, sheet: &[u8], work: &mut [f64]) -> Checked
+    requires { ⌜ Request.core-size + Sheet.trailer-size ≤ length (now sheet) ⌝ }
+    ensures { λ r. ⌜ Check.answer-of r ≡ Check.by-edition e (now (sheet .entry)) (length (now (work .entry))) ⌝ }
+    ensures { λ _. ⌜ now (work .exit) ≡ Promise.work-by e (now (sheet .entry)) (now (work .entry)) ⌝ }
+{
+    let n = count_of(sheet);
+    if !formed(e, sheet, n) {
+        return Checked::Refused(Fault::Trailer);
+    }
+    let at = sheet.len() - frame_size(e);
+    let end = sheet.len() - TRAILER;
+    check_request(e, &sheet[..at], &sheet[at..end], work, n)
+}
+
+// 31, and then by the edition that the trailer says; one that is not known is 32.
 fn inspect(sheet: &[u8], work: &mut [f64]) -> Checked
-    ensures { λ r. ⌜ Check.answer-of r ≡ Check.answer (now (sheet .entry)) (length (now (work .entry))) ⌝ }
+    ensures { λ r. ⌜ Check.answer-of r ≡ Check.answer newest (now (sheet .entry)) (length (now (work .entry))) ⌝ }
     ensures { λ _. ⌜ now (work .exit) ≡ Promise.work-checked (now (sheet .entry)) (now (work .entry)) ⌝ }
 {
     if sheet.len() < LEAST {
         return Checked::Refused(Fault::Length);
     }
-    let n = count_of(sheet);
-    if !formed(sheet, n) {
-        return Checked::Refused(Fault::Trailer);
+    let said = edition_of(sheet);
+    match said {
+        Said::Known(e) => inspect_edition(e, sheet, work),
+        Said::Unknown => Checked::Refused(Fault::Trailer),
     }
-    let at = sheet.len() - FRAME;
-    let end = at + REQUEST;
-    check_request(&sheet[..at], &sheet[at..end], work, n)
 }
 
 // Check. After every answer each work place is +0.0.
 pub fn check(sheet: &[u8], work: &mut [f64]) -> Checked
-    ensures { λ r. ⌜ Check.answer-of r ≡ Check.answer (now (sheet .entry)) (length (now (work .entry))) ⌝ }
+    ensures { λ r. ⌜ Check.answer-of r ≡ Check.answer newest (now (sheet .entry)) (length (now (work .entry))) ⌝ }
     ensures { λ _. ⌜ now (work .exit) ≡ Bytes.zeros (length (now (work .entry))) ⌝ }
 {
     let r = inspect(sheet, work);

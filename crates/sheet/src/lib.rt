@@ -2,6 +2,7 @@
 pub mod angles;
 pub mod bytes;
 pub mod check;
+pub mod edition;
 pub mod fields;
 pub mod plan;
 pub mod refusals;

@@ -1,4 +1,4 @@
-// What Sampling refuses and what is wrong with a sheet, and 01's number of each.
+// What Sampling refuses and what is wrong with a sheet, and the papers' number of each.
 ghost use mathlib.Core.Path.{_≡_};
 ghost use Rattle.sheet.specs.Refusals as Refusals;
 
@@ -6,6 +6,7 @@ ghost use Rattle.sheet.specs.Refusals as Refusals;
 pub enum Refusal {
     Length,
     Head,
+    Name,
     Sign,
     NotFinite,
     Zero,
@@ -23,6 +24,7 @@ pub fn refusal_number(r: Refusal) -> u64
     match r {
         Refusal::Length => 1,
         Refusal::Head => 2,
+        Refusal::Name => 41,
         Refusal::Sign => 3,
         Refusal::NotFinite => 4,
         Refusal::Zero => 5,

@@ -2,25 +2,32 @@
 // field zero.
 ghost use mathlib.Core.Path.{_≡_};
 ghost use mathlib.Core.Bool.{cond};
-ghost use Prim.Native.Nat.{_+_, _<_, _≤_};
+ghost use Prim.Native.Nat.{_+_, _≤_};
 ghost use lib.ListN.{length, drop};
 ghost use lib.Seq.{sets};
 ghost use Rattle.sheet.specs.Bytes as Bytes;
+ghost use Rattle.sheet.specs.Edition.{newest};
 ghost use Rattle.sheet.specs.Request as Request;
 ghost use Rattle.sheet.specs.declared.request.Shape.the-variants.{Right};
 use crate::bytes::byte_at;
 use crate::bytes::put;
 use crate::bytes::word;
+use crate::edition::Edition;
 use sampling::job::Kind;
 use sampling::reads::arm_read;
 use sampling::reads::joint_read;
 use sampling::reads::reference_read;
 
 // Sizes and positions, in bytes; specs/Request.antt has the same. The core is what every request
-// has.
+// has, the name what it has from edition 2 on.
 pub(crate) const CORE: usize = 264;
 
-pub(crate) const REQUEST: usize = CORE;
+pub(crate) const NAME: usize = CORE;
+
+pub(crate) const NAME_SIZE: usize = 32;
+
+// A request of the newest edition.
+pub(crate) const REQUEST: usize = CORE + NAME_SIZE;
 
 pub(crate) const SIGNS: usize = 4;
 
@@ -52,6 +59,16 @@ pub enum Field {
     Offset,
     From,
     To,
+}
+
+// The bytes of a request.
+pub(crate) fn request_size(e: Edition) -> usize
+    ensures { λ r. ⌜ r ≡ Request.request-size e ⌝ }
+{
+    match e {
+        Edition::One => CORE,
+        Edition::Two => REQUEST,
+    }
 }
 
 fn shape_by(kind: u8, limits: bool, fixed: bool) -> Shape
@@ -123,7 +140,6 @@ pub(crate) fn field_read(s: Shape, f: Field, j: usize) -> bool
 
 // Whether a byte of the request is read.
 pub(crate) fn byte_read(s: Shape, i: usize) -> bool
-    requires { ⌜ i < Request.request-size ⌝ }
     ensures { λ r. ⌜ r ≡ Request.byte-read s i ⌝ }
 {
     if i < SIGNS {
@@ -147,7 +163,10 @@ pub(crate) fn byte_read(s: Shape, i: usize) -> bool
     if i < TO {
         return field_read(s, Field::From, (i - FROM) / 8 + 1);
     }
-    field_read(s, Field::To, (i - TO) / 8 + 1)
+    if i < NAME {
+        return field_read(s, Field::To, (i - TO) / 8 + 1);
+    }
+    true
 }
 
 // Where the field of joint j, or the arm's angle j, starts.
@@ -188,7 +207,7 @@ fn kept_word(read: bool, w: u64) -> u64
 // The first sixteen bytes of the request, each zero where it is not read, written from `at` on. What
 // is left to write then is what stands behind them.
 fn put_head(out: &mut [u8], at: usize, request: &[u8], s: Shape)
-    requires { ⌜ (length (now request) ≡ Request.request-size) × (at + Request.request-size ≤ length (now out)) ⌝ }
+    requires { ⌜ (length (now request) ≡ Request.request-size newest) × (at + Request.request-size newest ≤ length (now out)) ⌝ }
     ensures { λ _. ⌜ sets (now (out .exit)) (at + 16) (Request.blank-from s 16 (drop 16 (now (request .entry)))) ≡
         sets (now (out .entry)) at (Request.blank-from s 0 (now (request .entry))) ⌝ }
 {
@@ -201,7 +220,7 @@ fn put_head(out: &mut [u8], at: usize, request: &[u8], s: Shape)
 
 // The fields from the rotation on, eight bytes each, which are read or not together.
 fn put_fields(out: &mut [u8], at: usize, request: &[u8], s: Shape)
-    requires { ⌜ (length (now request) ≡ Request.request-size) × (at + Request.request-size ≤ length (now out)) ⌝ }
+    requires { ⌜ (length (now request) ≡ Request.request-size newest) × (at + Request.request-size newest ≤ length (now out)) ⌝ }
     ensures { λ _. ⌜ now (out .exit) ≡ sets (now (out .entry)) (at + 16) (Request.blank-from s 16 (drop 16 (now (request .entry)))) ⌝ }
 {
     let mut i = ROTATION;
@@ -214,7 +233,7 @@ fn put_fields(out: &mut [u8], at: usize, request: &[u8], s: Shape)
 
 // The request with every unread field zero, written from `at` on.
 pub(crate) fn put_blank(out: &mut [u8], at: usize, request: &[u8])
-    requires { ⌜ (length (now request) ≡ Request.request-size) × (at + Request.request-size ≤ length (now out)) ⌝ }
+    requires { ⌜ (length (now request) ≡ Request.request-size newest) × (at + Request.request-size newest ≤ length (now out)) ⌝ }
     ensures { λ _. ⌜ now (out .exit) ≡ sets (now (out .entry)) at (Request.blank (now (request .entry))) ⌝ }
 {
     let s = shape_of(request);
@@ -224,12 +243,12 @@ pub(crate) fn put_blank(out: &mut [u8], at: usize, request: &[u8])
 
 // Whether every unread field is zero: the request is its own blank.
 pub(crate) fn unread_zero(request: &[u8]) -> bool
-    requires { ⌜ length (now request) ≡ Request.request-size ⌝ }
+    requires { ⌜ Request.core-size ≤ length (now request) ⌝ }
     ensures { λ r. ⌜ r ≡ Bytes.same-bytes (Request.blank (now (request .entry))) (now (request .entry)) ⌝ }
 {
     let s = shape_of(request);
     let mut i = 0usize;
-    while i < REQUEST {
+    while i < request.len() {
         if kept(byte_read(s, i), request[i]) != request[i] {
             return false;
         }

@@ -9,12 +9,14 @@ ghost use Rattle.sampling.specs.Promises.Stream.{start};
 ghost use Rattle.sampling.specs.Promises.Plan.{to-come, Ready};
 ghost use Rattle.sheet.specs.Bytes as Bytes;
 ghost use Rattle.sheet.specs.Promises.Floats as Floats;
+ghost use Rattle.sheet.specs.Edition.{newest};
 ghost use Rattle.sheet.specs.Request as Request;
 ghost use Rattle.sheet.specs.Sheet as Sheet;
 ghost use Rattle.sheet.specs.Sampling as Sampling;
 ghost use Rattle.sheet.specs.Promises.Plan as Promise;
 use crate::angles::put_lists;
 use crate::bytes::put_float;
+use crate::edition::newest;
 use crate::plan::is_refused;
 use crate::plan::is_short;
 use crate::plan::plan_request;
@@ -76,22 +78,22 @@ fn put_angles(output: &mut [u8], work: &[f64], plan: Plan)
 
 // The sheet: the n angles, the blanked request, the trailer.
 fn fill(output: &mut [u8], request: &[u8], work: &[f64], plan: Plan, n: usize)
-    requires { ⌜ length (now request) ≡ Request.request-size ⌝ }
+    requires { ⌜ length (now request) ≡ Request.request-size newest ⌝ }
     requires { ⌜ Ready plan (now work) ⌝ }
     requires { ⌜ n ≡ length (to-come plan (now work) start) ⌝ }
-    requires { ⌜ Sampling.sheet-size n ≤ length (now output) ⌝ }
+    requires { ⌜ Sheet.sheet-size newest n ≤ length (now output) ⌝ }
     ensures { λ _. ⌜ now (output .exit) ≡
         sets (now (output .entry)) 0 (Floats.floats-bytes (to-come plan (now (work .entry)) start)
-        ++ (Request.blank (now (request .entry)) ++ Sheet.trailer n)) ⌝ }
+        ++ (Request.blank (now (request .entry)) ++ Sheet.trailer newest n)) ⌝ }
 {
     put_angles(output, work, plan);
     put_blank(output, 8 * n, request);
-    put_trailer(output, 8 * n + REQUEST, n);
+    put_trailer(output, 8 * n + REQUEST, newest(), n);
 }
 
 // Whether a sheet with n angles has room.
 fn has_room(n: usize, room: usize) -> bool
-    ensures { λ r. ⌜ r ≡ leb (Sampling.sheet-size n) room ⌝ }
+    ensures { λ r. ⌜ r ≡ leb (Sheet.sheet-size newest n) room ⌝ }
 {
     if room < FRAME {
         return false;
@@ -104,7 +106,7 @@ fn has_room(n: usize, room: usize) -> bool
 
 // 9, 10 and 11, and else the sheet.
 fn finish(output: &mut [u8], request: &[u8], work: &[f64], plan: Plan) -> Sampled
-    requires { ⌜ length (now request) ≡ Request.request-size ⌝ }
+    requires { ⌜ length (now request) ≡ Request.request-size newest ⌝ }
     requires { ⌜ Promise.PlannedFor (now request) plan (now work) ⌝ }
     ensures { λ a. ⌜ Sampling.answer-of a ≡ Promise.planned-answer (now (request .entry)) (length (now (work .entry))) (length (now (output .entry))) ⌝ }
     ensures { λ a. ⌜ now (output .exit) ≡ Sampling.output-after (Sampling.answer-of a) (now (request .entry)) (now (output .entry)) ⌝ }
@@ -126,9 +128,9 @@ fn finish(output: &mut [u8], request: &[u8], work: &[f64], plan: Plan) -> Sample
 fn run(request: &[u8], work: &mut [f64], output: &mut [u8]) -> Sampled
     ensures { λ a. ⌜ Sampling.answer-of a ≡ Sampling.answer (now (request .entry)) (length (now (work .entry))) (length (now (output .entry))) ⌝ }
     ensures { λ a. ⌜ now (output .exit) ≡ Sampling.output-after (Sampling.answer-of a) (now (request .entry)) (now (output .entry)) ⌝ }
-    ensures { λ _. ⌜ now (work .exit) ≡ Promise.work-left (now (request .entry)) (now (work .entry)) ⌝ }
+    ensures { λ _. ⌜ now (work .exit) ≡ Promise.work-left newest (now (request .entry)) (now (work .entry)) ⌝ }
 {
-    let t = validate(request);
+    let t = validate(newest(), request);
     match t {
         Tested::Passed(q) => {
             let plan = plan_request(work, request, q);

@@ -5,14 +5,15 @@ ghost use lib.ListN.{length};
 ghost use lib.Seq.{sets};
 ghost use Rattle.sheet.specs.Sheet as Sheet;
 use crate::bytes::put;
+use crate::edition::Edition;
+use crate::edition::edition_number;
 use crate::request::CORE;
 use crate::request::REQUEST;
-
-pub(crate) const EDITION: u64 = 1;
+use crate::request::request_size;
 
 pub(crate) const TRAILER: usize = 16;
 
-// A sheet without its items.
+// A sheet of the newest edition without its items.
 pub const FRAME: usize = REQUEST + TRAILER;
 
 // The shortest sheet.
@@ -21,14 +22,22 @@ pub(crate) const LEAST: usize = CORE + TRAILER;
 // The request's position 8n is a u32, so n is below this.
 pub(crate) const ITEMS_BOUND: usize = 536870912;
 
+// A sheet of an edition without its items.
+pub(crate) fn frame_size(e: Edition) -> usize
+    ensures { λ r. ⌜ r ≡ Sheet.frame-size e ⌝ }
+    ensures { λ r. ⌜ r < 2 ^ 10 ⌝ }
+{
+    request_size(e) + TRAILER
+}
+
 // The number of items n, the request's position 8n, the edition and six zeros, written from `at`
 // on. For n below 2^60, 8n is a u64.
-pub(crate) fn put_trailer(out: &mut [u8], at: usize, n: usize)
+pub(crate) fn put_trailer(out: &mut [u8], at: usize, e: Edition, n: usize)
     requires { ⌜ (at + Sheet.trailer-size ≤ length (now out)) × (n < 2 ^ 60) ⌝ }
-    ensures { λ _. ⌜ now (out .exit) ≡ sets (now (out .entry)) at (Sheet.trailer n) ⌝ }
+    ensures { λ _. ⌜ now (out .exit) ≡ sets (now (out .entry)) at (Sheet.trailer e n) ⌝ }
 {
     put(out, at, 4, n as u64);
     put(out, at + 4, 4, 8 * (n as u64));
-    put(out, at + 8, 2, EDITION);
+    put(out, at + 8, 2, edition_number(e));
     put(out, at + 10, 6, 0);
 }

@@ -1,4 +1,4 @@
-// The tests that a request must pass: refusals 1 to 8.
+// The tests that a request must pass: refusals 1 to 8 and 41.
 ghost use mathlib.Core.Path.{_≡_};
 ghost use Prim.Native.Nat.{_+_, _≤_};
 ghost use lib.ListN.{length};
@@ -8,15 +8,17 @@ ghost use Rattle.sheet.specs.Fields as Fields;
 ghost use Rattle.sheet.specs.Validate as Validate;
 ghost use Rattle.sheet.specs.Promises.Tested as Promise;
 use crate::bytes::byte_at;
+use crate::edition::Edition;
 use crate::fields::field_at;
 use crate::fields::rotation_of;
 use crate::refusals::Refusal;
 use crate::request::Field;
-use crate::request::REQUEST;
+use crate::request::NAME;
 use crate::request::RESERVED;
 use crate::request::Shape;
 use crate::request::field_read;
 use crate::request::place;
+use crate::request::request_size;
 use crate::request::shape_of;
 use float::number::is_finite;
 use float::trig::TWO_PI;
@@ -24,8 +26,8 @@ use sampling::pose::Normalized;
 use sampling::pose::Quaternion;
 use sampling::pose::try_normalize;
 
-// The rotation, normalized, of a request that meets none of refusals 1 to 8; or the first that it
-// meets.
+// The rotation, normalized, of a request that meets none of refusals 1 to 8 and 41; or the first
+// that it meets.
 pub enum Tested {
     Passed(Quaternion),
     Refused(Refusal),
@@ -65,6 +67,27 @@ fn head_right(request: &[u8]) -> bool
         return (byte_at(request, 3) == 0) & zeros_from(request, RESERVED, 6);
     }
     false
+}
+
+// The characters of names: 32 to 126.
+fn is_character(b: u8) -> bool
+    ensures { λ r. ⌜ r ≡ Validate.is-character b ⌝ }
+{
+    (32 <= b) & (b <= 126)
+}
+
+// 41: the name is characters, then zeros to the end. A request of edition 1 ends before it.
+fn name_right(request: &[u8]) -> bool
+    ensures { λ r. ⌜ r ≡ Validate.name-right (now (request .entry)) ⌝ }
+{
+    let mut i = NAME;
+    while i < request.len() {
+        if !is_character(request[i]) {
+            return zeros_from(request, i, request.len() - i);
+        }
+        i += 1;
+    }
+    true
 }
 
 fn sign_right(s: Shape, request: &[u8], j: usize) -> bool
@@ -172,15 +195,19 @@ fn validate_rotation(request: &[u8]) -> Tested
     }
 }
 
-// Refusals 1 to 8, in order; where none is met, the normalized rotation.
-pub(crate) fn validate(request: &[u8]) -> Tested
-    ensures { λ t. ⌜ t ≡ Promise.tested (now (request .entry)) ⌝ }
+// Refusals 1 to 8 of a request of an edition, in order, 41 after 2; where none is met, the
+// normalized rotation.
+pub(crate) fn validate(e: Edition, request: &[u8]) -> Tested
+    ensures { λ t. ⌜ t ≡ Promise.tested e (now (request .entry)) ⌝ }
 {
-    if request.len() != REQUEST {
+    if request.len() != request_size(e) {
         return Tested::Refused(Refusal::Length);
     }
     if !head_right(request) {
         return Tested::Refused(Refusal::Head);
+    }
+    if !name_right(request) {
+        return Tested::Refused(Refusal::Name);
     }
     if !signs_right(request) {
         return Tested::Refused(Refusal::Sign);

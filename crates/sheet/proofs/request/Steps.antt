@@ -11,7 +11,7 @@ use lib.ListN.{length, getD, drop, set, drop-of-length-le}
 use lib.Seq.{sets, drop-cons}
 use Rattle.sheet.specs.declared.request.Shape.{Shape}
 use Rattle.sheet.specs.Bytes.{bytes, part, same-bytes}
-use Rattle.sheet.specs.Request.{byte-read, blank-from}
+use Rattle.sheet.specs.Request.{name-at, byte-read, blank-from}
 use Rattle.sheet.specs.Laws.Bytes.{bytes-suc, bytes-zero, length-bytes, sets-append, same-step, same-stop, same-nil}
 use Rattle.sheet.specs.Laws.Blank.{blank-cons, blank-nil}
 
@@ -72,6 +72,7 @@ same-field s i h k =
       test i 120 refl k,
       test i 168 refl k,
       test i 216 refl k,
+      test i name-at refl k,
       joint i 48 refl k,
       joint i 72 refl k,
       joint i 120 refl k,

@@ -16,8 +16,9 @@ use Rattle.float.specs.Laws.Le.{yes-of}
 use Rattle.sheet.specs.declared.request.Field.{Field}
 use Rattle.sheet.specs.declared.request.Field.the-variants.{Sign, Arm, Reference, Offset, From, To}
 use Rattle.sheet.specs.Bytes.{little-endian, part, float-at}
-use Rattle.sheet.specs.Request.{request-size, shape-of, reads, place, last, width, byte-read, Agree, AgreeFields, blank}
-use Rattle.sheet.specs.Laws.Places.{byte-is, byte-first, byte-always}
+use Rattle.sheet.specs.Request.{request-size, name-at, name-size, shape-of, reads, place, last, width, byte-read, Agree, AgreeFields, blank}
+use Rattle.sheet.specs.declared.edition.Edition.{Edition}
+use Rattle.sheet.specs.Laws.Places.{byte-is, byte-first, byte-always, byte-name, core-least, named-most}
 use Rattle.sheet.specs.Laws.Blank.{length-blank, getD-blank}
 
 -- two lists of one length whose bytes agree over a stretch have the same stretch
@@ -39,7 +40,7 @@ one-of r s at n i e a b =
 
 -- ---- what agrees
 
-module _ (r s : List ℕ) (g : Agree r s) where
+module _ {e : Edition} (r s : List ℕ) (g : Agree e r s) where
   same-length : length r ≡ length s
   same-length = g .whole ∙ sym (g .whole')
 
@@ -71,7 +72,7 @@ module _ (r s : List ℕ) (g : Agree r s) where
   same-rotation at a b = ap (λ (l : List ℕ). ofBits binary64 (little-endian l))
       (stretch r s at 8 same-length (λ k c d. same-always k (omega arith) (omega arith)))
 
-  by-fields : AgreeFields r s
+  by-fields : AgreeFields e r s
   by-fields =
       record {
         whole = g .whole;
@@ -80,11 +81,12 @@ module _ (r s : List ℕ) (g : Agree r s) where
         reserved = stretch r s 10 6 same-length (λ i a b. same-always i a (omega arith));
         rotation = stretch r s 16 32 same-length (λ i a b. same-always i (omega arith) b);
         field = same-part;
+        name = stretch r s name-at name-size same-length (λ i a b. g .same i (yes-of (byte-name (shape-of r) i a)));
       }
 
 -- ---- field by field
 
-module _ (r s : List ℕ) (g : AgreeFields r s) where
+module _ {e : Edition} (r s : List ℕ) (g : AgreeFields e r s) where
   -- a byte of field j
   in-field : (f : Field) (i j : ℕ) → 1 ≤ j → j ≤ last f → place f j ≤ i → i < place f j + width f → T (byte-read (shape-of r) i) → getD r i 0 ≡ getD s i 0
   in-field f i j a b c d t =
@@ -93,16 +95,20 @@ module _ (r s : List ℕ) (g : AgreeFields r s) where
   by-byte : (i : ℕ) → T (byte-read (shape-of r) i) → getD r i 0 ≡ getD s i 0
   by-byte i t = at4 (decLt i 4)
     where
-      at-end : Dec (i < request-size) → 216 ≤ i → getD r i 0 ≡ getD s i 0
-      at-end (yes h) l = in-field To i ((i - 216) / 8 + 1) (omega arith) (omega arith) (omega arith) (omega arith) t
+      at-end : Dec (i < name-at + name-size) → name-at ≤ i → getD r i 0 ≡ getD s i 0
+      at-end (yes h) l = one-of r s name-at name-size i (g .name) l h
       at-end (no h) l =
-          let m : length r ≤ i = omega (arith, g .whole) in
-          let k : length s ≤ i = omega (arith, g .whole') in
+          let m : length r ≤ i = omega (arith, g .whole, named-most e) in
+          let k : length s ≤ i = omega (arith, g .whole', named-most e) in
           List·getD-eq-default r 0 m ∙ sym (List·getD-eq-default s 0 k)
+
+      at264 : Dec (i < name-at) → 216 ≤ i → getD r i 0 ≡ getD s i 0
+      at264 (yes h) l = in-field To i ((i - 216) / 8 + 1) (omega arith) (omega arith) (omega arith) (omega arith) t
+      at264 (no h) l = at-end (decLt i (name-at + name-size)) (omega arith)
 
       at216 : Dec (i < 216) → 168 ≤ i → getD r i 0 ≡ getD s i 0
       at216 (yes h) l = in-field From i ((i - 168) / 8 + 1) (omega arith) (omega arith) (omega arith) (omega arith) t
-      at216 (no h) l = at-end (decLt i request-size) (omega arith)
+      at216 (no h) l = at264 (decLt i name-at) (omega arith)
 
       at168 : Dec (i < 168) → 120 ≤ i → getD r i 0 ≡ getD s i 0
       at168 (yes h) l = in-field Offset i ((i - 120) / 8 + 1) (omega arith) (omega arith) (omega arith) (omega arith) t
@@ -133,7 +139,7 @@ module _ (r s : List ℕ) (g : AgreeFields r s) where
       at4 (no h) = at10 (decLt i 10) (omega arith)
 
 -- to agree byte by byte and field by field is the same
-pub agree-fields : (r s : List ℕ) → Agree r s ↔ AgreeFields r s
+pub agree-fields : {e : Edition} (r s : List ℕ) → Agree e r s ↔ AgreeFields e r s
 agree-fields r s = (by-fields r s, λ g. record { whole = g .whole; whole' = g .whole'; same = by-byte r s g })
 
 -- ---- blanked requests
@@ -149,35 +155,35 @@ kept-same true x y h = h tt
 kept-same false x y h = refl
 
 -- requests that agree have one blanked request
-pub agree-blank : (r s : List ℕ) → Agree r s → blank r ≡ blank s
-agree-blank r s g =
+pub agree-blank : {e : Edition} (r s : List ℕ) → Agree e r s → blank r ≡ blank s
+agree-blank {e} r s g =
     ext-getD 0 (blank r) (blank s) (length-blank (shape-of r) 0 r ∙ g .whole ∙ sym (g .whole') ∙ sym (length-blank (shape-of s) 0 s))
     (λ i l.
-    let h : i < request-size = omega (arith, length-blank (shape-of r) 0 r, g .whole) in
+    let h : i < request-size e = omega (arith, length-blank (shape-of r) 0 r, g .whole) in
     rw (blank-byte r i (omega (arith, g .whole)), blank-byte s i (omega (arith, g .whole')), ← same-shape r s g)
     (kept-same (byte-read (shape-of r) i) (getD r i 0) (getD s i 0) (g .same i)))
 
-module _ (r s : List ℕ) (a : length r ≡ request-size) (b : length s ≡ request-size) (e : blank r ≡ blank s) where
-  both : (i : ℕ) → i < request-size → cond (byte-read (shape-of r) i) (getD r i 0) 0 ≡ cond (byte-read (shape-of s) i) (getD s i 0) 0
-  both i h = sym (blank-byte r i (omega arith)) ∙ ap (λ (l : List ℕ). getD l i 0) e ∙ blank-byte s i (omega arith)
+module _ (e : Edition) (r s : List ℕ) (a : length r ≡ request-size e) (b : length s ≡ request-size e) (q : blank r ≡ blank s) where
+  both : (i : ℕ) → i < request-size e → cond (byte-read (shape-of r) i) (getD r i 0) 0 ≡ cond (byte-read (shape-of s) i) (getD s i 0) 0
+  both i h = sym (blank-byte r i (omega arith)) ∙ ap (λ (l : List ℕ). getD l i 0) q ∙ blank-byte s i (omega arith)
 
   first : (i : ℕ) → i < 4 → getD r i 0 ≡ getD s i 0
-  first i h = rw (byte-first (shape-of r) i h, byte-first (shape-of s) i h) at (both i (omega arith))
+  first i h = rw (byte-first (shape-of r) i h, byte-first (shape-of s) i h) at (both i (omega (arith, core-least e)))
 
   shapes : shape-of r ≡ shape-of s
   unfolding shape-of
   shapes = rw (first 0 (omega arith), first 1 (omega arith), first 2 (omega arith))
 
-  inside : (i : ℕ) → i < request-size → T (byte-read (shape-of r) i) → getD r i 0 ≡ getD s i 0
+  inside : (i : ℕ) → i < request-size e → T (byte-read (shape-of r) i) → getD r i 0 ≡ getD s i 0
   inside i h t =
       let y : byte-read (shape-of r) i ≡ true = is-true _ t in
       rw (← shapes, y) at (both i h)
 
   -- requests with one blanked request agree
-  pub blank-agree : Agree r s
-  blank-agree = record { whole = a; whole' = b; same = λ i t. go i t (decLt i request-size) }
+  pub blank-agree : Agree e r s
+  blank-agree = record { whole = a; whole' = b; same = λ i t. go i t (decLt i (request-size e)) }
     where
-      go : (i : ℕ) → T (byte-read (shape-of r) i) → Dec (i < request-size) → getD r i 0 ≡ getD s i 0
+      go : (i : ℕ) → T (byte-read (shape-of r) i) → Dec (i < request-size e) → getD r i 0 ≡ getD s i 0
       go i t (yes h) = inside i h t
       go i t (no h) =
           let m : length r ≤ i = omega arith in
@@ -185,15 +191,15 @@ module _ (r s : List ℕ) (a : length r ≡ request-size) (b : length s ≡ requ
           List·getD-eq-default r 0 m ∙ sym (List·getD-eq-default s 0 k)
 
 -- a request agrees with its own blanked one
-pub agree-own : (r : List ℕ) → length r ≡ request-size → Agree r (blank r)
-agree-own r e =
+pub agree-own : (e : Edition) (r : List ℕ) → length r ≡ request-size e → Agree e r (blank r)
+agree-own e r w =
     record {
-      whole = e;
-      whole' = length-blank (shape-of r) 0 r ∙ e;
-      same = λ i t. go i t (decLt i request-size);
+      whole = w;
+      whole' = length-blank (shape-of r) 0 r ∙ w;
+      same = λ i t. go i t (decLt i (request-size e));
     }
   where
-    go : (i : ℕ) → T (byte-read (shape-of r) i) → Dec (i < request-size) → getD r i 0 ≡ getD (blank r) i 0
+    go : (i : ℕ) → T (byte-read (shape-of r) i) → Dec (i < request-size e) → getD r i 0 ≡ getD (blank r) i 0
     go i t (yes h) =
         let y : byte-read (shape-of r) i ≡ true = is-true _ t in
         sym (blank-byte r i (omega arith) ∙ rw y)
@@ -203,5 +209,5 @@ agree-own r e =
         List·getD-eq-default r 0 m ∙ sym (List·getD-eq-default (blank r) 0 k)
 
 -- blanking twice is blanking once
-pub blank-twice : (r : List ℕ) → length r ≡ request-size → blank (blank r) ≡ blank r
-blank-twice r e = sym (agree-blank r (blank r) (agree-own r e))
+pub blank-twice : (e : Edition) (r : List ℕ) → length r ≡ request-size e → blank (blank r) ≡ blank r
+blank-twice e r w = sym (agree-blank r (blank r) (agree-own e r w))

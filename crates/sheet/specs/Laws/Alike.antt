@@ -17,7 +17,10 @@ use Rattle.sheet.specs.Request.{shape-of, reads, Agree}
 use Rattle.sheet.specs.Fields.{sign-of, joint-at, arm-of, kind-of, limited-of, fixed-of, job-of, matrix}
 use Rattle.sheet.specs.Refusals.{Answer, accepted, need}
 use Rattle.sheet.specs.Validate.{right, head-right, validate}
-use Rattle.sheet.specs.Sampling.{angles, items, cut-count, holds, by-request, by-work, answer, before-output, sheet-size}
+use Rattle.sheet.specs.Sampling.{angles, items, cut-count, holds, by-request, by-work, answer, before-output}
+use Rattle.sheet.specs.Edition.{newest}
+use Rattle.sheet.specs.Sheet.{sheet-size}
+use Rattle.sheet.specs.declared.edition.Edition.{Edition}
 use Rattle.sheet.specs.Laws.Agree.{same-shape, same-sign, same-float}
 use Rattle.sheet.specs.Laws.Validate.{rotation-same, validate-same}
 use Rattle.sampling.specs.Laws.Reads as Reads
@@ -39,7 +42,7 @@ reading (Right kind limits fixed) k h = record { sign = refl; offset = refl; ref
 
 -- ---- from requests to jobs
 
-module _ (r s : List ℕ) (g : Agree r s) where
+module _ {e : Edition} (r s : List ℕ) (g : Agree e r s) where
   module _ (h : head-right r ≡ true) where
     shape-right : right (shape-of r) ≡ true
     unfolding head-right
@@ -96,24 +99,24 @@ module _ (r s : List ℕ) (g : Agree r s) where
     holds-same = Reads.hold-same (job-of r) (job-of s) same-read
 
   -- a wrong head is refused whatever comes behind
-  validate-wrong : (v u : Answer) → head-right r ≡ false → validate r v ≡ validate r u
+  validate-wrong : (v u : Answer) → head-right r ≡ false → validate e r v ≡ validate e r u
   unfolding validate need
-  validate-wrong v u e = rw e
+  validate-wrong v u h = rw h
 
   -- two requests that agree get the same refusal, or go on alike
-  by-work-same : (places : ℕ) (v u : Answer) → (head-right r ≡ true → v ≡ u) → by-work r places v ≡ by-work s places u
+  by-work-same : (places : ℕ) (v u : Answer) → (head-right r ≡ true → v ≡ u) → by-work e r places v ≡ by-work e s places u
   unfolding by-work by-request
   by-work-same places v u h = go (head-right r) refl ∙ validate-same r s g _
     where
       go : (b : Bool) → head-right r ≡ b
-          → validate r (need (holds r) 9 (need (leb (cut-count r) places) 10 v)) ≡ validate r (need (holds s) 9 (need (leb (cut-count s) places) 10 u))
-      go true e = rw (holds-same e, cuts-same e, h e)
-      go false e = validate-wrong _ _ e
+          → validate e r (need (holds r) 9 (need (leb (cut-count r) places) 10 v)) ≡ validate e r (need (holds s) 9 (need (leb (cut-count s) places) 10 u))
+      go true q = rw (holds-same q, cuts-same q, h q)
+      go false q = validate-wrong _ _ q
 
-  pub answer-same : (places room : ℕ) → answer r places room ≡ answer s places room
-  unfolding answer
-  answer-same places room =
-      by-work-same places _ _ (λ e. ap (λ (l : List ℕ). need (leb (sheet-size (length l)) room) 11 (accepted (length l))) (items-same e))
+  pub before-same : (places : ℕ) → before-output e r places ≡ before-output e s places
+  before-same places = by-work-same places _ _ (λ h. ap (λ (l : List ℕ). accepted (length l)) (items-same h))
 
-  pub before-same : (places : ℕ) → before-output r places ≡ before-output s places
-  before-same places = by-work-same places _ _ (λ e. ap (λ (l : List ℕ). accepted (length l)) (items-same e))
+pub answer-same : (r s : List ℕ) → Agree newest r s → (places room : ℕ) → answer r places room ≡ answer s places room
+unfolding answer
+answer-same r s g places room =
+    by-work-same r s g places _ _ (λ h. ap (λ (l : List ℕ). need (leb (sheet-size newest (length l)) room) 11 (accepted (length l))) (items-same r s g h))

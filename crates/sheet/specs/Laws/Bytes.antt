@@ -26,7 +26,11 @@ length-part at k s h = length-take-le k (drop at s) (simp length-drop (omega ari
 
 -- ---- numbers
 
--- the number of four bytes at a position, digit by digit
+-- the number of two and of four bytes at a position, digit by digit
+pub pair-is : (s : List ℕ) (at : ℕ) → at + 2 ≤ length s → little-endian (part at 2 s) ≡ getD s at 0 + 256 * getD s (at + 1) 0
+unfolding little-endian
+pair-is s at h = simp (towards-suc) (rw (drop-cons s at 0 (omega arith), drop-cons s (suc at) 0 (omega arith)) (omega arith))
+
 pub half-is : (s : List ℕ) (at : ℕ) → at + 4 ≤ length s
     → little-endian (part at 4 s) ≡ getD s at 0 + 256 * (getD s (at + 1) 0 + 256 * (getD s (at + 2) 0 + 256 * getD s (at + 3) 0))
 unfolding little-endian

@@ -14,6 +14,7 @@ use Rattle.sheet.specs.Bytes.{little-endian, bytes, part, words-bytes, f
 use Rattle.sheet.specs.Request.{blank}
 use Rattle.sheet.specs.Fields.{job-of}
 use Rattle.sheet.specs.Sheet.{trailer}
+use Rattle.sheet.specs.declared.edition.Edition.{Edition}
 use Rattle.sheet.specs.Sampling.{angles, items, sheet}
 use Rattle.sheet.specs.Laws.Bytes.{length-bytes, little-endian-bytes}
 use Rattle.sheet.specs.Laws.Sampling.{length-items}
@@ -38,13 +39,13 @@ fit-at [] i d f h = absurd (omega arith)
 fit-at (x ∷ l) zero d f h = f .0
 fit-at (x ∷ l) (suc i) d f h = fit-at l i d (f .1) (omega arith)
 
-pub angle-at : (r : List ℕ) (i : ℕ) → i < length (items r) → float-at (sheet r) (8 * i) ≡ getD (angles r) i zero-float
+pub angle-at : (e : Edition) (r : List ℕ) (i : ℕ) → i < length (items r) → float-at (sheet e r) (8 * i) ≡ getD (angles r) i zero-float
 unfolding sheet items angles
-angle-at r i h =
+angle-at e r i h =
     let x = getD (angles r) i zero-float in
     let f : Fits x = fit-at (angles r) i zero-float (angles-fit (job-of r)) (omega (arith, length-items r)) in
     let w : toBits binary64 x < 256 ^ 8 = toBits-lt binary64 x f in
-    ap (λ (l : List ℕ). ofBits binary64 (little-endian l)) (word-in (items r) (blank r ++ trailer (length (items r))) i (toBits binary64 zero-float) h)
+    ap (λ (l : List ℕ). ofBits binary64 (little-endian l)) (word-in (items r) (blank r ++ trailer e (length (items r))) i (toBits binary64 zero-float) h)
     ∙ ap (λ (k : ℕ). ofBits binary64 (little-endian (bytes 8 k))) (List·getD-map (toBits binary64) (angles r) i zero-float)
     ∙ ap (ofBits binary64) (little-endian-bytes 8 (toBits binary64 x) w)
     ∙ ofBits-toBits binary64 x f

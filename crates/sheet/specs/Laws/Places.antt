@@ -4,12 +4,23 @@ use native.Mathlib.Omega.{arith}
 use mathlib.Core.Path.{_≡_}
 use mathlib.Core.Bool.{true}
 use borrow.Author.Tests.{lt-ltb, le-ltb}
+use Rattle.sheet.specs.declared.edition.Edition.{Edition}
+use Rattle.sheet.specs.declared.edition.Edition.the-variants.{One, Two}
 use Rattle.sheet.specs.declared.request.Shape.{Shape}
 use Rattle.sheet.specs.declared.request.Field.{Field}
 use Rattle.sheet.specs.declared.request.Field.the-variants.{Sign, Arm, Reference, Offset, From, To}
-use Rattle.sheet.specs.Request.{request-size, reads, place, last, width, byte-read}
+use Rattle.sheet.specs.Request.{core-size, name-at, name-size, request-size, reads, place, last, width, byte-read}
 
-pub place-fits : (f : Field) (j : ℕ) → 1 ≤ j → j ≤ 6 → place f j + 8 ≤ request-size
+-- what every request has, and the most that one has
+pub core-least : (e : Edition) → core-size ≤ request-size e
+core-least One = omega arith
+core-least Two = omega arith
+
+pub named-most : (e : Edition) → request-size e ≤ name-at + name-size
+named-most One = omega arith
+named-most Two = omega arith
+
+pub place-fits : (f : Field) (j : ℕ) → 1 ≤ j → j ≤ 6 → place f j + 8 ≤ core-size
 place-fits Sign j a b = omega arith
 place-fits Arm j a b = omega arith
 place-fits Reference j a b = omega arith
@@ -65,6 +76,7 @@ byte-is s To j i a b c d =
       le-ltb i 168
           (omega arith),
       le-ltb i 216 (omega arith),
+      lt-ltb i name-at (omega arith),
       e,
     )
 
@@ -77,3 +89,19 @@ byte-first s i a = rw (lt-ltb i 4 (omega arith))
 pub byte-always : (s : Shape) (i : ℕ) → 10 ≤ i → i < 48 → byte-read s i ≡ true
 unfolding byte-read
 byte-always s i a b = rw (le-ltb i 4 (omega arith), le-ltb i 10 (omega arith), lt-ltb i 48 (omega arith))
+
+-- the name
+pub byte-name : (s : Shape) (i : ℕ) → name-at ≤ i → byte-read s i ≡ true
+unfolding byte-read
+byte-name s i a =
+    rw (
+      le-ltb i 4 (omega arith),
+      le-ltb i 10 (omega arith),
+      le-ltb i 48 (omega arith),
+      le-ltb i 72 (omega arith),
+      le-ltb i 120 (omega arith),
+      le-ltb i 168
+          (omega arith),
+      le-ltb i 216 (omega arith),
+      le-ltb i name-at (omega arith),
+    )

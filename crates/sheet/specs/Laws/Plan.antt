@@ -27,6 +27,8 @@ use Rattle.sampling.specs.declared.stream.Step.{Step}
 use Rattle.sampling.specs.declared.stream.Step.the-variants.{Yield, Done}
 use Rattle.sampling.specs.declared.job.Kind.the-variants.{J1free, J2free, J1j2free}
 use Rattle.sampling.specs.declared.pose.Quaternion.{Quaternion}
+use Rattle.sheet.specs.Edition.{newest}
+use Rattle.sheet.specs.declared.edition.Edition.{Edition}
 use Rattle.sheet.specs.declared.refusals.Refusal.{Refusal}
 use Rattle.sheet.specs.declared.validate.Tested.{Tested}
 use Rattle.sheet.specs.declared.request.Shape.{Shape}
@@ -75,11 +77,11 @@ within-is (fin s m k) e =
     (le→Le (neg two-pi) (fin s m k) tt tt (yes-of (and-left (le (neg two-pi) (fin s m k)) _ e)))
 
 -- so the angles can be read off the plan
-module _ (r : List ℕ) (g : Passed r) where
+module _ {e : Edition} (r : List ℕ) (g : Passed e r) where
   passed-moderate : job-of r .kind ≡ J1j2free → Moderate (job-of r .j1)
   unfolding job-of joint-at head-right
-  passed-moderate e =
-      let t = folded-reads (shape-of r) (and-left _ _ (g .head)) e in
+  passed-moderate k =
+      let t = folded-reads (shape-of r) (and-left _ _ (g .head)) k in
       let u = and-r (reads (shape-of r) Sign 1) _ t in
       record {
         sign = sign-either (getD r 4 0);
@@ -94,11 +96,11 @@ module _ (r : List ℕ) (g : Passed r) where
 
   pub planned-for : (p : Plan) (v w : List Float) → p ≡ plan (job-of r) (length v) → w ≡ work-after (job-of r) v → length w ≡ length v → PlannedFor r p w
   unfolding holds cut-count angles
-  planned-for p v w a b e =
+  planned-for p v w a b l =
       record {
-        made = a ∙ ap (plan (job-of r)) (sym e);
+        made = a ∙ ap (plan (job-of r)) (sym l);
         ready = rw (a, b) (plan-ready v (job-of r) reference-fits passed-moderate);
-        yields = λ h k. rw (a, b) (plan-yields v (job-of r) reference-fits passed-moderate h (omega (arith, e)));
+        yields = λ h k. rw (a, b) (plan-yields v (job-of r) reference-fits passed-moderate h (omega (arith, l)));
       }
 
 -- ---- 9 and 10
@@ -173,32 +175,33 @@ module _ (p : Plan) (w : List Float) (c : Cursor) (t : Step) (g : Ready p w) (e 
 
 -- ---- work, before it is cleared
 
-pub left-passed : (r : List ℕ) (q : Quaternion) (v w : List Float) → tested r ≡ tests.Passed q → w ≡ work-after (job-of r) v → w ≡ work-left r v
-left-passed r q v w e f = f ∙ sym (ap (λ (t : Tested). work-tested t r v) e)
+pub left-passed : (e : Edition) (r : List ℕ) (q : Quaternion) (v w : List Float) → tested e r ≡ tests.Passed q → w ≡ work-after (job-of r) v
+    → w ≡ work-left e r v
+left-passed e r q v w h f = f ∙ sym (ap (λ (t : Tested). work-tested t r v) h)
 
-pub left-refused : (r : List ℕ) (k : Refusal) (w : List Float) → tested r ≡ tests.Refused k → w ≡ work-left r w
-left-refused r k w e = sym (ap (λ (t : Tested). work-tested t r w) e)
+pub left-refused : (e : Edition) (r : List ℕ) (k : Refusal) (w : List Float) → tested e r ≡ tests.Refused k → w ≡ work-left e r w
+left-refused e r k w h = sym (ap (λ (t : Tested). work-tested t r w) h)
 
 -- ---- Sampling
 
-pub passed-answer : (r : List ℕ) (places room : ℕ) → Passed r → planned-answer r places room ≡ answer r places room
+pub passed-answer : (r : List ℕ) (places room : ℕ) → Passed newest r → planned-answer r places room ≡ answer r places room
 unfolding answer by-work by-request planned-answer
-passed-answer r places room p = sym (passed-validate r _ p)
+passed-answer r places room p = sym (passed-validate newest r _ p)
 
-pub refused-answer : (r : List ℕ) (k : Refusal) (places room : ℕ) → tested r ≡ tests.Refused k → Refusals.refused (number k) ≡ answer r places room
+pub refused-answer : (r : List ℕ) (k : Refusal) (places room : ℕ) → tested newest r ≡ tests.Refused k → Refusals.refused (number k) ≡ answer r places room
 unfolding answer by-work by-request
-refused-answer r k places room e = sym (tested-refused r k _ e)
+refused-answer r k places room e = sym (tested-refused newest r k _ e)
 
 -- ---- Check
 
-pub refused-meets : (r : List ℕ) (k : Refusal) → tested r ≡ tests.Refused k → meets-none r ≡ false
+pub refused-meets : (e : Edition) (r : List ℕ) (k : Refusal) → tested e r ≡ tests.Refused k → meets-none e r ≡ false
 unfolding meets-none by-request
-refused-meets r k e = ap is-accepted (tested-refused r k _ e)
+refused-meets e r k h = ap is-accepted (tested-refused e r k _ h)
 
-module _ (r : List ℕ) (p : Passed r) where
-  pub holds-meets : meets-none r ≡ holds r
+module _ (e : Edition) (r : List ℕ) (p : Passed e r) where
+  pub holds-meets : meets-none e r ≡ holds r
   unfolding meets-none by-request need
-  holds-meets = ap is-accepted (passed-validate r _ p) ∙ go (holds r)
+  holds-meets = ap is-accepted (passed-validate e r _ p) ∙ go (holds r)
     where
       go : (b : Bool) → is-accepted (need b 9 (accepted 0)) ≡ b
       go true = refl

@@ -9,8 +9,9 @@ use lib.Ieee.{Float, toBits, binary64}
 use Rattle.sheet.specs.Bytes.{words-bytes}
 use Rattle.sheet.specs.Promises.Floats.{float-bytes, floats-bytes}
 use Rattle.sheet.specs.Request.{request-size, shape-of, blank}
-use Rattle.sheet.specs.Sheet.{trailer}
-use Rattle.sheet.specs.Sampling.{angles, items, sheet, sheet-size}
+use Rattle.sheet.specs.Sheet.{trailer, sheet-size}
+use Rattle.sheet.specs.Sampling.{angles, items, sheet}
+use Rattle.sheet.specs.declared.edition.Edition.{Edition}
 use Rattle.sheet.specs.Laws.Bytes.{sets-append, length-bytes, floats-bytes-cons, floats-bytes-nil, length-floats-bytes, length-words-bytes, floats-words}
 use Rattle.sheet.specs.Laws.Blank.{length-blank}
 use Rattle.sheet.specs.Laws.Sheet.{length-trailer}
@@ -35,49 +36,49 @@ lay o f b t p q e h =
     rw (sets-append f (b ++ t) o 0, k, sets-append b t (sets o 0 f) p, h)
 
 -- its three runs
-pub lay-sheet : (r o : List ℕ) (xs : List Float) (n : ℕ) → length r ≡ request-size → n ≡ length xs
-    → sets (sets (sets o 0 (floats-bytes xs)) (8 * n) (blank r)) (8 * n + request-size) (trailer n)
-    ≡ sets o 0 (floats-bytes xs ++ (blank r ++ trailer n))
-lay-sheet r o xs n e h =
-    lay o (floats-bytes xs) (blank r) (trailer n) (8 * n) (8 * n + request-size) (omega (arith, length-floats-bytes xs))
+pub lay-sheet : (e : Edition) (r o : List ℕ) (xs : List Float) (n : ℕ) → length r ≡ request-size e → n ≡ length xs
+    → sets (sets (sets o 0 (floats-bytes xs)) (8 * n) (blank r)) (8 * n + request-size e) (trailer e n)
+    ≡ sets o 0 (floats-bytes xs ++ (blank r ++ trailer e n))
+lay-sheet e r o xs n w h =
+    lay o (floats-bytes xs) (blank r) (trailer e n) (8 * n) (8 * n + request-size e) (omega (arith, length-floats-bytes xs))
     (omega (arith, length-blank (shape-of r) 0 r))
 
-length-laid : (r : List ℕ) (xs : List Float) (n : ℕ) → length r ≡ request-size → n ≡ length xs
-    → length (floats-bytes xs ++ (blank r ++ trailer n)) ≡ sheet-size n
-length-laid r xs n e h =
+length-laid : (e : Edition) (r : List ℕ) (xs : List Float) (n : ℕ) → length r ≡ request-size e → n ≡ length xs
+    → length (floats-bytes xs ++ (blank r ++ trailer e n)) ≡ sheet-size e n
+length-laid e r xs n w h =
     omega (
       arith,
-      length-append (floats-bytes xs) (blank r ++ trailer n),
-      length-append (blank r) (trailer n),
+      length-append (floats-bytes xs) (blank r ++ trailer e n),
+      length-append (blank r) (trailer e n),
       length-floats-bytes xs,
       length-blank (shape-of r) 0
           r,
-      length-trailer n,
+      length-trailer e n,
     )
 
 pub length-items : (r : List ℕ) → length (items r) ≡ length (angles r)
 unfolding items
 length-items r = length-map (angles r) (toBits binary64)
 
-pub length-sheet : (r : List ℕ) → length r ≡ request-size → length (sheet r) ≡ sheet-size (length (items r))
+pub length-sheet : (e : Edition) (r : List ℕ) → length r ≡ request-size e → length (sheet e r) ≡ sheet-size e (length (items r))
 unfolding sheet
-length-sheet r e =
+length-sheet e r w =
     omega (
       arith,
-      length-append (words-bytes (items r)) (blank r ++ trailer (length (items r))),
-      length-append (blank r) (trailer (length (items r))),
+      length-append (words-bytes (items r)) (blank r ++ trailer e (length (items r))),
+      length-append (blank r) (trailer e (length (items r))),
       length-words-bytes (items r),
       length-blank (shape-of r) 0 r,
-      length-trailer (length (items r)),
+      length-trailer e (length (items r)),
     )
 
 -- what is stored is the sheet, with what stood behind it
-pub sheet-stands : (r out : List ℕ) (xs : List Float) (n : ℕ) → length r ≡ request-size → n ≡ length xs → xs ≡ angles r → sheet-size n ≤ length out
-    → sets out 0 (floats-bytes xs ++ (blank r ++ trailer n)) ≡ sheet r ++ drop (sheet-size n) out
+pub sheet-stands : (e : Edition) (r out : List ℕ) (xs : List Float) (n : ℕ) → length r ≡ request-size e → n ≡ length xs → xs ≡ angles r
+    → sheet-size e n ≤ length out → sets out 0 (floats-bytes xs ++ (blank r ++ trailer e n)) ≡ sheet e r ++ drop (sheet-size e n) out
 unfolding sheet items
-sheet-stands r out xs n e h q k =
-    let l : length (floats-bytes xs ++ (blank r ++ trailer n)) ≡ sheet-size n = length-laid r xs n e h in
-    let d : 0 + length (floats-bytes xs ++ (blank r ++ trailer n)) ≡ sheet-size n = omega arith in
-    let f : 0 + length (floats-bytes xs ++ (blank r ++ trailer n)) ≤ length out = omega arith in
+sheet-stands e r out xs n w h q k =
+    let l : length (floats-bytes xs ++ (blank r ++ trailer e n)) ≡ sheet-size e n = length-laid e r xs n w h in
+    let d : 0 + length (floats-bytes xs ++ (blank r ++ trailer e n)) ≡ sheet-size e n = omega arith in
+    let f : 0 + length (floats-bytes xs ++ (blank r ++ trailer e n)) ≤ length out = omega arith in
     let m : n ≡ length (map (toBits binary64) (angles r)) = h ∙ ap length q ∙ sym (length-map (angles r) (toBits binary64)) in
-    sets-eq (floats-bytes xs ++ (blank r ++ trailer n)) out 0 f ∙ rw (d, floats-words xs, q, ← m)
+    sets-eq (floats-bytes xs ++ (blank r ++ trailer e n)) out 0 f ∙ rw (d, floats-words xs, q, ← m)

@@ -1,18 +1,22 @@
--- Refusals 1 to 8 depend on what is read alone.
+-- Refusals 1 to 8 and 41 depend on what is read alone.
 use Prim.Native.Nat.{ℕ, zero, suc, _+_, _≤_, _<_}
 use native.Mathlib.Omega.{arith}
 use mathlib.Core.Path.{_≡_, refl, ap}
 use mathlib.Core.List.{List}
 use mathlib.Core.Bool.{Bool, true, false, cond, _||_}
-use lib.ListN.{getD}
+use lib.ListN.{getD, drop, length-drop}
+use lib.Seq.{ext-getD, getD-drop}
 use lib.Dec.{T, eqb}
 use Rattle.sheet.specs.declared.request.Field.{Field}
 use Rattle.sheet.specs.declared.request.Field.the-variants.{Sign, Arm, Reference, Offset}
-use Rattle.sheet.specs.Request.{shape-of, reads, place, last, width, Agree}
+use Rattle.sheet.specs.Request.{name-at, shape-of, reads, place, last, width, Agree}
+use Rattle.sheet.specs.declared.edition.Edition.{Edition}
 use Rattle.sheet.specs.Fields.{field, rotation-of}
-use Rattle.sheet.specs.Validate.{all-from, zero-at, head-right, sign-right, signs-right, passes}
+use Rattle.sheet.specs.Validate.{all-from, zero-at, head-right, is-name, name-right, sign-right, signs-right, passes}
 use Rattle.sheet.specs.Validate.{field-right, fields-right, arm-within, references-finite, offsets-within, validate}
 use Rattle.sheet.specs.Refusals.{Answer}
+use Rattle.sheet.specs.Laws.Places.{byte-name}
+use Rattle.float.specs.Laws.Le.{yes-of}
 use Rattle.sheet.specs.Laws.Agree.{same-first, same-shape, same-always, same-sign, same-float, same-rotation}
 
 -- equal tests
@@ -26,7 +30,7 @@ guarded : {A : Type 0} (b : Bool) (p : A → Bool) (x y : A) → (T b → x ≡ 
 guarded true p x y h = ap p (h tt)
 guarded false p x y h = refl
 
-module _ (r s : List ℕ) (g : Agree r s) where
+module _ {e : Edition} (r s : List ℕ) (g : Agree e r s) where
   head-same : head-right r ≡ head-right s
   unfolding head-right
   head-same =
@@ -35,6 +39,14 @@ module _ (r s : List ℕ) (g : Agree r s) where
         same-first r s g 3 (omega arith),
         all-same (zero-at r) (zero-at s) 6 10 (λ i a b. ap (λ (v : ℕ). eqb v 0) (same-always r s g i (omega arith) (omega arith))),
       )
+
+  -- both names stand, or lack, from one byte on
+  name-same : name-right r ≡ name-right s
+  unfolding name-right
+  name-same =
+      ap is-name
+      (ext-getD 0 (drop name-at r) (drop name-at s) (simp length-drop (rw (g .whole, g .whole')))
+      (λ i l. rw (getD-drop name-at r i 0, getD-drop name-at s i 0) (g .same (name-at + i) (yes-of (byte-name (shape-of r) (name-at + i) (omega arith))))))
 
   signs-same : signs-right r ≡ signs-right s
   unfolding signs-right sign-right
@@ -57,10 +69,10 @@ module _ (r s : List ℕ) (g : Agree r s) where
 
   fields-same : (f : Field) → width f ≡ 8 → fields-right f r ≡ fields-right f s
   unfolding field-right
-  fields-same f e =
+  fields-same f h =
       rw (← same-shape r s g)
       (all-same (field-right (shape-of r) f r) (field-right (shape-of r) f s) (last f) 1
-      (λ j a b. guarded (reads (shape-of r) f j) (passes f) (field r f j) (field s f j) (same-float r s g f j a (omega arith) e)))
+      (λ j a b. guarded (reads (shape-of r) f j) (passes f) (field r f j) (field s f j) (same-float r s g f j a (omega arith) h)))
 
   arm-same : arm-within r ≡ arm-within s
   unfolding arm-within
@@ -74,7 +86,7 @@ module _ (r s : List ℕ) (g : Agree r s) where
   unfolding offsets-within
   offsets-same = fields-same Offset refl
 
-  -- two requests that agree meet the same of refusals 1 to 8
-  pub validate-same : (v : Answer) → validate r v ≡ validate s v
+  -- two requests that agree meet the same of refusals 1 to 8 and 41
+  pub validate-same : (v : Answer) → validate e r v ≡ validate e s v
   unfolding validate
-  validate-same v = rw (g .whole, g .whole', head-same, signs-same, rotation-same, arm-same, references-same, offsets-same)
+  validate-same v = rw (g .whole, g .whole', head-same, name-same, signs-same, rotation-same, arm-same, references-same, offsets-same)

@@ -10,73 +10,80 @@ use lib.Dec.{ltb}
 use borrow.Author.Tests.{eq-eqb, lt-ltb}
 use Rattle.sheet.specs.Bytes.{little-endian, bytes, words-bytes}
 use Rattle.sheet.specs.Request.{request-size, shape-of, blank}
-use Rattle.sheet.specs.Sheet.{trailer, trailer-size, frame-size, items-bound, edition}
-use Rattle.sheet.specs.Sampling.{items, sheet, sheet-size}
-use Rattle.sheet.specs.Check.{trailer-of, count-of, request-of, items-of, formed}
+use Rattle.sheet.specs.Sheet.{trailer, trailer-size, frame-size, items-bound, sheet-size}
+use Rattle.sheet.specs.Edition.{number}
+use Rattle.sheet.specs.Sampling.{items, sheet}
+use Rattle.sheet.specs.declared.edition.Edition.{Edition}
+use Rattle.sheet.specs.Check.{trailer-of, count-of, edition-of, request-of, items-of, formed}
 use Rattle.sheet.specs.Laws.Bytes.{length-bytes, little-endian-half, length-words-bytes, same-itself}
 use Rattle.sheet.specs.Laws.Blank.{length-blank}
 use Rattle.sheet.specs.Laws.Sheet.{length-trailer}
+use Rattle.sheet.specs.Laws.Check.{trailer-says}
 use Rattle.sheet.specs.Laws.Sampling.{length-sheet}
 
-pub cut : (s : List ℕ) → frame-size ≤ length s → s ≡ items-of s ++ (request-of s ++ trailer-of s)
-cut s h =
-    let a : length s - frame-size + request-size ≡ length s - trailer-size = omega arith in
+pub cut : (e : Edition) (s : List ℕ) → frame-size e ≤ length s → s ≡ items-of e s ++ (request-of e s ++ trailer-of s)
+cut e s h =
+    let a : length s - frame-size e + request-size e ≡ length s - trailer-size = omega arith in
     let l : length (drop (length s - trailer-size) s) ≤ trailer-size = simp length-drop (omega arith) in
-    let t : trailer-of s ≡ drop request-size (drop (length s - frame-size) s) = take-all trailer-size (drop (length s - trailer-size) s) l ∙ ap
-    (λ (k : ℕ). drop k s) (sym a) ∙ sym (drop-drop request-size (length s - frame-size) s) in
+    let t : trailer-of s ≡ drop (request-size e) (drop (length s - frame-size e) s) = take-all trailer-size (drop (length s - trailer-size) s) l ∙ ap
+    (λ (k : ℕ). drop k s) (sym a) ∙ sym (drop-drop (request-size e) (length s - frame-size e) s) in
     sym
-    (ap (λ (x : List ℕ). items-of s ++ (request-of s ++ x)) t
-    ∙ ap (λ (x : List ℕ). items-of s ++ x) (take-append-drop request-size (drop (length s - frame-size) s)) ∙ take-append-drop (length s - frame-size) s)
+    (ap (λ (x : List ℕ). items-of e s ++ (request-of e s ++ x)) t
+    ∙ ap (λ (x : List ℕ). items-of e s ++ x) (take-append-drop (request-size e) (drop (length s - frame-size e) s))
+    ∙ take-append-drop (length s - frame-size e) s)
 
 -- the trailer starts with n
-first-four : (n : ℕ) → take 4 (trailer n) ≡ bytes 4 n
+first-four : (e : Edition) (n : ℕ) → take 4 (trailer e n) ≡ bytes 4 n
 unfolding trailer
-first-four n =
+first-four e n =
     ap (take 4)
-    (append-assoc (bytes 4 n ++ bytes 4 (8 * n)) (bytes 2 edition) (bytes 6 0)
-    ∙ append-assoc (bytes 4 n) (bytes 4 (8 * n)) (bytes 2 edition ++ bytes 6 0))
-    ∙ take-at (bytes 4 n) (bytes 4 (8 * n) ++ (bytes 2 edition ++ bytes 6 0)) 4 (length-bytes 4 n)
+    (append-assoc (bytes 4 n ++ bytes 4 (8 * n)) (bytes 2 (number e)) (bytes 6 0)
+    ∙ append-assoc (bytes 4 n) (bytes 4 (8 * n)) (bytes 2 (number e) ++ bytes 6 0))
+    ∙ take-at (bytes 4 n) (bytes 4 (8 * n) ++ (bytes 2 (number e) ++ bytes 6 0)) 4 (length-bytes 4 n)
 
 -- the parts of a sheet that was written
-module _ (r : List ℕ) (e : length r ≡ request-size) where
-  pub size : length (sheet r) ≡ sheet-size (length (items r))
-  size = length-sheet r e
+module _ (e : Edition) (r : List ℕ) (w : length r ≡ request-size e) where
+  pub size : length (sheet e r) ≡ sheet-size e (length (items r))
+  size = length-sheet e r w
 
-  whole-blank : length (blank r) ≡ request-size
-  whole-blank = length-blank (shape-of r) 0 r ∙ e
+  whole-blank : length (blank r) ≡ request-size e
+  whole-blank = length-blank (shape-of r) 0 r ∙ w
 
-  front : length (words-bytes (items r)) ≡ length (sheet r) - frame-size
+  front : length (words-bytes (items r)) ≡ length (sheet e r) - frame-size e
   front = omega (arith, size, length-words-bytes (items r))
 
-  pub items-in : items-of (sheet r) ≡ words-bytes (items r)
+  pub items-in : items-of e (sheet e r) ≡ words-bytes (items r)
   unfolding sheet
-  items-in = take-at (words-bytes (items r)) (blank r ++ trailer (length (items r))) (length (sheet r) - frame-size) front
+  items-in = take-at (words-bytes (items r)) (blank r ++ trailer e (length (items r))) (length (sheet e r) - frame-size e) front
 
-  rest : drop (length (sheet r) - frame-size) (sheet r) ≡ blank r ++ trailer (length (items r))
+  rest : drop (length (sheet e r) - frame-size e) (sheet e r) ≡ blank r ++ trailer e (length (items r))
   unfolding sheet
-  rest = drop-at (words-bytes (items r)) (blank r ++ trailer (length (items r))) (length (sheet r) - frame-size) front
+  rest = drop-at (words-bytes (items r)) (blank r ++ trailer e (length (items r))) (length (sheet e r) - frame-size e) front
 
-  pub request-in : request-of (sheet r) ≡ blank r
-  request-in = ap (take request-size) rest ∙ take-at (blank r) (trailer (length (items r))) request-size whole-blank
+  pub request-in : request-of e (sheet e r) ≡ blank r
+  request-in = ap (take (request-size e)) rest ∙ take-at (blank r) (trailer e (length (items r))) (request-size e) whole-blank
 
-  tail : drop (length (sheet r) - trailer-size) (sheet r) ≡ trailer (length (items r))
+  tail : drop (length (sheet e r) - trailer-size) (sheet e r) ≡ trailer e (length (items r))
   tail =
-      let a : length (sheet r) - trailer-size ≡ length (sheet r) - frame-size + request-size = omega (arith, size) in
-      ap (λ (k : ℕ). drop k (sheet r)) a ∙ sym (drop-drop request-size (length (sheet r) - frame-size) (sheet r)) ∙ ap (drop request-size) rest
-      ∙ drop-at (blank r) (trailer (length (items r))) request-size whole-blank
+      let a : length (sheet e r) - trailer-size ≡ length (sheet e r) - frame-size e + request-size e = omega (arith, size) in
+      ap (λ (k : ℕ). drop k (sheet e r)) a ∙ sym (drop-drop (request-size e) (length (sheet e r) - frame-size e) (sheet e r)) ∙ ap (drop (request-size e)) rest
+      ∙ drop-at (blank r) (trailer e (length (items r))) (request-size e) whole-blank
 
-  pub trailer-in : trailer-of (sheet r) ≡ trailer (length (items r))
-  trailer-in = ap (take trailer-size) tail ∙ take-all trailer-size (trailer (length (items r))) (omega (arith, length-trailer (length (items r))))
+  pub trailer-in : trailer-of (sheet e r) ≡ trailer e (length (items r))
+  trailer-in = ap (take trailer-size) tail ∙ take-all trailer-size (trailer e (length (items r))) (omega (arith, length-trailer e (length (items r))))
+
+  pub says : edition-of (sheet e r) ≡ number e
+  says = trailer-says e (sheet e r) (length (items r)) trailer-in
 
   module _ (h : length (items r) < items-bound) where
-    pub count-in : count-of (sheet r) ≡ length (items r)
-    count-in = ap (λ (l : List ℕ). little-endian (take 4 l)) tail ∙ ap little-endian (first-four (length (items r)))
+    pub count-in : count-of (sheet e r) ≡ length (items r)
+    count-in = ap (λ (l : List ℕ). little-endian (take 4 l)) tail ∙ ap little-endian (first-four e (length (items r)))
         ∙ little-endian-half (length (items r)) (omega arith)
 
-    pub formed-in : formed (sheet r) ≡ true
+    pub formed-in : formed e (sheet e r) ≡ true
     unfolding formed
     formed-in =
-        let a : length (sheet r) ≡ sheet-size (count-of (sheet r)) = size ∙ ap sheet-size (sym count-in) in
-        let b : trailer-of (sheet r) ≡ trailer (count-of (sheet r)) = trailer-in ∙ ap trailer (sym count-in) in
-        let w : ltb (count-of (sheet r)) items-bound ≡ true = lt-ltb (count-of (sheet r)) items-bound (omega (arith, count-in)) in
-        rw (eq-eqb (length (sheet r)) (sheet-size (count-of (sheet r))) a, w, b) (same-itself (trailer (count-of (sheet r))))
+        let a : length (sheet e r) ≡ sheet-size e (count-of (sheet e r)) = size ∙ ap (sheet-size e) (sym count-in) in
+        let b : trailer-of (sheet e r) ≡ trailer e (count-of (sheet e r)) = trailer-in ∙ ap (trailer e) (sym count-in) in
+        let v : ltb (count-of (sheet e r)) items-bound ≡ true = lt-ltb (count-of (sheet e r)) items-bound (omega (arith, count-in)) in
+        rw (eq-eqb (length (sheet e r)) (sheet-size e (count-of (sheet e r))) a, v, b) (same-itself (trailer e (count-of (sheet e r))))

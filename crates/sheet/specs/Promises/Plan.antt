@@ -12,11 +12,15 @@ use Rattle.sampling.specs.declared.lists.Plan.{Plan}
 use Rattle.sheet.specs.Bytes.{words-bytes, same-bytes}
 use Rattle.sheet.specs.Fields.{job-of}
 use Rattle.sheet.specs.Refusals.{Answer, accepted, need}
-use Rattle.sheet.specs.Sampling.{angles, items, cut-count, holds, sheet-size}
+use Rattle.sheet.specs.Edition.{newest, known}
+use Rattle.sheet.specs.Sampling.{angles, items, cut-count, holds}
 use Rattle.sheet.specs.Request.{core-size}
-use Rattle.sheet.specs.Sheet.{trailer-size}
-use Rattle.sheet.specs.Check.{request-of, formed, clean, meets-none}
+use Rattle.sheet.specs.Sheet.{trailer-size, sheet-size}
+use Rattle.sheet.specs.Check.{request-of, edition-of, formed, clean, meets-none}
 use Rattle.sheet.specs.Promises.Tested.{tested}
+use Rattle.sheet.specs.declared.edition.Edition.{Edition}
+use Rattle.sheet.specs.declared.edition.Said.{Said}
+use Rattle.sheet.specs.declared.edition.Said.the-variants.{Known, Unknown}
 use Rattle.sheet.specs.declared.validate.Tested.{Tested}
 use Rattle.sheet.specs.declared.validate.Tested.the-variants as tests
 
@@ -38,21 +42,28 @@ abbrev pub work-tested : Tested → List ℕ → List Float → List Float
 work-tested (tests.Passed q) r w = work-after (job-of r) w
 work-tested (tests.Refused k) r w = w
 
-abbrev pub work-left : List ℕ → List Float → List Float
-work-left r w = work-tested (tested r) r w
+abbrev pub work-left : Edition → List ℕ → List Float → List Float
+work-left e r w = work-tested (tested e r) r w
 
--- the same of the request in a sheet, if that is formed
+-- the same of the request in a sheet of an edition, if it is formed, and of any sheet
+unfoldable pub work-by : Edition → List ℕ → List Float → List Float
+work-by e s w = cond (formed e s) (work-left e (request-of e s) w) w
+
+unfoldable pub work-said : Said → List ℕ → List Float → List Float
+work-said (Known e) s w = work-by e s w
+work-said Unknown s w = w
+
 unfoldable pub work-checked : List ℕ → List Float → List Float
-work-checked s w = cond (leb (core-size + trailer-size) (length s)) (cond (formed s) (work-left (request-of s) w) w) w
+work-checked s w = cond (leb (core-size + trailer-size) (length s)) (work-said (known newest (edition-of s)) s w) w
 
 -- Sampling of a request that passed its tests: 9 to 11
 unfoldable pub planned-answer : List ℕ → ℕ → ℕ → Answer
 planned-answer r places room =
-    need (holds r) 9 (need (leb (cut-count r) places) 10 (need (leb (sheet-size (length (items r))) room) 11 (accepted (length (items r)))))
+    need (holds r) 9 (need (leb (cut-count r) places) 10 (need (leb (sheet-size newest (length (items r))) room) 11 (accepted (length (items r)))))
 
--- Check of a formed sheet with the request r, the items' bytes a and the number n: 33 to 36, and 34 to 36 of one whose request meets none of 1 to 9
+-- Check of a formed sheet with the request r, the items' bytes a and the number n: 33 to 36, and 34 to 36 of one whose request meets none of 1 to 9 and 41
 unfoldable pub compared : List ℕ → List ℕ → ℕ → ℕ → Answer
 compared r a n places = need (clean r) 34 (need (leb (cut-count r) places) 35 (need (same-bytes a (words-bytes (items r))) 36 (accepted n)))
 
-unfoldable pub checked : List ℕ → List ℕ → ℕ → ℕ → Answer
-checked r a n places = need (meets-none r) 33 (compared r a n places)
+unfoldable pub checked : Edition → List ℕ → List ℕ → ℕ → ℕ → Answer
+checked e r a n places = need (meets-none e r) 33 (compared r a n places)

@@ -9,11 +9,12 @@ use Rattle.sampling.specs.Pose.{try-normalize}
 use Rattle.sampling.specs.declared.pose.Quaternion.{Quaternion}
 use Rattle.sampling.specs.declared.pose.Normalized.{Normalized}
 use Rattle.sampling.specs.declared.pose.Normalized.the-variants.{Unit, NotFinite, Zero}
+use Rattle.sheet.specs.declared.edition.Edition.{Edition}
 use Rattle.sheet.specs.declared.validate.Tested.{Tested}
 use Rattle.sheet.specs.Request.{request-size}
 use Rattle.sheet.specs.Fields.{rotation-of}
 use Rattle.sheet.specs.Refusals.{Answer, refused, number}
-use Rattle.sheet.specs.Validate.{head-right, signs-right, rotation-finite, rotation-nonzero, arm-within, references-finite, offsets-within}
+use Rattle.sheet.specs.Validate.{head-right, name-right, signs-right, rotation-finite, rotation-nonzero, arm-within, references-finite, offsets-within}
 use Rattle.sheet.specs.declared.refusals.Refusal.the-variants as refusal
 use Rattle.sheet.specs.declared.validate.Tested.the-variants as tests
 
@@ -30,12 +31,14 @@ tested-rotation r (Unit q) = tested-fields r q
 tested-rotation r NotFinite = tests.Refused refusal.NotFinite
 tested-rotation r Zero = tests.Refused refusal.Zero
 
--- 1 to 8
-unfoldable pub tested : List ℕ → Tested
-tested r =
-    cond (eqb (length r) request-size)
+-- 1 to 8 and 41
+unfoldable pub tested : Edition → List ℕ → Tested
+tested e r =
+    cond (eqb (length r) (request-size e))
     (cond (head-right r)
+    (cond (name-right r)
     (cond (signs-right r) (tested-rotation r (try-normalize (rotation-of r))) (tests.Refused refusal.Sign))
+    (tests.Refused refusal.Name))
     (tests.Refused refusal.Head))
     (tests.Refused refusal.Length)
 
@@ -44,10 +47,11 @@ abbrev pub after : Tested → Answer → Answer
 after (tests.Passed q) v = v
 after (tests.Refused k) v = refused (number k)
 
--- none of refusals 1 to 8 is met
-pub record Passed (r : List ℕ) : Type 0 where
-  pub whole : length r ≡ request-size
+-- none of refusals 1 to 8 and 41 is met
+pub record Passed (e : Edition) (r : List ℕ) : Type 0 where
+  pub whole : length r ≡ request-size e
   pub head : head-right r ≡ true
+  pub name : name-right r ≡ true
   pub signs : signs-right r ≡ true
   pub rotation : rotation-finite (try-normalize (rotation-of r)) ≡ true
   pub nonzero : rotation-nonzero (try-normalize (rotation-of r)) ≡ true

@@ -108,21 +108,36 @@ field-read-requires-6 c = search needs
 
 returns-8 : tie.Need-returns-8
 unfolding byte-read
-returns-8 c = simp (
-  le-ltb _ _ (c .before .before .before .before .before .before .before .if1 .left),
-  le-ltb _ _
-      (c .before .before .before .before .before .before .if2 .left),
-  le-ltb _ _ (c .before .before .before .before .before .if3 .left),
-  le-ltb _ _
-      (c .before .before .before .before .if4 .left),
-  le-ltb _ _ (c .before .before .before .if5 .left),
-  le-ltb _ _ (c .before .before .if6 .left),
-  le-ltb _ _
-      (c .before .if7 .left),
-  ← c .field-read6 .ensures,
-)
+returns-8 c =
+    let b = c .before .before in
+    simp (
+      le-ltb _ _ (b .before .before .before .before .before .before .if1 .left),
+      le-ltb _ _ (b .before .before .before .before .before .if2 .left),
+      le-ltb _ _ (b .before .before .before .before .if3 .left),
+      le-ltb _ _ (b .before .before .before .if4 .left),
+      le-ltb _ _ (b .before .before .if5 .left),
+      le-ltb _ _ (b .before .if6 .left),
+      le-ltb _ _ (b .if7 .left),
+      lt-ltb _ _ (c .before .if8 .taken),
+      ← c .field-read6 .ensures,
+    )
+
+returns-9 : tie.Need-returns-9
+unfolding byte-read
+returns-9 c =
+    let b = c .before in
+    simp (
+      le-ltb _ _ (b .before .before .before .before .before .before .if1 .left),
+      le-ltb _ _ (b .before .before .before .before .before .if2 .left),
+      le-ltb _ _ (b .before .before .before .before .if3 .left),
+      le-ltb _ _ (b .before .before .before .if4 .left),
+      le-ltb _ _ (b .before .before .if5 .left),
+      le-ltb _ _ (b .before .if6 .left),
+      le-ltb _ _ (b .if7 .left),
+      le-ltb _ _ (c .if8 .left),
+    )
 
 pub byte-read-spec : {M : Type 1} → statement M
 byte-read-spec = tie.close (tie.spec returns add-field-read field-read-requires returns-2 returns-3 add-field-read-2 field-read-requires-2 returns-4
     add-field-read-3 field-read-requires-3 returns-5 add-field-read-4 field-read-requires-4 returns-6 add-field-read-5 field-read-requires-5 returns-7
-    add-field-read-6 field-read-requires-6 returns-8)
+    add-field-read-6 field-read-requires-6 returns-8 returns-9)

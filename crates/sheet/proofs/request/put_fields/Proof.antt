@@ -9,6 +9,7 @@ use lib.Seq.{sets, length-sets}
 use borrow.Author.Needs.{needs}
 use Rattle.sheet.specs.Bytes.{bytes, part}
 use Rattle.sheet.specs.Laws.Bytes.{bytes-part}
+use Rattle.sheet.specs.Edition.{newest}
 use Rattle.sheet.specs.Request.{request-size, blank-from}
 use Rattle.sheet.proofs.request.Steps.{field-step, put-end}
 use Rattle.sheet.proofs.request.put_fields.Statement.{statement}
@@ -16,17 +17,17 @@ use Rattle.sheet.proofs.request.put_fields.Tie as tie
 
 abbrev Inv-loop : tie.InvT-loop
 Inv-loop out₀ at request s i₀ out i =
-    (16 ≤ i) × (i ≤ request-size) × (i % 8 ≡ 0) × (length out ≡ length out₀)
+    (16 ≤ i) × (i ≤ request-size newest) × (i % 8 ≡ 0) × (length out ≡ length out₀)
     × (sets out (at + i) (blank-from s i (drop i request)) ≡ sets out₀ (at + 16) (blank-from s 16 (drop 16 request)))
 
 abbrev μ-loop : tie.MeasureT-loop
-μ-loop out₀ at request s i₀ out i = request-size - i
+μ-loop out₀ at request s i₀ out i = request-size newest - i
 
 loop-holds : tie.Need-loop-holds Inv-loop μ-loop
 loop-holds c = (omega arith, omega arith, refl, refl, refl)
 
 byte-read-requires : tie.Need-byte-read-requires Inv-loop μ-loop
-byte-read-requires c κs = omega arith
+byte-read-requires c κs = search needs
 
 word-requires : tie.Need-word-requires Inv-loop μ-loop
 word-requires c κs = omega arith

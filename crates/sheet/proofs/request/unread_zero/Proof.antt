@@ -7,16 +7,16 @@ use lib.ListN.{length, getD, drop}
 use borrow.Author.Needs.{needs}
 use Rattle.sheet.specs.declared.request.Shape.{Shape}
 use Rattle.sheet.specs.Bytes.{same-bytes}
-use Rattle.sheet.specs.Request.{request-size, blank-from}
+use Rattle.sheet.specs.Request.{blank-from}
 use Rattle.sheet.proofs.request.Steps.{blank-step, blank-stop, blank-end}
 use Rattle.sheet.proofs.request.unread_zero.Statement.{statement}
 use Rattle.sheet.proofs.request.unread_zero.Tie as tie
 
 abbrev Inv-loop : tie.InvT-loop
-Inv-loop request s i₀ i = (i ≤ request-size) × (same-bytes (blank-from s i (drop i request)) (drop i request) ≡ same-bytes (blank-from s 0 request) request)
+Inv-loop request s i₀ i = (i ≤ length request) × (same-bytes (blank-from s i (drop i request)) (drop i request) ≡ same-bytes (blank-from s 0 request) request)
 
 abbrev μ-loop : tie.MeasureT-loop
-μ-loop request s i₀ i = request-size - i
+μ-loop request s i₀ i = length request - i
 
 shape-of-requires : tie.Need-shape-of-requires Inv-loop μ-loop
 shape-of-requires c κs = search needs
@@ -25,7 +25,7 @@ loop-holds : tie.Need-loop-holds Inv-loop μ-loop
 loop-holds c = (omega arith, refl)
 
 byte-read-requires : tie.Need-byte-read-requires Inv-loop μ-loop
-byte-read-requires c κs = omega arith
+byte-read-requires c κs = search needs
 
 shared-slice-read-kept : tie.Need-shared-slice-read-kept Inv-loop μ-loop
 shared-slice-read-kept c = omega arith

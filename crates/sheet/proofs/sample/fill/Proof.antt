@@ -3,6 +3,7 @@ use borrow.Author.Needs.{needs}
 use native.Mathlib.Omega.{arith}
 use Rattle.sampling.specs.Promises.Plan.{to-come}
 use Rattle.sampling.specs.Promises.Stream.{start}
+use Rattle.sheet.specs.Edition.{newest}
 use Rattle.sheet.specs.Laws.Sampling.{lay-sheet}
 use Rattle.sheet.proofs.sample.fill.Statement.{statement}
 use Rattle.sheet.proofs.sample.fill.Tie as tie
@@ -24,6 +25,9 @@ mul-put-trailer c = search needs
 add-put-trailer : tie.Need-add-put-trailer
 add-put-trailer c = search needs
 
+newest-requires : tie.Need-newest-requires
+newest-requires c = search needs
+
 put-trailer-requires : tie.Need-put-trailer-requires
 put-trailer-requires c = search needs
 
@@ -32,12 +36,13 @@ same-length c = search needs
 
 returns : tie.Need-returns
 returns c =
-    let s = c .before .before .before .before .before .before .before .before .before .before .before .before .before .before .before in
+    let d = c .before .before .before in
+    let s = d .before .before .before .before .before .before .before .before .before .before .before .before .before in
     let a = s .args in
-    let x = c .before .before .before .before .before .before .before .before .before .before .put-angles .ensures in
-    let y = c .before .before .before .before .before .before .put-blank .ensures in
-    rw (c .before .before .put-trailer .ensures, y, x)
-    (lay-sheet (a .request .now) (a .output .now) (to-come (a .plan) (a .work .now) start) (a .n) (s .pre .0) (s .pre .1 .1 .0))
+    let x = d .before .before .before .before .before .before .before .before .put-angles .ensures in
+    let y = d .before .before .before .before .put-blank .ensures in
+    rw (c .before .before .put-trailer .ensures, d .newest .ensures, y, x)
+    (lay-sheet newest (a .request .now) (a .output .now) (to-come (a .plan) (a .work .now) start) (a .n) (s .pre .0) (s .pre .1 .1 .0))
 
 pub fill-spec : {M : Type 1} → statement M
-fill-spec = tie.close (tie.spec put-angles-requires mul-put-blank put-blank-requires mul-put-trailer add-put-trailer put-trailer-requires same-length returns)
+fill-spec = tie.close (tie.spec put-angles-requires mul-put-blank put-blank-requires mul-put-trailer add-put-trailer newest-requires put-trailer-requires same-length returns)

@@ -6,6 +6,7 @@ use lib.Ieee.{Float}
 use borrow.Author.Tests.{leb-true}
 use Rattle.sampling.specs.Promises.Plan.{to-come}
 use Rattle.sampling.specs.Promises.Stream.{start}
+use Rattle.sheet.specs.Edition.{newest}
 use Rattle.sheet.specs.Refusals.{need}
 use Rattle.sheet.specs.Promises.Plan.{planned-answer}
 use Rattle.sheet.specs.Laws.Plan.{holds-no, holds-yes, fits-no, fits-yes, found-angles, found-count}
@@ -69,7 +70,7 @@ returns-3 c =
     let r = sym (c .before .before .before .before .before .has-room .ensures) ∙ c .before .before .before .before .if3 .taken in
     let q = n ∙ found-count (a .request .now) (a .plan) (a .work .now) (s .pre .1) e f in (
       rw (h, k, ← q, r),
-      c .before .before .fill .ensures ∙ sheet-stands (a .request .now) (a .output .now) (to-come (a .plan) (a .work .now) start) _ (s .pre .0) n t
+      c .before .before .fill .ensures ∙ sheet-stands newest (a .request .now) (a .output .now) (to-come (a .plan) (a .work .now) start) _ (s .pre .0) n t
           (leb-true _ _ r),
     )
 

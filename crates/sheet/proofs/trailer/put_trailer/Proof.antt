@@ -19,6 +19,9 @@ put-requires-2 c = search needs
 add-put-2 : tie.Need-add-put-2
 add-put-2 c = search needs
 
+edition-number-requires : tie.Need-edition-number-requires
+edition-number-requires c = search needs
+
 put-requires-3 : tie.Need-put-requires-3
 put-requires-3 c = search needs
 
@@ -33,11 +36,12 @@ same-length c = search needs
 
 returns : tie.Need-returns
 returns c =
-    let a = c .before .before .before .before .before .before .before .before .before .before .before .before .before .before .before .before .before .args in
-    let x = c .before .before .before .before .before .before .before .before .before .before .before .before .before .before .put .ensures in
-    let y = c .before .before .before .before .before .before .before .before .before .before .put2 .ensures in
+    let d = c .before .before .before .before .before .before .before in
+    let a = d .before .before .before .before .before .before .before .before .before .before .before .args in
+    let x = d .before .before .before .before .before .before .before .before .put .ensures in
+    let y = d .before .before .before .before .put2 .ensures in
     let z = c .before .before .before .before .before .before .put3 .ensures in
-    rw (c .before .before .put4 .ensures, z, y, x) (lay-trailer (a .out .now) (a .at) (a .n))
+    rw (c .before .before .put4 .ensures, z, d .edition-number .ensures, y, x) (lay-trailer (a .e) (a .out .now) (a .at) (a .n))
 
 pub put-trailer-spec : {M : Type 1} → statement M
-put-trailer-spec = tie.close (tie.spec put-requires add-put mul-put put-requires-2 add-put-2 put-requires-3 add-put-3 put-requires-4 same-length returns)
+put-trailer-spec = tie.close (tie.spec put-requires add-put mul-put put-requires-2 add-put-2 edition-number-requires put-requires-3 add-put-3 put-requires-4 same-length returns)
