@@ -4,6 +4,7 @@
 -- the sheet and the output afterwards), `Check` (31 to 36), `Demands` (the three demands as statements about them, and what editions promise).
 -- `Promises`: what inner functions promise one another.
 -- `Laws`: theorems, `Demands` among them, that upper crates cite.
+
 pub mod Bytes
 pub mod Edition
 pub mod Request

@@ -1,5 +1,5 @@
--- Two requests that agree in all that is read: what follows for their fields, that byte by byte and field by field say the same, and that
--- they agree exactly where their blanked requests are equal.
+-- Two requests that agree in all that is read, or in all that is read before the name: what follows for their fields, that byte by byte and field by field
+-- say the same, and that they agree exactly where their blanked requests are equal.
 use Prim.Native.Nat.{ℕ, _+_, _-_, _/_, _≤_, _<_}
 use native.Mathlib.Omega.{arith}
 use native.Mathlib.Decide.{decLt}
@@ -16,13 +16,13 @@ use Rattle.float.specs.Laws.Le.{yes-of}
 use Rattle.sheet.specs.declared.request.Field.{Field}
 use Rattle.sheet.specs.declared.request.Field.the-variants.{Sign, Arm, Reference, Offset, From, To}
 use Rattle.sheet.specs.Bytes.{little-endian, part, float-at}
-use Rattle.sheet.specs.Request.{request-size, name-at, name-size, shape-of, reads, place, last, width, byte-read, Agree, AgreeFields, blank}
+use Rattle.sheet.specs.Request.{core-size, request-size, name-at, name-size, shape-of, reads, place, last, width, byte-read, Agree, AgreeFields, blank}
 use Rattle.sheet.specs.declared.edition.Edition.{Edition}
-use Rattle.sheet.specs.Laws.Places.{byte-is, byte-first, byte-always, byte-name, core-least, named-most}
+use Rattle.sheet.specs.Laws.Places.{place-most, byte-is, byte-first, byte-always, byte-name, core-least, named-most}
 use Rattle.sheet.specs.Laws.Blank.{length-blank, getD-blank}
 
 -- two lists of one length whose bytes agree over a stretch have the same stretch
-stretch : (r s : List ℕ) (at n : ℕ) → length r ≡ length s → ((i : ℕ) → at ≤ i → i < at + n → getD r i 0 ≡ getD s i 0) → part at n r ≡ part at n s
+pub stretch : (r s : List ℕ) (at n : ℕ) → length r ≡ length s → ((i : ℕ) → at ≤ i → i < at + n → getD r i 0 ≡ getD s i 0) → part at n r ≡ part at n s
 stretch r s at n e h =
     ext-getD 0 (part at n r) (part at n s) (simp (length-take, length-drop) (rw e))
     (λ i l.
@@ -40,22 +40,29 @@ one-of r s at n i e a b =
 
 -- ---- what agrees
 
-module _ {e : Edition} (r s : List ℕ) (g : Agree e r s) where
-  same-length : length r ≡ length s
-  same-length = g .whole ∙ sym (g .whole')
+-- in all that is read before the name
+pub record Core (r s : List ℕ) : Type 0 where
+  pub long : length r ≡ length s
+  pub same : (i : ℕ) → i < core-size → T (byte-read (shape-of r) i) → getD r i 0 ≡ getD s i 0
 
+pub core-of : {e : Edition} {r s : List ℕ} → Agree e r s → Core r s
+core-of g = record { long = g .whole ∙ sym (g .whole'); same = λ i h t. g .same i t }
+
+module _ (r s : List ℕ) (g : Core r s) where
   pub same-first : (i : ℕ) → i < 4 → getD r i 0 ≡ getD s i 0
-  same-first i h = g .same i (yes-of (byte-first (shape-of r) i h))
+  same-first i h = g .same i (omega arith) (yes-of (byte-first (shape-of r) i h))
 
   pub same-shape : shape-of r ≡ shape-of s
   unfolding shape-of
   same-shape = rw (same-first 0 (omega arith), same-first 1 (omega arith), same-first 2 (omega arith))
 
   pub same-always : (i : ℕ) → 10 ≤ i → i < 48 → getD r i 0 ≡ getD s i 0
-  same-always i a b = g .same i (yes-of (byte-always (shape-of r) i a b))
+  same-always i a b = g .same i (omega arith) (yes-of (byte-always (shape-of r) i a b))
 
   pub same-part : (f : Field) (j : ℕ) → 1 ≤ j → j ≤ last f → T (reads (shape-of r) f j) → part (place f j) (width f) r ≡ part (place f j) (width f) s
-  same-part f j a b t = stretch r s (place f j) (width f) same-length (λ i c d. g .same i (subst⁻¹ T (byte-is (shape-of r) f j i a b c d) t))
+  same-part f j a b t =
+      stretch r s (place f j) (width f) (g .long)
+      (λ i c d. g .same i (omega (arith, place-most f j a b)) (subst⁻¹ T (byte-is (shape-of r) f j i a b c d) t))
 
   -- a sign
   pub same-sign : (j : ℕ) → 1 ≤ j → j ≤ 6 → T (reads (shape-of r) Sign j) → getD r (place Sign j) 0 ≡ getD s (place Sign j) 0
@@ -70,19 +77,20 @@ module _ {e : Edition} (r s : List ℕ) (g : Agree e r s) where
   -- a part of the rotation
   pub same-rotation : (at : ℕ) → 16 ≤ at → at + 8 ≤ 48 → float-at r at ≡ float-at s at
   same-rotation at a b = ap (λ (l : List ℕ). ofBits binary64 (little-endian l))
-      (stretch r s at 8 same-length (λ k c d. same-always k (omega arith) (omega arith)))
+      (stretch r s at 8 (g .long) (λ k c d. same-always k (omega arith) (omega arith)))
 
-  by-fields : AgreeFields e r s
-  by-fields =
-      record {
-        whole = g .whole;
-        whole' = g .whole';
-        head = stretch r s 0 4 same-length (λ i a b. same-first i (omega arith));
-        reserved = stretch r s 10 6 same-length (λ i a b. same-always i a (omega arith));
-        rotation = stretch r s 16 32 same-length (λ i a b. same-always i (omega arith) b);
-        field = same-part;
-        name = stretch r s name-at name-size same-length (λ i a b. g .same i (yes-of (byte-name (shape-of r) i a)));
-      }
+by-fields : {e : Edition} (r s : List ℕ) → Agree e r s → AgreeFields e r s
+by-fields r s g =
+    let k = core-of g in
+    record {
+      whole = g .whole;
+      whole' = g .whole';
+      head = stretch r s 0 4 (k .long) (λ i a b. same-first r s k i (omega arith));
+      reserved = stretch r s 10 6 (k .long) (λ i a b. same-always r s k i a (omega arith));
+      rotation = stretch r s 16 32 (k .long) (λ i a b. same-always r s k i (omega arith) b);
+      field = same-part r s k;
+      name = stretch r s name-at name-size (k .long) (λ i a b. g .same i (yes-of (byte-name (shape-of r) i a)));
+    }
 
 -- ---- field by field
 
@@ -160,7 +168,7 @@ agree-blank {e} r s g =
     ext-getD 0 (blank r) (blank s) (length-blank (shape-of r) 0 r ∙ g .whole ∙ sym (g .whole') ∙ sym (length-blank (shape-of s) 0 s))
     (λ i l.
     let h : i < request-size e = omega (arith, length-blank (shape-of r) 0 r, g .whole) in
-    rw (blank-byte r i (omega (arith, g .whole)), blank-byte s i (omega (arith, g .whole')), ← same-shape r s g)
+    rw (blank-byte r i (omega (arith, g .whole)), blank-byte s i (omega (arith, g .whole')), ← same-shape r s (core-of g))
     (kept-same (byte-read (shape-of r) i) (getD r i 0) (getD s i 0) (g .same i)))
 
 module _ (e : Edition) (r s : List ℕ) (a : length r ≡ request-size e) (b : length s ≡ request-size e) (q : blank r ≡ blank s) where

@@ -1,4 +1,4 @@
--- Two requests that agree in all that is read have the same angles, and the same answers.
+-- Two requests that agree in all that is read have the same angles, and the same answers; the name alters neither.
 use Prim.Native.Nat.{ℕ, _≤_}
 use native.Mathlib.Omega.{arith}
 use mathlib.Core.Path.{_≡_, refl, ap, subst, _∙_}
@@ -13,15 +13,15 @@ use Rattle.sampling.specs.Reads.{joint-read, reference-read, arm-read, SameJoin
 use Rattle.sheet.specs.declared.request.Shape.{Shape}
 use Rattle.sheet.specs.declared.request.Shape.the-variants.{Bad, Right}
 use Rattle.sheet.specs.declared.request.Field.the-variants.{Sign, Arm, Reference, Offset, From, To}
-use Rattle.sheet.specs.Request.{shape-of, reads, Agree}
+use Rattle.sheet.specs.Request.{shape-of, reads}
 use Rattle.sheet.specs.Fields.{sign-of, joint-at, arm-of, kind-of, limited-of, fixed-of, job-of, matrix}
 use Rattle.sheet.specs.Refusals.{Answer, accepted, need}
-use Rattle.sheet.specs.Validate.{right, head-right, validate}
+use Rattle.sheet.specs.Validate.{right, head-right, name-right, validate}
 use Rattle.sheet.specs.Sampling.{angles, items, cut-count, holds, by-request, by-work, answer, before-output}
 use Rattle.sheet.specs.Edition.{newest}
 use Rattle.sheet.specs.Sheet.{sheet-size}
 use Rattle.sheet.specs.declared.edition.Edition.{Edition}
-use Rattle.sheet.specs.Laws.Agree.{same-shape, same-sign, same-float}
+use Rattle.sheet.specs.Laws.Agree.{Core, same-shape, same-sign, same-float}
 use Rattle.sheet.specs.Laws.Validate.{rotation-same, validate-same}
 use Rattle.sampling.specs.Laws.Reads as Reads
 
@@ -42,7 +42,7 @@ reading (Right kind limits fixed) k h = record { sign = refl; offset = refl; ref
 
 -- ---- from requests to jobs
 
-module _ {e : Edition} (r s : List ℕ) (g : Agree e r s) where
+module _ (r s : List ℕ) (g : Core r s) where
   module _ (h : head-right r ≡ true) where
     shape-right : right (shape-of r) ≡ true
     unfolding head-right
@@ -99,24 +99,25 @@ module _ {e : Edition} (r s : List ℕ) (g : Agree e r s) where
     holds-same = Reads.hold-same (job-of r) (job-of s) same-read
 
   -- a wrong head is refused whatever comes behind
-  validate-wrong : (v u : Answer) → head-right r ≡ false → validate e r v ≡ validate e r u
+  validate-wrong : (e : Edition) (v u : Answer) → head-right r ≡ false → validate e r v ≡ validate e r u
   unfolding validate need
-  validate-wrong v u h = rw h
+  validate-wrong e v u h = rw h
 
-  -- two requests that agree get the same refusal, or go on alike
-  by-work-same : (places : ℕ) (v u : Answer) → (head-right r ≡ true → v ≡ u) → by-work e r places v ≡ by-work e s places u
+  -- two requests that agree before the name, both names right or both wrong, get the same refusal, or go on alike
+  by-work-same : name-right r ≡ name-right s → (e : Edition) (places : ℕ) (v u : Answer) → (head-right r ≡ true → v ≡ u)
+      → by-work e r places v ≡ by-work e s places u
   unfolding by-work by-request
-  by-work-same places v u h = go (head-right r) refl ∙ validate-same r s g _
+  by-work-same n e places v u h = go (head-right r) refl ∙ validate-same r s g n e _
     where
       go : (b : Bool) → head-right r ≡ b
           → validate e r (need (holds r) 9 (need (leb (cut-count r) places) 10 v)) ≡ validate e r (need (holds s) 9 (need (leb (cut-count s) places) 10 u))
       go true q = rw (holds-same q, cuts-same q, h q)
-      go false q = validate-wrong _ _ q
+      go false q = validate-wrong e _ _ q
 
-  pub before-same : (places : ℕ) → before-output e r places ≡ before-output e s places
-  before-same places = by-work-same places _ _ (λ h. ap (λ (l : List ℕ). accepted (length l)) (items-same h))
+  pub answer-same : name-right r ≡ name-right s → (places room : ℕ) → answer r places room ≡ answer s places room
+  unfolding answer
+  answer-same n places room =
+      by-work-same n newest places _ _ (λ h. ap (λ (l : List ℕ). need (leb (sheet-size newest (length l)) room) 11 (accepted (length l))) (items-same h))
 
-pub answer-same : (r s : List ℕ) → Agree newest r s → (places room : ℕ) → answer r places room ≡ answer s places room
-unfolding answer
-answer-same r s g places room =
-    by-work-same r s g places _ _ (λ h. ap (λ (l : List ℕ). need (leb (sheet-size newest (length l)) room) 11 (accepted (length l))) (items-same r s g h))
+  pub before-same : name-right r ≡ name-right s → (e : Edition) (places : ℕ) → before-output e r places ≡ before-output e s places
+  before-same n e places = by-work-same n e places _ _ (λ h. ap (λ (l : List ℕ). accepted (length l)) (items-same h))

@@ -1,12 +1,11 @@
 -- The i-th eight bytes of a sheet stand for the i-th angle.
 use Prim.Native.Nat.{ℕ, zero, suc, _+_, _*_, _^_, _<_}
 use native.Mathlib.Omega.{arith}
-use mathlib.Core.Path.{_≡_, refl, sym, ap, _∙_}
+use mathlib.Core.Path.{_≡_, sym, ap, _∙_}
 use mathlib.Core.List.{List, [], _∷_, _++_, append-assoc}
-use lib.Dec.{T}
 use lib.ListN.{length, take, drop, getD, List·getD-map}
 use lib.Seq.{take-at, drop-at, drop-drop}
-use lib.Ieee.{Float, fits, binary64, ofBits, toBits}
+use lib.Ieee.{Float, binary64, ofBits, toBits}
 use lib.Ieee.Bits.{ofBits-toBits, toBits-lt}
 use Rattle.float.specs.Number.{zero-float}
 use Rattle.polynomial.specs.Promises.Lists.{Fits, Fit}

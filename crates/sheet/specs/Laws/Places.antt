@@ -28,6 +28,14 @@ place-fits Offset j a b = omega arith
 place-fits From j a b = omega arith
 place-fits To j a b = omega arith
 
+pub place-most : (f : Field) (j : ℕ) → 1 ≤ j → j ≤ last f → place f j + width f ≤ core-size
+place-most Sign j a b = omega arith
+place-most Arm j a b = omega arith
+place-most Reference j a b = omega arith
+place-most Offset j a b = omega arith
+place-most From j a b = omega arith
+place-most To j a b = omega arith
+
 -- each byte of a field is read where the field is
 pub byte-is : (s : Shape) (f : Field) (j i : ℕ) → 1 ≤ j → j ≤ last f → place f j ≤ i → i < place f j + width f → byte-read s i ≡ reads s f j
 unfolding byte-read

@@ -1,7 +1,7 @@
 -- Sheets: how their runs of stores lie one after the other, and how long they are.
 use Prim.Native.Nat.{ℕ, _+_, _*_, _≤_}
 use native.Mathlib.Omega.{arith}
-use mathlib.Core.Path.{_≡_, refl, sym, ap, _∙_}
+use mathlib.Core.Path.{_≡_, sym, ap, _∙_}
 use mathlib.Core.List.{List, [], _∷_, map, _++_}
 use lib.ListN.{length, drop, length-append, length-map}
 use lib.Seq.{sets, sets-eq}

@@ -23,8 +23,7 @@ use Rattle.sheet.specs.declared.validate.Tested.{Tested}
 use Rattle.sheet.specs.Request.{request-size, shape-of, reads, last}
 use Rattle.sheet.specs.Fields.{field, rotation-of}
 use Rattle.sheet.specs.Refusals.{Answer, accepted, refused, need, number}
-use Rattle.sheet.specs.Validate.{all-from, head-right, name-right, signs-right, rotation-finite, rotation-nonzero, passes, field-right}
-use Rattle.sheet.specs.Validate.{fields-right, within, arm-within, references-finite, offsets-within, validate}
+use Rattle.sheet.specs.Validate.{all-from, head-right, name-right, signs-right, rotation-finite, rotation-nonzero, passes, field-right, fields-right, within, arm-within, references-finite, offsets-within, validate}
 use Rattle.sheet.specs.Promises.Tested.{tested-fields, tested-rotation, tested, after, Passed}
 use Rattle.sheet.specs.declared.refusals.Refusal.the-variants as refusal
 use Rattle.sheet.specs.declared.validate.Tested.the-variants as tests

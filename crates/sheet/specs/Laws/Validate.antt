@@ -12,12 +12,11 @@ use Rattle.sheet.specs.declared.request.Field.the-variants.{Sign, Arm, R
 use Rattle.sheet.specs.Request.{name-at, shape-of, reads, place, last, width, Agree}
 use Rattle.sheet.specs.declared.edition.Edition.{Edition}
 use Rattle.sheet.specs.Fields.{field, rotation-of}
-use Rattle.sheet.specs.Validate.{all-from, zero-at, head-right, is-name, name-right, sign-right, signs-right, passes}
-use Rattle.sheet.specs.Validate.{field-right, fields-right, arm-within, references-finite, offsets-within, validate}
+use Rattle.sheet.specs.Validate.{all-from, zero-at, head-right, is-name, name-right, sign-right, signs-right, passes, field-right, fields-right, arm-within, references-finite, offsets-within, validate}
 use Rattle.sheet.specs.Refusals.{Answer}
 use Rattle.sheet.specs.Laws.Places.{byte-name}
 use Rattle.float.specs.Laws.Le.{yes-of}
-use Rattle.sheet.specs.Laws.Agree.{same-first, same-shape, same-always, same-sign, same-float, same-rotation}
+use Rattle.sheet.specs.Laws.Agree.{Core, same-first, same-shape, same-always, same-sign, same-float, same-rotation}
 
 -- equal tests
 all-same : (p q : ℕ → Bool) (n j : ℕ) → ((i : ℕ) → j ≤ i → i < j + n → p i ≡ q i) → all-from n j p ≡ all-from n j q
@@ -30,8 +29,8 @@ guarded : {A : Type 0} (b : Bool) (p : A → Bool) (x y : A) → (T b → x ≡ 
 guarded true p x y h = ap p (h tt)
 guarded false p x y h = refl
 
-module _ {e : Edition} (r s : List ℕ) (g : Agree e r s) where
-  head-same : head-right r ≡ head-right s
+module _ (r s : List ℕ) (g : Core r s) where
+  pub head-same : head-right r ≡ head-right s
   unfolding head-right
   head-same =
       rw (
@@ -39,14 +38,6 @@ module _ {e : Edition} (r s : List ℕ) (g : Agree e r s) where
         same-first r s g 3 (omega arith),
         all-same (zero-at r) (zero-at s) 6 10 (λ i a b. ap (λ (v : ℕ). eqb v 0) (same-always r s g i (omega arith) (omega arith))),
       )
-
-  -- both names stand, or lack, from one byte on
-  name-same : name-right r ≡ name-right s
-  unfolding name-right
-  name-same =
-      ap is-name
-      (ext-getD 0 (drop name-at r) (drop name-at s) (simp length-drop (rw (g .whole, g .whole')))
-      (λ i l. rw (getD-drop name-at r i 0, getD-drop name-at s i 0) (g .same (name-at + i) (yes-of (byte-name (shape-of r) (name-at + i) (omega arith))))))
 
   signs-same : signs-right r ≡ signs-right s
   unfolding signs-right sign-right
@@ -86,7 +77,17 @@ module _ {e : Edition} (r s : List ℕ) (g : Agree e r s) where
   unfolding offsets-within
   offsets-same = fields-same Offset refl
 
-  -- two requests that agree meet the same of refusals 1 to 8 and 41
-  pub validate-same : (v : Answer) → validate e r v ≡ validate e s v
+  -- two requests that agree before the name and whose names are both right, or both wrong, meet the same of refusals 1 to 8 and 41
+  pub validate-same : name-right r ≡ name-right s → (e : Edition) (v : Answer) → validate e r v ≡ validate e s v
   unfolding validate
-  validate-same v = rw (g .whole, g .whole', head-same, name-same, signs-same, rotation-same, arm-same, references-same, offsets-same)
+  validate-same n e v = rw (g .long, head-same, n, signs-same, rotation-same, arm-same, references-same, offsets-same)
+
+-- requests that agree have one name
+pub one-name : {e : Edition} (r s : List ℕ) → Agree e r s → drop name-at r ≡ drop name-at s
+one-name r s g =
+    ext-getD 0 (drop name-at r) (drop name-at s) (simp length-drop (rw (g .whole, g .whole')))
+    (λ i l. rw (getD-drop name-at r i 0, getD-drop name-at s i 0) (g .same (name-at + i) (yes-of (byte-name (shape-of r) (name-at + i) (omega arith)))))
+
+pub name-same : {e : Edition} (r s : List ℕ) → Agree e r s → name-right r ≡ name-right s
+unfolding name-right
+name-same r s g = ap is-name (one-name r s g)

@@ -1,7 +1,7 @@
 -- `sheet::check::check_request` meets its contract: at each return, what the calls and the tests on the way to it say.
-use borrow.Author.Needs.{needs}
 use native.Mathlib.Omega.{arith}
 use mathlib.Core.Path.{sym, _∙_}
+use borrow.Author.Needs.{needs}
 use Rattle.sheet.specs.Refusals.{need}
 use Rattle.sheet.specs.Promises.Plan.{checked}
 use Rattle.sheet.specs.Laws.Plan.{planned-for, left-passed, left-refused, holds-no, holds-yes, refused-meets, holds-meets}

@@ -1,6 +1,6 @@
 -- `sheet::check::edition_of` meets its contract: at each return, what the calls and the tests on the way to it say.
-use borrow.Author.Needs.{needs}
 use mathlib.Core.Path.{ap, _∙_}
+use borrow.Author.Needs.{needs}
 use Rattle.sheet.specs.Edition.{known, newest}
 use Rattle.sheet.specs.Laws.Check.{edition-at}
 use Rattle.sheet.proofs.check.edition_of.Statement.{statement}

@@ -1,7 +1,7 @@
 -- `sheet::check::formed` meets its contract: at each return, what the calls and the tests on the way to it say.
-use borrow.Author.Needs.{needs}
 use Prim.Native.Nat.{ℕ, _+_, _*_}
 use mathlib.Core.Path.{refl, sym, ap, _∙_}
+use borrow.Author.Needs.{needs}
 use Rattle.sheet.specs.Laws.Check.{formed-no, formed-wide, formed-by}
 use Rattle.sheet.proofs.check.formed.Statement.{statement}
 use Rattle.sheet.proofs.check.formed.Tie as tie

@@ -1,7 +1,7 @@
 -- `sheet::check::inspect` meets its contract: at each return, what the calls and the tests on the way to it say.
-use borrow.Author.Needs.{needs}
 use mathlib.Core.Path.{sym, _∙_}
 use lib.ListN.{length}
+use borrow.Author.Needs.{needs}
 use Rattle.sheet.specs.Edition.{newest}
 use Rattle.sheet.specs.Laws.Check.{answer-short, answer-unknown, answer-known, left-short, left-unknown, left-known}
 use Rattle.sheet.proofs.check.inspect.Statement.{statement}

@@ -1,13 +1,12 @@
 -- `sheet::check::inspect_edition` meets its contract: at each return, what the calls and the tests on the way to it say.
-use borrow.Author.Needs.{needs}
 use Prim.Native.Nat.{ℕ, _-_}
 use native.Mathlib.Omega.{arith}
 use mathlib.Core.List.{List}
 use mathlib.Core.Path.{sym, ap, refl, _∙_}
 use lib.ListN.{length, take}
 use lib.Seq.{length-take-le}
+use borrow.Author.Needs.{needs}
 use borrow.Author.Tests.{not-true, not-false}
-use Rattle.sheet.specs.Sheet.{trailer-size}
 use Rattle.sheet.specs.Check.{items-of, request-of}
 use Rattle.sheet.specs.Promises.Plan.{work-left, checked}
 use Rattle.sheet.specs.Laws.Check.{edition-unformed, edition-formed, left-unformed, left-formed, formed-length, request-is}

@@ -1,6 +1,6 @@
 -- `sheet::sample::fill` meets its contract: the three runs of stores lie one after the other.
-use borrow.Author.Needs.{needs}
 use native.Mathlib.Omega.{arith}
+use borrow.Author.Needs.{needs}
 use Rattle.sampling.specs.Promises.Plan.{to-come}
 use Rattle.sampling.specs.Promises.Stream.{start}
 use Rattle.sheet.specs.Edition.{newest}

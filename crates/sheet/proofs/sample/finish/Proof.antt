@@ -1,8 +1,6 @@
 -- `sheet::sample::finish` meets its contract: at each return, what the calls and the tests on the way to it say.
+use mathlib.Core.Path.{refl, sym, _∙_}
 use borrow.Author.Needs.{needs}
-use mathlib.Core.Path.{refl, sym, ap, _∙_}
-use lib.ListN.{length}
-use lib.Ieee.{Float}
 use borrow.Author.Tests.{leb-true}
 use Rattle.sampling.specs.Promises.Plan.{to-come}
 use Rattle.sampling.specs.Promises.Stream.{start}

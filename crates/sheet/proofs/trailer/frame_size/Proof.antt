@@ -1,8 +1,8 @@
 -- `sheet::trailer::frame_size` meets its contract: at each return, what the calls and the tests on the way to it say.
-use borrow.Author.Needs.{needs}
 use Prim.Native.Nat.{ℕ, _+_}
 use native.Mathlib.Omega.{arith}
 use mathlib.Core.Path.{ap}
+use borrow.Author.Needs.{needs}
 use Rattle.sheet.specs.Sheet.{trailer-size}
 use Rattle.sheet.specs.Laws.Places.{named-most}
 use Rattle.sheet.proofs.trailer.frame_size.Statement.{statement}

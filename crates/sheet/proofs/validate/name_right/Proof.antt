@@ -1,9 +1,9 @@
 -- `sheet::validate::name_right` meets its contract. The invariant: the bytes that are left decide.
-use borrow.Author.Needs.{needs}
 use Prim.Native.Nat.{_≤_, _+_, _-_}
 use native.Mathlib.Omega.{arith}
 use mathlib.Core.Path.{_≡_, refl, sym, _∙_}
 use lib.ListN.{length, drop}
+use borrow.Author.Needs.{needs}
 use borrow.Author.Tests.{not-true, not-false}
 use Rattle.sheet.specs.Request.{name-at}
 use Rattle.sheet.specs.Validate.{is-name, name-right}

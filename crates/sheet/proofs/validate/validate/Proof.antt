@@ -1,7 +1,7 @@
 -- `sheet::validate::validate` meets its contract: at each return, what the calls and the tests on the way to it say.
-use borrow.Author.Needs.{needs}
 use native.Mathlib.Omega.{arith}
 use mathlib.Core.Path.{sym, _∙_}
+use borrow.Author.Needs.{needs}
 use borrow.Author.Tests.{not-true, not-false, eq-eqb, ne-eqb}
 use Rattle.sheet.specs.Laws.Places.{core-least}
 use Rattle.sheet.specs.Promises.Tested.{tested}
