@@ -1,4 +1,4 @@
-//! Reads a sheet from standard input, has it checked, and prints its angles.
+//! Reads a sheet from standard input, has it checked, and prints its name and its angles.
 //!
 //!     rt staticlib lemongully
 //!     rustc --edition 2024 -O examples/rust/check_sheet.rs -L target/staticlib -l static=lemongully -o check_sheet_rust
@@ -19,6 +19,14 @@ fn check(sheet: &[u8], work: &mut [f64]) -> Result<usize, i64> {
     usize::try_from(answer).map_err(|_| -answer)
 }
 
+/// The name on an accepted sheet of n angles: it stands between the request's first 264 bytes and
+/// the 16 of the trailer, where edition 1 has nothing.
+fn name(sheet: &[u8], n: usize) -> &[u8] {
+    let name = &sheet[8 * n + 264..sheet.len() - 16];
+    let end = name.iter().position(|&byte| byte == 0);
+    &name[..end.unwrap_or(name.len())]
+}
+
 fn main() -> ExitCode {
     let mut sheet = Vec::new();
     if let Err(error) = std::io::stdin().read_to_end(&mut sheet) {
@@ -28,6 +36,7 @@ fn main() -> ExitCode {
     let mut work = vec![0.0; 175_618];
     match check(&sheet, &mut work) {
         Ok(n) => {
+            println!("{}", String::from_utf8_lossy(name(&sheet, n)));
             for bytes in sheet.chunks_exact(8).take(n) {
                 println!("{}", f64::from_le_bytes(bytes.try_into().expect("eight bytes")));
             }

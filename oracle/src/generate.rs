@@ -4,6 +4,7 @@ pub mod aimed;
 pub mod floats;
 pub mod hostile;
 pub mod limits;
+pub mod names;
 pub mod parts;
 pub mod requests;
 pub mod roots;

@@ -5,6 +5,7 @@
 
 pub mod constraints;
 pub mod corpus;
+pub mod edition;
 pub mod float;
 pub mod functions;
 pub mod generate;

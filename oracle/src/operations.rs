@@ -1,7 +1,8 @@
-//! Document 01, operations and their refusals. An answer is the count, or
-//! minus the refusal's number.
+//! Document 01, operations and their refusals, with the editions of change
+//! request 2. An answer is the count, or minus the refusal's number.
 
 use crate::constraints::Constraints;
+use crate::edition::{Edition, TRAILER};
 use crate::float::{self, P};
 use crate::glam::{DQuat, DVec3};
 use crate::kinematics_impl::{ArmBranch, OPWKinematics};
@@ -13,10 +14,6 @@ use crate::singularity::j1j2free::{self, Compensated, Polynomial};
 use crate::singularity::{j1free, j2free};
 use crate::touching::{Root, marked_roots};
 
-/// The bytes of a trailer.
-pub const TRAILER: usize = 16;
-/// The bytes of a sheet beside its angles.
-pub const FRAME: usize = request::SIZE + TRAILER;
 /// The work places that a program lends.
 pub const PROGRAM_WORK: usize = 4096;
 /// The longest sheet that a program takes or makes.
@@ -29,8 +26,8 @@ pub struct Sampled {
     pub notes: Notes,
 }
 
-/// Refusals 2 to 8, or the fields with the normalized pose.
-fn accepted(bytes: &[u8; request::SIZE]) -> Result<(Request, Pose), i64> {
+/// Refusals 2 to 8 and 41, or the fields with the normalized pose.
+fn accepted(bytes: &[u8]) -> Result<(Request, Pose), i64> {
     if !request::head_is_right(bytes) {
         return Err(2);
     }
@@ -40,9 +37,12 @@ fn accepted(bytes: &[u8; request::SIZE]) -> Result<(Request, Pose), i64> {
     let fails = |reads: &[bool], floats: &[f64], test: fn(f64) -> bool| {
         std::iter::zip(reads, floats).any(|(&read, &float)| read && !test(float))
     };
-    if std::iter::zip(reads.signs, fields.signs)
-        .any(|(read, sign)| read && sign != 1 && sign != 255)
-    {
+    let sign_fails = std::iter::zip(reads.signs, fields.signs)
+        .any(|(read, sign)| read && sign != 1 && sign != 255);
+    if !request::name_is_right(bytes) {
+        return Err(41);
+    }
+    if sign_fails {
         return Err(3);
     }
     let [x, y, z, w] = fields.rotation;
@@ -99,8 +99,11 @@ fn angles(fields: &Request, pose: &Pose) -> Sampled {
     }
 }
 
-/// Refusals 2 to 9, or the angles.
-pub fn sampled(bytes: &[u8; request::SIZE]) -> Result<Sampled, i64> {
+/// Refusals 1 to 9 and 41 of an edition, or the angles.
+pub fn sampled(edition: Edition, bytes: &[u8]) -> Result<Sampled, i64> {
+    if bytes.len() != edition.request_size() {
+        return Err(1);
+    }
     let (fields, pose) = accepted(bytes)?;
     let sampled = angles(&fields, &pose);
     if sampled.notes.refused {
@@ -110,37 +113,38 @@ pub fn sampled(bytes: &[u8; request::SIZE]) -> Result<Sampled, i64> {
     }
 }
 
-/// Refusals 1 to 10, or the sheet.
-fn sheet(bytes: &[u8], work: usize) -> Result<Vec<u8>, i64> {
-    let bytes: &[u8; request::SIZE] = bytes.try_into().map_err(|_| 1)?;
-    let sampled = sampled(bytes)?;
-    if work < sampled.notes.cuts {
-        return Err(10);
-    }
-    let count = sampled.angles.len() as u32;
+/// The sheet that an edition lays out for a request and its angles.
+pub fn laid_out(edition: Edition, bytes: &[u8], angles: &[f64]) -> Vec<u8> {
+    let count = angles.len() as u32;
     let mut sheet = Vec::new();
-    for &angle in &sampled.angles {
+    for &angle in angles {
         sheet.extend(float::bits(angle).to_le_bytes());
     }
     sheet.extend(request::blanked(bytes));
     sheet.extend(count.to_le_bytes());
     sheet.extend((8 * count).to_le_bytes());
-    sheet.extend(1u16.to_le_bytes());
+    sheet.extend(edition.number().to_le_bytes());
     sheet.extend([0; 6]);
-    Ok(sheet)
+    sheet
 }
 
-/// Sampling: writes the sheet of a request and returns the number of its angles.
+/// Sampling: writes the sheet of a request, of the newest edition, and returns
+/// the number of its angles.
 pub fn sample(request: &[u8], work: &mut [f64], output: &mut [u8]) -> i64 {
     work.fill(0.0);
-    match sheet(request, work.len()) {
-        Err(refusal) => -refusal,
-        Ok(sheet) if output.len() < sheet.len() => -11,
-        Ok(sheet) => {
-            output[..sheet.len()].copy_from_slice(&sheet);
-            ((sheet.len() - FRAME) / 8) as i64
-        }
+    let sampled = match sampled(Edition::NEWEST, request) {
+        Err(refusal) => return -refusal,
+        Ok(sampled) => sampled,
+    };
+    if work.len() < sampled.notes.cuts {
+        return -10;
     }
+    let sheet = laid_out(Edition::NEWEST, request, &sampled.angles);
+    if output.len() < sheet.len() {
+        return -11;
+    }
+    output[..sheet.len()].copy_from_slice(&sheet);
+    sampled.angles.len() as i64
 }
 
 /// Which of 21 to 23 refuses these coefficients and bounds.
@@ -208,31 +212,45 @@ pub fn roots_op(
     roots.len() as i64
 }
 
-/// The trailer's n, if length and trailer are right.
-fn trailed(sheet: &[u8]) -> Option<usize> {
+/// Refusals 31 and 32 where this edition is the newest known, or a sheet's own
+/// edition and n.
+pub fn formed(newest: Edition, sheet: &[u8]) -> Result<(Edition, usize), i64> {
+    if sheet.len() < Edition::One.frame() {
+        return Err(31);
+    }
     let trailer = &sheet[sheet.len() - TRAILER..];
     let word = |at: usize| u32::from_le_bytes(std::array::from_fn(|index| trailer[at + index]));
     let (count, position) = (u64::from(word(0)), u64::from(word(4)));
-    let right = sheet.len() as u64 == 8 * count + FRAME as u64
+    let edition = Edition::numbered(u16::from_le_bytes([trailer[8], trailer[9]])).ok_or(32)?;
+    let right = edition <= newest
+        && sheet.len() as u64 == 8 * count + edition.frame() as u64
         && position == 8 * count
-        && trailer[8..] == [1, 0, 0, 0, 0, 0, 0, 0];
-    right.then_some(count as usize)
+        && trailer[10..] == [0; 6];
+    if right {
+        Ok((edition, count as usize))
+    } else {
+        Err(32)
+    }
 }
 
-/// Check: whether a sheet is the one written for the request inside it.
+/// Check: whether a sheet is the one that its own edition lays out for the
+/// request inside it.
 pub fn check(sheet: &[u8], work: &mut [f64]) -> i64 {
+    check_as(Edition::NEWEST, sheet, work)
+}
+
+/// Check as built when this edition was the newest: a later one is unknown to it.
+pub fn check_as(newest: Edition, sheet: &[u8], work: &mut [f64]) -> i64 {
     work.fill(0.0);
-    if sheet.len() < FRAME {
-        return -31;
-    }
-    let Some(count) = trailed(sheet) else {
-        return -32;
+    let (edition, count) = match formed(newest, sheet) {
+        Err(refusal) => return -refusal,
+        Ok(formed) => formed,
     };
-    let bytes: [u8; request::SIZE] = std::array::from_fn(|index| sheet[8 * count + index]);
-    let Ok(sampled) = sampled(&bytes) else {
+    let inside = &sheet[8 * count..][..edition.request_size()];
+    let Ok(sampled) = sampled(edition, inside) else {
         return -33;
     };
-    if request::blanked(&bytes) != bytes {
+    if request::blanked(inside) != inside {
         return -34;
     }
     if work.len() < sampled.notes.cuts {
@@ -252,7 +270,7 @@ pub fn maker_output(input: &[u8]) -> (Vec<u8>, String) {
     if answer < 0 {
         return (Vec::new(), format!("refused {}\n", -answer));
     }
-    sheet.truncate(8 * answer as usize + FRAME);
+    sheet.truncate(8 * answer as usize + Edition::NEWEST.frame());
     (sheet, String::new())
 }
 

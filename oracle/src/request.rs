@@ -1,9 +1,11 @@
-//! Document 01, request and sheet: the 264 bytes, and which of them are read.
+//! Document 01, request and sheet: the bytes of a request, and which of them are
+//! read. A request is given as a slice, as long as its edition says.
 
+use crate::edition::{CORE, Edition};
 use crate::float;
 
-/// The bytes of a request.
-pub const SIZE: usize = 264;
+/// The bytes of a request that Sampling takes.
+pub const SIZE: usize = Edition::NEWEST.request_size();
 
 /// Positions in a request.
 pub const SIGNS: usize = 4;
@@ -91,7 +93,7 @@ fn floats_at<const N: usize>(bytes: &[u8], position: usize) -> [f64; N] {
 }
 
 /// Whether the always-read bytes before the rotation are right (refusal 2 if not).
-pub fn head_is_right(bytes: &[u8; SIZE]) -> bool {
+pub fn head_is_right(bytes: &[u8]) -> bool {
     (1..=3).contains(&bytes[0])
         && bytes[1] <= 1
         && bytes[2] <= 1
@@ -99,8 +101,17 @@ pub fn head_is_right(bytes: &[u8; SIZE]) -> bool {
         && bytes[10..16].iter().all(|&byte| byte == 0)
 }
 
+/// Whether the name is right: characters from 32 to 126, then zeros to the end
+/// (refusal 41 if not). Edition 1 has none, which is right.
+pub fn name_is_right(bytes: &[u8]) -> bool {
+    let name = &bytes[CORE..];
+    let end = name.iter().position(|&byte| byte == 0);
+    let (characters, rest) = name.split_at(end.unwrap_or(name.len()));
+    characters.iter().all(|byte| (32..=126).contains(byte)) && rest.iter().all(|&byte| byte == 0)
+}
+
 /// The fields of a request whose head is right.
-pub fn fields(bytes: &[u8; SIZE]) -> Request {
+pub fn fields(bytes: &[u8]) -> Request {
     Request {
         kind: bytes[0],
         limits: bytes[1] == 1,
@@ -115,8 +126,8 @@ pub fn fields(bytes: &[u8; SIZE]) -> Request {
     }
 }
 
-/// For each byte of a request, whether it is read.
-pub fn read_bytes(bytes: &[u8; SIZE]) -> [bool; SIZE] {
+/// For each byte of a request, whether it is read; every byte of a name is.
+pub fn read_bytes(bytes: &[u8]) -> [bool; SIZE] {
     let reads = Reads::of(bytes[0], bytes[1], bytes[2]);
     let mut read = [true; SIZE];
     let mut floats = |position: usize, flags: &[bool]| {
@@ -134,7 +145,8 @@ pub fn read_bytes(bytes: &[u8; SIZE]) -> [bool; SIZE] {
 }
 
 /// The request with every unread field zero.
-pub fn blanked(bytes: &[u8; SIZE]) -> [u8; SIZE] {
-    let read = read_bytes(bytes);
-    std::array::from_fn(|position| if read[position] { bytes[position] } else { 0 })
+pub fn blanked(bytes: &[u8]) -> Vec<u8> {
+    std::iter::zip(bytes, read_bytes(bytes))
+        .map(|(&byte, read)| if read { byte } else { 0 })
+        .collect()
 }

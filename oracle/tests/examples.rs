@@ -1,12 +1,14 @@
-//! Document 01, 'Poses and curves to try', and change request 1.
+//! Document 01, 'Poses and curves to try', and change requests 1 and 2.
 
 use lemongully_oracle::constraints::Constraints;
+use lemongully_oracle::edition::{CORE, Edition};
 use lemongully_oracle::float::{self, P};
+use lemongully_oracle::generate::names::name;
 use lemongully_oracle::generate::requests::Draft;
-use lemongully_oracle::generate::sheets::one_angle;
+use lemongully_oracle::generate::sheets::{one_angle, one_angle_named, put_trailer};
 use lemongully_oracle::kinematics_impl::{wrapped_angle, wrist_limit_intervals};
-use lemongully_oracle::operations::{check, program_output, roots_op, sample};
-use lemongully_oracle::request::{FROM, TO};
+use lemongully_oracle::operations::{check, check_as, program_output, roots_op, sample};
+use lemongully_oracle::request::{FROM, SIGNS, SIZE, TO};
 use lemongully_oracle::touching::Root::{self, Crossing, Touch};
 use lemongully_oracle::trig;
 
@@ -140,31 +142,133 @@ fn limits() {
     }
 }
 
+/// 01's whole sheet, as edition 1 was written.
+const WHOLE: &[u8; 288] = include_bytes!("../../examples/edition_1.sheet");
+
 #[test]
 fn whole_sheet() {
-    let request = one_angle();
-    let mut output = [0xA5; 300];
+    assert_eq!(check(WHOLE, &mut []), -35);
+    assert_eq!(check(WHOLE, &mut [7.5]), 1);
+    assert_eq!(WHOLE[..8], [0; 8]);
+    // Signs of joints 1, 3 and 6 are unread, so zero.
+    assert_eq!(
+        WHOLE[8..24],
+        [2, 1, 1, 0, 0, 1, 0, 1, 1, 0, 0, 0, 0, 0, 0, 0]
+    );
+    assert_eq!(
+        WHOLE[272..],
+        [1, 0, 0, 0, 8, 0, 0, 0, 1, 0, 0, 0, 0, 0, 0, 0]
+    );
+    assert_eq!(program_output(WHOLE), "accepted 1\n0000000000000000\n");
+}
+
+#[test]
+fn whole_sheet_with_a_name() {
+    let request = one_angle_named("Gully Antiqua Book");
+    let mut output = [0xA5; 330];
     assert_eq!(sample(&request, &mut [], &mut output), -10);
-    assert_eq!(sample(&request, &mut [7.5], &mut output[..287]), -11);
-    assert_eq!(output, [0xA5; 300]);
+    assert_eq!(sample(&request, &mut [7.5], &mut output[..319]), -11);
+    assert_eq!(output, [0xA5; 330]);
     let mut work = [7.5];
     assert_eq!(sample(&request, &mut work, &mut output), 1);
     assert_eq!(work[0].to_bits(), 0);
-    assert_eq!(output[288..], [0xA5; 12]);
-    let sheet = &output[..288];
+    assert_eq!(output[320..], [0xA5; 10]);
+    let sheet = &output[..320];
     assert_eq!(check(sheet, &mut []), -35);
     assert_eq!(check(sheet, &mut work), 1);
-    assert_eq!(sheet[..8], [0; 8]);
+    assert_eq!(check_as(Edition::One, sheet, &mut work), -32);
+    // Angle and request are edition 1's, then the name and a trailer.
+    assert_eq!(sheet[..272], WHOLE[..272]);
+    assert_eq!(sheet[272..304], name("Gully Antiqua Book"));
     assert_eq!(
-        sheet[272..],
-        [1, 0, 0, 0, 8, 0, 0, 0, 1, 0, 0, 0, 0, 0, 0, 0]
-    );
-    // Signs of joints 1, 3 and 6 are unread, so zero.
-    assert_eq!(
-        sheet[8..24],
-        [2, 1, 1, 0, 0, 1, 0, 1, 1, 0, 0, 0, 0, 0, 0, 0]
+        sheet[304..],
+        [1, 0, 0, 0, 8, 0, 0, 0, 2, 0, 0, 0, 0, 0, 0, 0]
     );
     assert_eq!(program_output(sheet), "accepted 1\n0000000000000000\n");
+}
+
+/// Sampling's answer for 01's job with this name, and Check's for its sheet.
+fn named(name: &[u8; 32]) -> [i64; 2] {
+    let mut request = one_angle();
+    request[CORE..].copy_from_slice(name);
+    let mut output = [0; 320];
+    let answer = sample(&request, &mut [0.0], &mut output);
+    let mut sheet = [&WHOLE[..272], name, &WHOLE[272..]].concat();
+    sheet[312] = 2;
+    if answer >= 0 {
+        assert_eq!(output[..], sheet);
+    }
+    [answer, check(&sheet, &mut [0.0])]
+}
+
+#[test]
+fn names() {
+    let right = [
+        name(""),
+        name("G"),
+        name(" "),
+        name("~"),
+        name("Gully Antiqua Book  "),
+        name("Gully Grotesk Semibold Condensed"),
+        [32; 32],
+        [126; 32],
+    ];
+    for name in right {
+        assert_eq!(named(&name), [1, 1]);
+    }
+    let full = name("Gully Grotesk Semibold Condensed");
+    for at in 0..32 {
+        for byte in (1..=31).chain(127..=255) {
+            for mut name in [name(""), full] {
+                name[at] = byte;
+                assert_eq!(named(&name), [-41, -33]);
+            }
+        }
+        // A zero is right at the end alone, a character everywhere but behind a zero.
+        let mut holed = full;
+        holed[at] = 0;
+        assert_eq!(named(&holed), if at == 31 { [1, 1] } else { [-41, -33] });
+        let mut lone = name("");
+        lone[at] = b'G';
+        assert_eq!(named(&lone), if at == 0 { [1, 1] } else { [-41, -33] });
+    }
+}
+
+#[test]
+fn the_name_is_tested_after_the_head_and_before_the_signs() {
+    let answer = |spoil: fn(&mut [u8; SIZE])| {
+        let mut request = one_angle();
+        request[SIZE - 1] = b'G';
+        spoil(&mut request);
+        sample(&request, &mut [0.0], &mut [0; 320])
+    };
+    assert_eq!(answer(|request| request[0] = 4), -2);
+    assert_eq!(answer(|request| request[15] = 1), -2);
+    assert_eq!(answer(|request| request[SIGNS + 1] = 2), -41);
+    assert_eq!(answer(|request| request[16..48].fill(255)), -41);
+    assert_eq!(sample(&one_angle()[..CORE], &mut [0.0], &mut [0; 320]), -1);
+}
+
+#[test]
+fn each_edition_has_its_size() {
+    let mut sheet = WHOLE.to_vec();
+    for number in [0, 2, 3, 256, 257, 258, 65535] {
+        sheet[280..282].copy_from_slice(&u16::to_le_bytes(number));
+        assert_eq!(check(&sheet, &mut [0.0]), -32);
+    }
+    // From 280 bytes on the edition counts, and edition 2 starts at 312.
+    for length in 270..=330 {
+        for edition in Edition::ALL {
+            let mut sheet = vec![0; length];
+            put_trailer(&mut sheet, edition, 0);
+            let expected = match length {
+                ..280 => -31,
+                _ if length == edition.frame() => -33,
+                _ => -32,
+            };
+            assert_eq!(check(&sheet, &mut []), expected);
+        }
+    }
 }
 
 #[test]
@@ -187,7 +291,7 @@ fn limits_without_a_center() {
         draft.put(TO, to);
         let mut output = [0; 400];
         assert_eq!(sample(&draft.bytes, &mut [0.0; 8], &mut output), count);
-        let sheet = &output[..280 + 8 * count as usize];
+        let sheet = &output[..312 + 8 * count as usize];
         assert_eq!(check(sheet, &mut [0.0; 8]), count);
     }
 }

@@ -1,6 +1,6 @@
-//! Document 01, 'Slips to rule out', and slips of change request 1: each is built
-//! into a copy of the package, which must then answer the corpus otherwise than
-//! the package itself.
+//! Document 01, 'Slips to rule out', and slips of change requests 1 and 2: each is
+//! built into a copy of the package, which must then answer the corpus otherwise
+//! than the package itself.
 //!
 //! The cases are generated once, by the package; a copy only answers them. To
 //! see which parts of the corpus catch a slip, add `-- --nocapture`.
@@ -312,4 +312,98 @@ fn bounds_that_do_not_touch() {
         slip: "",
     };
     is_caught(slip, &["generated-roots", "kept-bound"]);
+}
+
+#[test]
+fn a_name_not_looked_at_after_its_first_zero() {
+    let slip = Slip {
+        name: "a-name-not-looked-at-after-its-first-zero",
+        file: "request.rs",
+        text: " && rest.iter().all(|&byte| byte == 0)",
+        slip: " && rest.len() <= bytes.len()",
+    };
+    let by = ["generated-one-free", "generated-check", "kept-name-rest"];
+    is_caught(slip, &by);
+}
+
+#[test]
+fn a_name_with_byte_127() {
+    let slip = Slip {
+        name: "a-name-with-byte-127",
+        file: "request.rs",
+        text: "(32..=126)",
+        slip: "(32..=127)",
+    };
+    is_caught(slip, &["generated-one-free", "kept-name-127"]);
+}
+
+#[test]
+fn a_full_name_refused() {
+    let slip = Slip {
+        name: "a-full-name-refused",
+        file: "request.rs",
+        text: "end.unwrap_or(name.len())",
+        slip: "end.unwrap_or(name.len().saturating_sub(1))",
+    };
+    let by = ["generated-one-free", "generated-check", "kept-name-full"];
+    is_caught(slip, &by);
+}
+
+#[test]
+fn the_name_tested_before_the_head() {
+    let slip = Slip {
+        name: "the-name-tested-before-the-head",
+        file: "operations.rs",
+        text: "        return Err(2);\n",
+        slip: "        return Err(if request::name_is_right(bytes) { 2 } else { 41 });\n",
+    };
+    is_caught(slip, &["generated-one-free", "kept-name-after-head"]);
+}
+
+#[test]
+fn the_name_tested_after_the_signs() {
+    let slip = Slip {
+        name: "the-name-tested-after-the-signs",
+        file: "operations.rs",
+        text: "        return Err(41);\n",
+        slip: "        return Err(if sign_fails { 3 } else { 41 });\n",
+    };
+    is_caught(slip, &["generated-one-free", "kept-name-before-signs"]);
+}
+
+#[test]
+fn the_name_blanked_in_the_sheet() {
+    let slip = Slip {
+        name: "the-name-blanked-in-the-sheet",
+        file: "request.rs",
+        text: "    let mut read = [true; SIZE];\n",
+        slip: "    let mut read = [true; SIZE];\n    read[CORE..].fill(false);\n",
+    };
+    let by = ["generated-one-free", "generated-check", "kept-name-stays"];
+    is_caught(slip, &by);
+}
+
+/// The length alone then says where the request stands.
+#[test]
+fn edition_2_with_the_length_of_edition_1() {
+    let slip = Slip {
+        name: "edition-2-with-the-length-of-edition-1",
+        file: "operations.rs",
+        text: "    let right = edition <= newest\n",
+        slip: "    let short = sheet.len() as u64 == 8 * count + Edition::One.frame() as u64;\n    \
+               let edition = if short { Edition::One } else { edition };\n    \
+               let right = edition <= newest\n",
+    };
+    is_caught(slip, &["generated-check", "kept-edition-length"]);
+}
+
+#[test]
+fn edition_1_no_longer_taken() {
+    let slip = Slip {
+        name: "edition-1-no-longer-taken",
+        file: "edition.rs",
+        text: "            1 => Some(Self::One),\n",
+        slip: "",
+    };
+    is_caught(slip, &["generated-check", "kept-edition-1"]);
 }

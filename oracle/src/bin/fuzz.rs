@@ -1,5 +1,5 @@
 //! Hostile calls of the linked library for a time: `fuzz SECONDS [SEED]`. Each
-//! call is compared with what 01 promises and with the oracle's: the answer,
+//! call is compared with what 01 and 02 promise and with the oracle's: the answer,
 //! every byte of every lent slice, what stands beside the slice, and the input.
 //! Half of the slices are alone in their allocation, so that memcheck sees what
 //! is read beyond them. Prints the calls and answers by number; at the first
@@ -7,9 +7,11 @@
 //! does not end, its case is the first line of `target/fuzz-SEED.case`.
 
 use lemongully_oracle::corpus::Case;
+use lemongully_oracle::edition::{CORE, Edition, NAME};
 use lemongully_oracle::generate::{Random, hostile, requests, roots, sheets};
-use lemongully_oracle::operations::{FRAME, check, roots_op, sample};
-use lemongully_oracle::{linked, request};
+use lemongully_oracle::linked;
+use lemongully_oracle::operations::{check, roots_op, sample};
+use lemongully_oracle::request::SIZE;
 use std::collections::BTreeMap;
 use std::fs::File;
 use std::io::{Seek, Write};
@@ -92,12 +94,16 @@ fn demand(holds: bool, otherwise: &str) -> Result<(), String> {
     holds.then_some(()).ok_or(otherwise.to_string())
 }
 
-/// Both answers are the same, and one of 01's: a count up to the most, or one
-/// of the refusals.
-fn answers(linked: i64, oracle: i64, most: usize, refusals: [i64; 2]) -> Found {
-    let [first, last] = refusals;
-    let promised = (0..=most as i64).contains(&linked) || (first..=last).contains(&-linked);
-    demand(promised, &format!("answer {linked} is not one of 01's"))?;
+/// The refusals of Sampling, Check and Roots.
+const SAMPLING: [i64; 12] = [1, 2, 3, 4, 5, 6, 7, 8, 9, 10, 11, 41];
+const CHECK: [i64; 6] = [31, 32, 33, 34, 35, 36];
+const ROOTS: [i64; 4] = [21, 22, 23, 24];
+
+/// Both answers are the same, and promised: a count up to the most, or one of the
+/// refusals.
+fn answers(linked: i64, oracle: i64, most: usize, refusals: &[i64]) -> Found {
+    let promised = (0..=most as i64).contains(&linked) || refusals.contains(&-linked);
+    demand(promised, &format!("answer {linked} is not promised"))?;
     let differs = format!("answer {linked}, of the oracle {oracle}");
     demand(linked == oracle, &differs)?;
     Ok(linked)
@@ -133,9 +139,10 @@ fn sampling(random: &mut Random, call: &requests::Call) -> Found {
     cleared(&work, before.1)?;
     let mut oracle = before.2.clone();
     let expected = sample(&call.request, &mut vec![0.5; call.work], oracle.slice());
-    let most = call.output.saturating_sub(FRAME) / 8;
-    answers(number, expected, most, [1, 11])?;
-    let size = usize::try_from(number).map_or(0, |count| 8 * count + FRAME);
+    let frame = Edition::NEWEST.frame();
+    let most = call.output.saturating_sub(frame) / 8;
+    answers(number, expected, most, &SAMPLING)?;
+    let size = usize::try_from(number).map_or(0, |count| 8 * count + frame);
     written(&mut output, &oracle, before.2, size)?;
     if number >= 0 {
         let sheet = &output.slice()[..size];
@@ -145,7 +152,20 @@ fn sampling(random: &mut Random, call: &requests::Call) -> Found {
     Ok(number)
 }
 
-/// Check; the request inside a sheet that it accepts must give that sheet.
+/// The sheet with an empty name, in the newest edition, of a sheet of edition 1;
+/// any other as it is.
+fn renewed(sheet: &[u8], count: usize) -> Vec<u8> {
+    let mut renewed = sheet.to_vec();
+    let end = 8 * count + CORE;
+    if sheet.len() == 8 * count + Edition::One.frame() {
+        renewed.splice(end..end, [0; NAME]);
+        renewed[end + NAME + 8] = Edition::NEWEST.number() as u8;
+    }
+    renewed
+}
+
+/// Check; the request inside a sheet that it accepts must give that sheet, or for
+/// edition 1 the same with an empty name.
 fn checking(random: &mut Random, call: &sheets::Call) -> Found {
     let mut sheet = Lent::holding(random, &call.sheet);
     let mut work = Lent::rubbish(random, call.work);
@@ -154,13 +174,14 @@ fn checking(random: &mut Random, call: &sheets::Call) -> Found {
     demand(sheet.same(&before.0), "the sheet was written to")?;
     cleared(&work, before.1)?;
     let expected = check(&call.sheet, &mut vec![0.5; call.work]);
-    let most = call.sheet.len().saturating_sub(FRAME) / 8;
-    answers(number, expected, most, [31, 36])?;
-    if number >= 0 {
-        let inside = &call.sheet[8 * number as usize..][..request::SIZE];
-        let mut again = vec![0x5A; call.sheet.len()];
-        let count = linked::sheet::sample(inside, work.slice(), &mut again);
-        let same = count == number && again == call.sheet;
+    let most = call.sheet.len().saturating_sub(Edition::One.frame()) / 8;
+    answers(number, expected, most, &CHECK)?;
+    if let Ok(count) = usize::try_from(number) {
+        let sheet = renewed(&call.sheet, count);
+        let inside = &sheet[8 * count..][..SIZE];
+        let mut again = vec![0x5A; sheet.len()];
+        let answer = linked::sheet::sample(inside, work.slice(), &mut again);
+        let same = answer == number && again == sheet;
         demand(same, "Sampling does not write what Check accepted")?;
     }
     Ok(number)
@@ -184,7 +205,7 @@ fn finding(random: &mut Random, call: &roots::Call) -> Found {
     let mut oracle = (before.1.clone(), before.2.clone());
     let (values, marks) = (oracle.0.slice(), oracle.1.slice());
     let expected = roots_op(&call.coefficients, lower, upper, values, marks);
-    answers(number, expected, call.result.min(call.kinds), [21, 24])?;
+    answers(number, expected, call.result.min(call.kinds), &ROOTS)?;
     let size = usize::try_from(number).unwrap_or(0);
     written(&mut result, &oracle.0, before.1, size)?;
     written(&mut kinds, &oracle.1, before.2, size)?;

@@ -1,10 +1,13 @@
 //! Writes the example requests and their sheets: examples/NAME.request has the
-//! 264 bytes, examples/NAME.sheet what sampling writes for them. 01's whole
-//! sheet goes to the programs: its request is what make_sheet reads and its
-//! sheet what it writes, and so on for check_sheet.
+//! 296 bytes, examples/NAME.sheet what sampling writes for them. 01's whole sheet
+//! is examples/edition_1.sheet, as edition 1 lays it out; with a name and in
+//! edition 2 it is examples/one_angle, which make_sheet reads and writes, and
+//! examples/by_hand, which docs/FORMAT.md explains. check_sheet reads joint_2 in
+//! edition 1.
 
-use lemongully_oracle::generate::{requests::Draft, sheets};
-use lemongully_oracle::operations::{FRAME, program_output};
+use lemongully_oracle::edition::{CORE, Edition};
+use lemongully_oracle::generate::{names, requests::Draft, sheets};
+use lemongully_oracle::operations::program_output;
 use lemongully_oracle::request::{ARM, FROM, OFFSETS, REFERENCES, ROTATION, SIGNS, SIZE, TO};
 use std::fs;
 use std::io::Result;
@@ -20,9 +23,13 @@ const LIMITS: [[f64; 2]; 6] = [
     [-3.1, 3.1],
 ];
 
-/// A request for such an arm: kind, whether the sixth joint is fixed, rotation
-/// (x, y, z, w), q1 to q3, and the six references.
-fn job(kind: u8, fixed: bool, rotation: [f64; 4], arm: [f64; 3], references: [f64; 6]) -> Draft {
+/// The rotation of the target (x, y, z, w), and the six references.
+const TILTED: [f64; 4] = [0.5, -0.1, 0.7, 0.4];
+const NEAR: [f64; 6] = [0.3, -0.4, 0.9, 0.1, -0.6, 0.2];
+
+/// A request for such an arm: kind, whether the sixth joint is fixed, q1 to q3,
+/// and the weight's name.
+fn job(kind: u8, fixed: bool, arm: [f64; 3], name: &str) -> [u8; SIZE] {
     let mut draft = Draft { bytes: [0; SIZE] };
     draft.bytes[..3].copy_from_slice(&[kind, 1, u8::from(fixed)]);
     draft.bytes[SIGNS..SIGNS + 6].copy_from_slice(&[1, 1, 255, 1, 1, 255]);
@@ -31,51 +38,69 @@ fn job(kind: u8, fixed: bool, rotation: [f64; 4], arm: [f64; 3], references: [f6
             draft.put(position + 8 * index, float);
         }
     };
-    floats(ROTATION, &rotation);
+    floats(ROTATION, &TILTED);
     floats(ARM, &arm);
-    floats(REFERENCES, &references);
+    floats(REFERENCES, &NEAR);
     floats(OFFSETS, &[0.0, 0.0, -0.5, 0.0, 0.0, 0.25]);
     floats(FROM, &LIMITS.map(|[from, _]| from));
     floats(TO, &LIMITS.map(|[_, to]| to));
-    draft
+    draft.bytes[CORE..].copy_from_slice(&names::name(name));
+    draft.bytes
 }
 
-/// The sheet that sampling writes for a request.
-fn sheet_of(request: &[u8; SIZE]) -> Vec<u8> {
-    let (sheet, _) = sheets::written(request).expect("every example is accepted");
+/// The sheet that an edition lays out for a request.
+fn sheet_of(edition: Edition, request: &[u8; SIZE]) -> Vec<u8> {
+    let (sheet, _) = sheets::written(edition, request).expect("every example is accepted");
     sheet
+}
+
+/// Bytes in hexadecimal, 16 to a line.
+fn hexadecimal(bytes: &[u8]) -> String {
+    let line = |bytes: &[u8]| {
+        let digits: Vec<String> = bytes.iter().map(|byte| format!("{byte:02X}")).collect();
+        digits.join(" ") + "\n"
+    };
+    bytes.chunks(16).map(line).collect()
 }
 
 fn main() -> Result<()> {
     let root = Path::new(env!("CARGO_MANIFEST_DIR")).join("..");
-    let tilted = [0.5, -0.1, 0.7, 0.4];
-    let references = [0.3, -0.4, 0.9, 0.1, -0.6, 0.2];
+    let antiqua = "Gully Antiqua Book";
+    let joint_2 = job(2, true, [0.2, 0.0, -0.9], antiqua);
+    let one_angle = sheets::one_angle_named(antiqua);
     let jobs = [
         (
             "joint_1",
-            job(1, false, tilted, [0.0, 0.6, -0.9], references),
+            job(
+                1,
+                false,
+                [0.0, 0.6, -0.9],
+                "Gully Grotesk Semibold Condensed",
+            ),
         ),
-        (
-            "joint_2",
-            job(2, true, tilted, [0.2, 0.0, -0.9], references),
-        ),
+        ("joint_2", joint_2),
         (
             "joints_1_2",
-            job(3, true, tilted, [0.0, 0.0, -0.9], references),
+            job(3, true, [0.0, 0.0, -0.9], "Gully Text Light Italic"),
         ),
+        ("one_angle", one_angle),
     ];
     let examples = root.join("examples");
-    for (name, draft) in jobs {
-        let sheet = sheet_of(&draft.bytes);
-        println!("{name}: {} angles", (sheet.len() - FRAME) / 8);
-        fs::write(examples.join(format!("{name}.request")), draft.bytes)?;
+    for (name, request) in jobs {
+        let sheet = sheet_of(Edition::Two, &request);
+        let count = sheets::count_at(Edition::Two, sheet.len());
+        println!("{name}: {count} angles");
+        fs::write(examples.join(format!("{name}.request")), request)?;
         fs::write(examples.join(format!("{name}.sheet")), sheet)?;
     }
-    let request = sheets::one_angle();
-    let sheet = sheet_of(&request);
+    fs::write(examples.join("by_hand.request"), one_angle)?;
+    fs::write(examples.join("by_hand.hex"), hexadecimal(&one_angle))?;
+    let earlier = sheet_of(Edition::One, &one_angle);
+    fs::write(examples.join("edition_1.sheet"), earlier)?;
     let [make, check] = ["make_sheet", "check_sheet"].map(|name| root.join("crates").join(name));
-    fs::write(make.join("stdin"), request)?;
-    fs::write(make.join("stdout"), &sheet)?;
-    fs::write(check.join("stdin"), &sheet)?;
-    fs::write(check.join("stdout"), program_output(&sheet))
+    fs::write(make.join("stdin"), one_angle)?;
+    fs::write(make.join("stdout"), sheet_of(Edition::Two, &one_angle))?;
+    let earlier = sheet_of(Edition::One, &joint_2);
+    fs::write(check.join("stdin"), &earlier)?;
+    fs::write(check.join("stdout"), program_output(&earlier))
 }

@@ -3,6 +3,7 @@
 
 use super::Random;
 use super::requests::Draft;
+use crate::edition::Edition;
 use crate::float::{self, P};
 use crate::glam::{DMat3, DQuat, DVec3};
 use crate::pose::Pose;
@@ -17,7 +18,7 @@ pub fn stand_at_earlier_angles(draft: &mut Draft, random: &mut Random) {
         draft.put(OFFSETS, 0.0);
         draft.bytes[SIGNS] = 1;
     }
-    let Ok(sampled) = operations::sampled(&draft.bytes) else {
+    let Ok(sampled) = operations::sampled(Edition::NEWEST, &draft.bytes) else {
         return;
     };
     if sampled.angles.len() < 3 {

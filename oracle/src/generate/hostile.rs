@@ -1,13 +1,16 @@
 //! Hostile calls: any bytes, right requests and sheets that were changed, and
 //! lent slices of any length.
 
-use super::{Random, floats, power, requests, roots, sheets};
+use super::{Random, floats, names, power, requests, roots, sheets};
 use crate::corpus::Case;
-use crate::operations::{self, FRAME, PROGRAM_INPUT, PROGRAM_WORK, TRAILER};
+use crate::edition::{CORE, Edition, NAME, TRAILER};
+use crate::operations::{self, PROGRAM_INPUT, PROGRAM_WORK};
 use crate::request::SIZE;
 
-/// Lengths at which an answer changes.
-const BORDERS: [usize; 8] = [0, 263, 264, 265, 279, 280, 281, 288];
+/// Lengths at which an answer changes, or changed in an earlier edition.
+const BORDERS: [usize; 15] = [
+    0, 263, 264, 265, 279, 280, 281, 288, 295, 296, 297, 311, 312, 313, 320,
+];
 
 /// The longest run of random bytes.
 const MOST: usize = 4096;
@@ -27,11 +30,11 @@ pub fn case(seed: u64, index: u64) -> Case {
 /// A call of Sampling.
 fn sampling(random: &mut Random, kinds: &[u8]) -> requests::Call {
     let request = request(random, kinds);
-    let needs = <[u8; SIZE]>::try_from(&request[..])
-        .ok()
-        .and_then(|bytes| operations::sampled(&bytes).ok())
-        .map(|sampled| (sampled.notes.cuts, 8 * sampled.angles.len() + FRAME));
-    let (cuts, size) = needs.unwrap_or((1, FRAME));
+    let frame = Edition::NEWEST.frame();
+    let (cuts, size) = match operations::sampled(Edition::NEWEST, &request) {
+        Ok(sampled) => (sampled.notes.cuts, 8 * sampled.angles.len() + frame),
+        Err(_) => (1, frame),
+    };
     requests::Call {
         request,
         work: length(random, cuts),
@@ -76,6 +79,10 @@ pub fn request(random: &mut Random, kinds: &[u8]) -> Vec<u8> {
     let right = |random: &mut Random| requests::request(random.bits(), 0, kinds);
     let mut bytes = right(random);
     changes(random, &mut bytes, right);
+    // Mostly with a right name, so that what is tested after it counts.
+    if bytes.len() == SIZE && random.below(4) > 0 {
+        bytes[CORE..].copy_from_slice(&names::right(random));
+    }
     bytes
 }
 
@@ -99,15 +106,17 @@ pub fn lengthen(random: &mut Random, bytes: &mut Vec<u8>) {
     let at = random.pick(&[0, bytes.len()]);
     bytes.splice(at..at, more);
     if random.once_in(2) {
-        trailer(bytes, ((length - FRAME) / 8) as u32);
+        let edition = random.pick(&Edition::ALL);
+        sheets::put_trailer(bytes, edition, sheets::count_at(edition, length));
     }
 }
 
-/// A sheet as Sampling writes it, and its cuts.
+/// A sheet as one of the editions lays it out, and its cuts.
 fn right_sheet(random: &mut Random, kinds: &[u8]) -> (Vec<u8>, usize) {
     let kind = random.pick(kinds);
     let request = requests::accepted(random, kind).bytes;
-    sheets::written(&request).unwrap_or_else(|| (request.to_vec(), 1))
+    let edition = random.pick(&Edition::ALL);
+    sheets::written(edition, &request).unwrap_or_else(|| (request.to_vec(), 1))
 }
 
 /// Random bytes of a random length.
@@ -154,7 +163,6 @@ fn changes(random: &mut Random, bytes: &mut Vec<u8>, other: impl Fn(&mut Random)
 /// Makes one change.
 fn change(random: &mut Random, bytes: &mut Vec<u8>, other: &impl Fn(&mut Random) -> Vec<u8>) {
     let size = bytes.len();
-    let count = (size.saturating_sub(FRAME) / 8) as u32;
     match random.below(24) {
         0 => bytes.truncate(random.below(size + 1)),
         1 => bytes.extend(any_bytes(random)),
@@ -166,7 +174,9 @@ fn change(random: &mut Random, bytes: &mut Vec<u8>, other: &impl Fn(&mut Random)
             bytes.extend(&end[random.below(end.len() + 1)..]);
         }
         4 => {
-            // 8n + 280 holds for n modulo 2^29 alone, or for no n.
+            // The length is right for n modulo 2^29 alone, or for no n.
+            let edition = random.pick(&Edition::ALL);
+            let count = sheets::count_at(edition, size);
             let less = count.wrapping_sub(1);
             let counts = [
                 0,
@@ -177,27 +187,20 @@ fn change(random: &mut Random, bytes: &mut Vec<u8>, other: &impl Fn(&mut Random)
                 count + (1 << 29),
                 u32::MAX,
             ];
-            trailer(bytes, random.pick(&counts));
+            sheets::put_trailer(bytes, edition, random.pick(&counts));
         }
         5 if size >= TRAILER => bytes[size - 1 - random.below(TRAILER)] = random.bits() as u8,
         6 | 7 if size > 0 => bytes[random.below(size)] = random.bits() as u8,
         8..=10 if size > 0 => bytes[random.below(size)] ^= 1 << random.below(8),
+        11 if size >= SIZE => {
+            // Where a request has its name, or a sheet.
+            let end = if size == SIZE { size } else { size - TRAILER };
+            names::broken(random, &mut bytes[end - NAME..end]);
+        }
         _ if size >= 8 => {
             let at = 8 * random.below(size / 8);
             bytes[at..at + 8].copy_from_slice(&hard(random).to_le_bytes());
         }
         _ => bytes.push(0),
     }
-}
-
-/// Writes a trailer for this count over the last bytes.
-fn trailer(bytes: &mut [u8], count: u32) {
-    let Some(at) = bytes.len().checked_sub(TRAILER) else {
-        return;
-    };
-    let trailer = &mut bytes[at..];
-    trailer.fill(0);
-    trailer[..4].copy_from_slice(&count.to_le_bytes());
-    trailer[4..8].copy_from_slice(&count.wrapping_mul(8).to_le_bytes());
-    trailer[8] = 1;
 }

@@ -1,10 +1,14 @@
 //! Requests for sampling, accepted and refused.
 
 use super::limits::{self, Joint};
-use super::{Random, aimed, floats, power};
+use super::{Random, aimed, floats, names, power};
+use crate::edition::{CORE, Edition};
 use crate::float::P;
-use crate::operations::{self, FRAME};
+use crate::operations;
 use crate::request::{self, ARM, FROM, OFFSETS, REFERENCES, ROTATION, SIGNS, SIZE, TO};
+
+/// Lengths that no request has: those beside both editions' own, and edition 1's.
+const WRONG: [usize; 9] = [0, 1, 263, 264, 265, 280, 295, 297, 528];
 
 /// A call of sampling: the request and the lent lengths.
 #[derive(Clone, Debug, PartialEq)]
@@ -43,7 +47,7 @@ pub fn request(seed: u64, index: u64, kinds: &[u8]) -> Vec<u8> {
     }
     let mut bytes = draft.bytes.to_vec();
     if random.once_in(80) {
-        bytes.resize(random.pick(&[0, 1, 263, 265, 280, 528]), 0);
+        bytes.resize(random.pick(&WRONG), 0);
     }
     bytes
 }
@@ -57,20 +61,18 @@ pub fn call(seed: u64, index: u64, kinds: &[u8]) -> Call {
         work: 4096,
         output: 32768,
     };
-    let Ok(bytes) = <[u8; SIZE]>::try_from(&plenty.request[..]) else {
-        return plenty;
-    };
-    if random.below(4) > 0 {
+    if plenty.request.len() != SIZE || random.below(4) > 0 {
         return plenty;
     }
-    let Ok(sampled) = operations::sampled(&bytes) else {
+    let Ok(sampled) = operations::sampled(Edition::NEWEST, &plenty.request) else {
         return Call {
             work: 0,
             output: 0,
             ..plenty
         };
     };
-    let (cuts, size) = (sampled.notes.cuts, 8 * sampled.angles.len() + FRAME);
+    let frame = Edition::NEWEST.frame();
+    let (cuts, size) = (sampled.notes.cuts, 8 * sampled.angles.len() + frame);
     let [work, output] = match random.below(5) {
         0 => [cuts.saturating_sub(1), 32768],
         1 => [cuts, size - 1],
@@ -153,6 +155,7 @@ pub fn accepted(random: &mut Random, kind: u8) -> Draft {
         draft.put_bits(FROM + 8 * joint, from);
         draft.put_bits(TO + 8 * joint, to);
     }
+    draft.bytes[CORE..].copy_from_slice(&names::right(random));
     draft
 }
 
@@ -246,7 +249,7 @@ fn spoil(random: &mut Random, draft: &mut Draft) {
         let joint = random.below(6);
         let not_finite = floats::not_finite(random);
         let sign = random.sign();
-        match random.below(7) {
+        match random.below(8) {
             0 => {
                 let position = random.pick(&[0, 1, 2, 3, 10, 11, 12, 13, 14, 15]);
                 draft.bytes[position] = random.pick(&[0, 1, 2, 4, 128, 255]);
@@ -267,6 +270,7 @@ fn spoil(random: &mut Random, draft: &mut Draft) {
                 draft.put(ARM + 8 * random.below(3), sign * beyond);
             }
             5 => draft.put(REFERENCES + 8 * joint, not_finite),
+            6 => names::broken(random, &mut draft.bytes[CORE..]),
             _ => {
                 let beyond = random.pick(&[not_finite, (2.0 * P).next_up(), 7.0, 1.0e300]);
                 draft.put(OFFSETS + 8 * joint, sign * beyond);
