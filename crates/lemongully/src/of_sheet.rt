@@ -1,8 +1,9 @@
-// The C interface: the operations Sampling and Check, their answers by 01's numbers.
+// The C interface: the operations Sampling and Check, their answers by the papers' numbers.
 ghost use mathlib.Core.Path.{_≡_};
 ghost use Prim.Native.Nat.{ℕ, _<_, _^_};
 ghost use lib.ListN.{length};
 ghost use Rattle.sheet.specs.Bytes as Bytes;
+ghost use Rattle.sheet.specs.Edition.{newest};
 ghost use Rattle.sheet.specs.Refusals as Refusals;
 ghost use Rattle.sheet.specs.Sampling as Sampling;
 ghost use Rattle.sheet.specs.Check as Check;
@@ -51,7 +52,7 @@ pub extern "C" fn sheet_sample(request: &[u8], work: &mut [f64], output: &mut [u
 // After every answer each work place is +0.0.
 #[no_mangle]
 pub extern "C" fn sheet_check(sheet: &[u8], work: &mut [f64]) -> i64
-    ensures { λ r. ⌜ r ≡ Refusals.signed (Check.answer (now (sheet .entry)) (length (now (work .entry)))) ⌝ }
+    ensures { λ r. ⌜ r ≡ Refusals.signed (Check.answer newest (now (sheet .entry)) (length (now (work .entry)))) ⌝ }
     ensures { λ _. ⌜ now (work .exit) ≡ Bytes.zeros (length (now (work .entry))) ⌝ }
 {
     let a = check(sheet, work);

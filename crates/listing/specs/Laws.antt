@@ -1,2 +1,3 @@
 -- `Room`: how long a text can be.
+
 pub mod Room

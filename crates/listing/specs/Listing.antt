@@ -4,13 +4,14 @@ use mathlib.Core.Bool.{cond}
 use mathlib.Core.List.{List, [], _∷_, _++_}
 use lib.Dec.{leb, ltb}
 use lib.ListN.{length, drop}
-use Rattle.text.specs.Hex.{spelled}
-use Rattle.text.specs.Decimal.{numbered}
 use Rattle.sheet.specs.Bytes.{little-endian, part}
+use Rattle.sheet.specs.Edition.{newest}
 use Rattle.sheet.specs.Refusals.{Answer, accepted, refused}
 use Rattle.sheet.specs.Sampling.{sheet}
 use Rattle.sheet.specs.Sampling as Sampling
 use Rattle.sheet.specs.Check as Check
+use Rattle.text.specs.Hex.{spelled}
+use Rattle.text.specs.Decimal.{numbered}
 use Rattle.listing.specs.declared.printed.Printed.{Printed}
 use Rattle.listing.specs.declared.printed.Printed.the-variants as printed-case
 
@@ -55,12 +56,12 @@ report a s = head a ++ lines s 0 (count a)
 
 -- what `check_sheet` prints of its input
 unfoldable pub check-text : List ℕ → List ℕ
-check-text s = cond (ltb most (length s)) too-long (report (Check.answer s places) s)
+check-text s = cond (ltb most (length s)) too-long (report (Check.answer newest s places) s)
 
 -- What `make_sheet` writes of a request to standard output, the sheet or nothing, and to standard error, nothing or the refusal.
 -- There is room for so many bytes of a sheet.
 abbrev pub output-by : Answer → List ℕ → List ℕ
-output-by (accepted n) r = sheet r
+output-by (accepted n) r = sheet newest r
 output-by (refused k) r = []
 
 abbrev pub error-by : Answer → List ℕ

@@ -1,10 +1,11 @@
 // Reads a request from standard input and writes its sheet to standard output. On a refusal it
-// writes one line, `refused k` with 01's number, to standard error, and nothing to standard output:
+// writes one line, `refused k` with the papers' number, to standard error, and nothing to standard output:
 // specs/Listing.antt of `listing` defines both. Sampling is lent 4,096 places and 65,536 bytes.
 use libc::STDERR_FILENO;
 use libc::STDIN_FILENO;
 use libc::STDOUT_FILENO;
 use listing::make_text::make_text;
+use sheet::request::REQUEST;
 use text::input::Input;
 use text::input::read;
 use text::report::deliver;
@@ -19,9 +20,11 @@ fn answer(request: &[u8]) {
     deliver(STDERR_FILENO, &error[..line]);
 }
 
-// One byte more than a request has room, so that a longer one is refused.
+// One byte more than a request has, so that a longer one is refused.
+const ROOM: usize = REQUEST + 1;
+
 fn main() {
-    let mut request = [0u8; 265];
+    let mut request = [0u8; ROOM];
     let input = read(STDIN_FILENO, &mut request);
     match input {
         Input::Bytes(n) => answer(&request[..n]),

@@ -27,7 +27,7 @@ pub(crate) const NAME: usize = CORE;
 pub(crate) const NAME_SIZE: usize = 32;
 
 // A request of the newest edition.
-pub(crate) const REQUEST: usize = CORE + NAME_SIZE;
+pub const REQUEST: usize = CORE + NAME_SIZE;
 
 pub(crate) const SIGNS: usize = 4;
 

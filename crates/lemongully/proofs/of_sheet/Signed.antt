@@ -15,6 +15,7 @@ use Rattle.sheet.specs.declared.refusals.Fault.the-variants as fault
 pub number-small : (k : Refusal) → number k < 64
 number-small refusal.Length = omega arith
 number-small refusal.Head = omega arith
+number-small refusal.Name = omega arith
 number-small refusal.Sign = omega arith
 number-small refusal.NotFinite = omega arith
 number-small refusal.Zero = omega arith

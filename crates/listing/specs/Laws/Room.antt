@@ -1,17 +1,21 @@
 -- What `check_sheet` prints has at most 147,456 bytes, which the program lends.
-use Prim.Native.Nat.{ℕ, zero, suc, _+_, _*_, _/_, _%_, _≤_}
+use Prim.Native.Nat.{ℕ, zero, suc, _+_, _*_, _/_, _≤_}
 use native.Mathlib.Omega.{arith}
 use mathlib.Core.Path.{_≡_, refl, sym}
 use mathlib.Core.Bool.{Bool, true, false, cond}
-use mathlib.Core.List.{List, [], _∷_, _++_}
+use mathlib.Core.List.{List, []}
 use lib.Dec.{leb, ltb, lit≤}
 use lib.ListN.{length, length-append}
+use lib.Ieee.Bits.{is-true}
+use lib.Ieee.Fits.{and-r}
 use borrow.Author.Tests.{leb-true, ltb-false}
+use Rattle.sheet.specs.Edition.{newest}
+use Rattle.sheet.specs.Refusals.{Answer, accepted, refused}
+use Rattle.sheet.specs.Demands.{of-check, Among}
+use Rattle.sheet.specs.Laws.Demands.{answers, checked-length}
+use Rattle.sheet.specs.Check as Check
 use Rattle.text.specs.Decimal.{figures}
 use Rattle.text.specs.Laws.Stores.{length-spelled}
-use Rattle.sheet.specs.Refusals.{Answer, accepted, refused, need}
-use Rattle.sheet.specs.Check as Check
-use Rattle.sheet.specs.Laws.Demands.{checked-length}
 use Rattle.listing.specs.Listing.{places, most, too-long, item, lines, report, check-text, printed}
 use Rattle.listing.specs.declared.printed.Printed.the-variants.{Length, Short}
 
@@ -30,36 +34,20 @@ unfolding lines
 length-lines s i zero = refl
 length-lines s i (suc n) = simp (length-append, length-spelled 16 (item s i), length-lines s (suc i) n) (omega arith)
 
--- ---- 01's numbers
-abbrev Numbered : Answer → Type 0
-Numbered (accepted n) = Unit {0}
-Numbered (refused k) = k ≤ 36
-
-need-numbered : (b : Bool) (k : ℕ) (a : Answer) → k ≤ 36 → Numbered a → Numbered (need b k a)
-unfolding need
-need-numbered true k a h g = g
-need-numbered false k a h g = h
-
-check-numbered : (s : List ℕ) (w : ℕ) → Numbered (Check.answer s w)
-unfolding Check.answer
-check-numbered s w =
-    need-numbered _ 31 _ (lit≤ tt) (need-numbered _ 32 _ (lit≤ tt) (need-numbered _ 33 _ (lit≤ tt)
-    (need-numbered _ 34 _ (lit≤ tt) (need-numbered _ 35 _ (lit≤ tt) (need-numbered _ 36 (accepted (Check.count-of s)) (lit≤ tt) tt)))))
-
 -- ---- the text
-length-report : (s : List ℕ) (a : Answer) → length s ≤ most → a ≡ Check.answer s places → Numbered a → length (report a s) ≤ 147456
+length-report : (s : List ℕ) (a : Answer) → length s ≤ most → a ≡ Check.answer newest s places → Among of-check a → length (report a s) ≤ 147456
 length-report s (accepted n) h e g =
-    simp length-append (omega (arith, length-figures (suc n) n, length-lines s 0 n, checked-length s places n (sym e)))
+    simp length-append (omega (arith, length-figures (suc n) n, length-lines s 0 n, checked-length newest s places n (sym e)))
 length-report s (refused k) h e g =
-    simp length-append (omega (arith, length-figures (suc k) k, length-lines s 0 0))
+    simp length-append (omega (arith, leb-true k 36 (is-true (leb k 36) (and-r (leb 31 k) (leb k 36) g)), length-figures (suc k) k, length-lines s 0 0))
 
 pub room-suffices : (s : List ℕ) → length (check-text s) ≤ 147456
 unfolding check-text
 room-suffices s = go (ltb most (length s)) refl
   where
-    go : (b : Bool) → b ≡ ltb most (length s) → length (cond b too-long (report (Check.answer s places) s)) ≤ 147456
+    go : (b : Bool) → b ≡ ltb most (length s) → length (cond b too-long (report (Check.answer newest s places) s)) ≤ 147456
     go true e = lit≤ tt
-    go false e = length-report s (Check.answer s places) (ltb-false most (length s) (sym e)) refl (check-numbered s places)
+    go false e = length-report s (Check.answer newest s places) (ltb-false most (length s) (sym e)) refl (answers .check newest s places)
 
 -- what is counted was lent
 pub printed-within : (t : List ℕ) (room n : ℕ) → Length n ≡ printed t room → n ≤ room

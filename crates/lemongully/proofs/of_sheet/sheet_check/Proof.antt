@@ -5,6 +5,7 @@ use lib.ListN.{length}
 use borrow.Author.Needs.{needs}
 use mir.Syntax.{w64}
 use mir.ValLaws.{toZ-ofZ}
+use Rattle.sheet.specs.Edition.{newest}
 use Rattle.sheet.specs.Laws.Demands.{checked-length}
 use Rattle.sheet.specs.Refusals.{signed}
 use Rattle.lemongully.proofs.of_sheet.sheet_check.Statement.{statement}
@@ -17,7 +18,7 @@ checked-number-requires : tie.Need-checked-number-requires
 checked-number-requires c κs n e =
     let m = c .before .before in
     let s = m .before .before .before .before in
-    omega (arith, checked-length (s .args .sheet .now) (length (s .args .work .now)) n (sym (m .check .ensures .0) ∙ e), s .good)
+    omega (arith, checked-length newest (s .args .sheet .now) (length (s .args .work .now)) n (sym (m .check .ensures .0) ∙ e), s .good)
 
 same-length : tie.Need-same-length
 same-length c = search needs

@@ -1,9 +1,11 @@
 -- `listing::make_text::make_text` meets its contract.
-use Prim.Native.Nat.{_+_, _*_, _≤_}
+use Prim.Native.Nat.{_≤_}
 use native.Mathlib.Omega.{arith}
 use mathlib.Core.Path.{_≡_, sym, ap, _∙_}
 use lib.ListN.{length}
 use borrow.Author.Needs.{needs}
+use Rattle.sheet.specs.Edition.{newest}
+use Rattle.sheet.specs.Sheet.{sheet-size}
 use Rattle.sheet.specs.Refusals.{accepted, refused}
 use Rattle.sheet.specs.Sampling.{answer, answer-of}
 use Rattle.sheet.specs.Laws.Accepted.{answer-room}
@@ -22,7 +24,7 @@ accepts c = sym (c .before .before .before .before .before .before .sample .ensu
 
 room : (c : tie.After-known-told) →
     let a = c .before .before .before .before .before .before .before .before .before .before .before .before .args in
-    8 * c .before .a .given .0 .0 + 280 ≤ length (a .output .now)
+    sheet-size newest (c .before .a .given .0 .0) ≤ length (a .output .now)
 room c = answer-room _ _ _ _ (accepts c)
 
 slice-aggregate-sample : tie.Need-slice-aggregate-sample
