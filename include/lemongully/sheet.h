@@ -22,19 +22,24 @@ extern "C" {
 #endif
 
 enum {
-    SHEET_REQUEST_SIZE = 264, /* bytes of a request */
-    SHEET_FIXED_SIZE = 280,   /* bytes of a sheet beside its angles: request and trailer */
+    SHEET_EDITION = 2,        /* of new sheets; those of edition 1 are still checked */
+    SHEET_REQUEST_SIZE = 296, /* bytes of a request */
+    SHEET_NAME = 264,         /* where its name stands, the last 32 bytes of it */
+    SHEET_NAME_SIZE = 32,
+    SHEET_FIXED_SIZE = 312,   /* bytes of a sheet beside its angles: request and trailer */
+    SHEET_FIXED_SIZE_1 = 280, /* and of one of edition 1, whose request has 264 bytes and no name */
     SHEET_PLACES_ONE = 2544,  /* work places that do for every request of kind 1 or 2 */
     SHEET_PLACES_TWO = 175618 /* and of kind 3; an ordinary one takes some hundreds */
 };
 
-/* Bytes of a sheet of n angles. */
+/* Bytes of a new sheet of n angles. */
 #define SHEET_SIZE(n) (8 * (size_t)(n) + SHEET_FIXED_SIZE)
 
 /* What Sampling refuses; it returns minus the number. */
 enum {
-    SHEET_LENGTH = 1,     /* the request is not 264 bytes */
+    SHEET_LENGTH = 1,     /* the request is not 296 bytes */
     SHEET_HEAD = 2,       /* kind, a flag or a reserved byte */
+    SHEET_NAME_BYTE = 41, /* the name is not characters 32 to 126 and then zeros; before 3 */
     SHEET_SIGN = 3,       /* a read sign is neither 1 nor 255 */
     SHEET_NOT_FINITE = 4, /* the rotation or its length is infinite or a NaN */
     SHEET_ZERO = 5,       /* the rotation's length is 0 */
@@ -49,8 +54,8 @@ enum {
 /* What Check refuses. */
 enum {
     SHEET_CHECK_LENGTH = 31,  /* fewer than 280 bytes */
-    SHEET_CHECK_TRAILER = 32, /* the length or the trailer */
-    SHEET_CHECK_REQUEST = 33, /* Sampling refuses the request inside by 2 to 9 */
+    SHEET_CHECK_TRAILER = 32, /* the edition, the length or the trailer */
+    SHEET_CHECK_REQUEST = 33, /* the request inside meets one of 2 to 9 or 41 */
     SHEET_CHECK_UNREAD = 34,  /* an unread field is not zero */
     SHEET_CHECK_WORK = 35,    /* too few work places */
     SHEET_CHECK_ANGLES = 36   /* the angles or their number are others */
@@ -63,8 +68,9 @@ int64_t sheet_sample(const uint8_t *request, size_t request_length,
                      double *work, size_t work_length,
                      uint8_t *output, size_t output_length);
 
-/* Check: returns n if the sheet is the one that Sampling writes for the request inside it, or minus a
- * refusal. After every answer each place of work is +0.0. */
+/* Check: returns n if the sheet is the one that its edition, 1 or 2, lays out for the request inside
+ * it (for edition 2, the one that Sampling writes), or minus a refusal. After every answer each place
+ * of work is +0.0. */
 int64_t sheet_check(const uint8_t *sheet, size_t sheet_length,
                     double *work, size_t work_length);
 

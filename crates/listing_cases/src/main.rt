@@ -2,8 +2,9 @@
 //
 // A line of standard input is the mark I and words, each a space and 16 capital hexadecimal digits:
 // how many bytes the input has, how many words of it are stored, and these words, eight bytes each in
-// their order; what is not stored is zero. In this order: 01's whole sheet, 17 angles, a changed
-// angle (36), no byte (31), 65,536 bytes (32), and one more (too long).
+// their order; what is not stored is zero. In this order: 01's whole sheet, the same job with a name
+// in edition 2, 01's sheet that says edition 2 (32), 17 angles, a changed angle (36), no byte (31),
+// 65,536 bytes (32), and one more (too long).
 use libc::STDERR_FILENO;
 use libc::STDIN_FILENO;
 use libc::STDOUT_FILENO;

@@ -127,3 +127,10 @@ ByNameAlone =
     → (angles r ≡ angles s)
     × (name-right r ≡ name-right s → (places room : ℕ) → answer r places room ≡ answer s places room)
     × (sheet newest r ≡ sheet newest s → ⊥)
+
+-- One job in both editions: the first 264 bytes of a request have its angles, and with a right name edition 1 answers for them what the newest answers for it.
+abbrev pub Unnamed : Type 0
+Unnamed =
+    (r : List ℕ) → length r ≡ request-size newest
+    → (angles (take core-size r) ≡ angles r)
+    × (name-right r ≡ true → (places : ℕ) → before-output One (take core-size r) places ≡ before-output newest r places)

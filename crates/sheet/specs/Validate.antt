@@ -1,4 +1,5 @@
--- The tests that a request must pass: refusals 1 to 8 (01, Sampling) and 41 (02, change 2). An unread field passes every test, and NaN is within no range. Definitions only.
+-- The tests that a request must pass: refusals 1 to 8 (01, Sampling) and 41 (02, change 2). An unread field passes every test, and NaN is within no range.
+-- Definitions only.
 use Prim.Native.Nat.{ℕ, zero, suc}
 use mathlib.Core.List.{List, [], _∷_}
 use mathlib.Core.Bool.{Bool, true, false, cond, _&&_, _||_}

@@ -19,12 +19,14 @@ use Rattle.sheet.specs.Bytes.{little-endian, part, float-at}
 use Rattle.sheet.specs.Request.{core-size, request-size, name-at, name-size, shape-of, reads, place, last, width, byte-read, Agree, AgreeFields, blank}
 use Rattle.sheet.specs.declared.edition.Edition.{Edition}
 use Rattle.sheet.specs.Laws.Places.{place-most, byte-is, byte-first, byte-always, byte-name, core-least, named-most}
+use Rattle.sheet.specs.Laws.Bytes.{length-part}
 use Rattle.sheet.specs.Laws.Blank.{length-blank, getD-blank}
 
--- two lists of one length whose bytes agree over a stretch have the same stretch
-pub stretch : (r s : List ℕ) (at n : ℕ) → length r ≡ length s → ((i : ℕ) → at ≤ i → i < at + n → getD r i 0 ≡ getD s i 0) → part at n r ≡ part at n s
+-- two lists whose bytes agree over a stretch, of which both have as much, have the same stretch
+pub stretch : (r s : List ℕ) (at n : ℕ) → length (part at n r) ≡ length (part at n s) → ((i : ℕ) → at ≤ i → i < at + n → getD r i 0 ≡ getD s i 0)
+    → part at n r ≡ part at n s
 stretch r s at n e h =
-    ext-getD 0 (part at n r) (part at n s) (simp (length-take, length-drop) (rw e))
+    ext-getD 0 (part at n r) (part at n s) e
     (λ i l.
     let k : i < n = omega (arith, simp (length-take, length-drop) at l) in
     rw (getD-take n (drop at r) i 0 k, getD-take n (drop at s) i 0 k, getD-drop at r i 0, getD-drop at s i 0) (h (at + i) (omega arith) (omega arith)))
@@ -42,13 +44,18 @@ one-of r s at n i e a b =
 
 -- in all that is read before the name
 pub record Core (r s : List ℕ) : Type 0 where
-  pub long : length r ≡ length s
+  pub least : core-size ≤ length r
+  pub least' : core-size ≤ length s
   pub same : (i : ℕ) → i < core-size → T (byte-read (shape-of r) i) → getD r i 0 ≡ getD s i 0
 
 pub core-of : {e : Edition} {r s : List ℕ} → Agree e r s → Core r s
-core-of g = record { long = g .whole ∙ sym (g .whole'); same = λ i h t. g .same i t }
+core-of {e} g =
+    record { least = omega (arith, g .whole, core-least e); least' = omega (arith, g .whole', core-least e); same = λ i h t. g .same i t }
 
 module _ (r s : List ℕ) (g : Core r s) where
+  pub as-much : (at n : ℕ) → at + n ≤ core-size → length (part at n r) ≡ length (part at n s)
+  as-much at n h = length-part at n r (omega (arith, g .least)) ∙ sym (length-part at n s (omega (arith, g .least')))
+
   pub same-first : (i : ℕ) → i < 4 → getD r i 0 ≡ getD s i 0
   same-first i h = g .same i (omega arith) (yes-of (byte-first (shape-of r) i h))
 
@@ -61,7 +68,7 @@ module _ (r s : List ℕ) (g : Core r s) where
 
   pub same-part : (f : Field) (j : ℕ) → 1 ≤ j → j ≤ last f → T (reads (shape-of r) f j) → part (place f j) (width f) r ≡ part (place f j) (width f) s
   same-part f j a b t =
-      stretch r s (place f j) (width f) (g .long)
+      stretch r s (place f j) (width f) (as-much (place f j) (width f) (place-most f j a b))
       (λ i c d. g .same i (omega (arith, place-most f j a b)) (subst⁻¹ T (byte-is (shape-of r) f j i a b c d) t))
 
   -- a sign
@@ -77,7 +84,7 @@ module _ (r s : List ℕ) (g : Core r s) where
   -- a part of the rotation
   pub same-rotation : (at : ℕ) → 16 ≤ at → at + 8 ≤ 48 → float-at r at ≡ float-at s at
   same-rotation at a b = ap (λ (l : List ℕ). ofBits binary64 (little-endian l))
-      (stretch r s at 8 (g .long) (λ k c d. same-always k (omega arith) (omega arith)))
+      (stretch r s at 8 (as-much at 8 (omega arith)) (λ k c d. same-always k (omega arith) (omega arith)))
 
 by-fields : {e : Edition} (r s : List ℕ) → Agree e r s → AgreeFields e r s
 by-fields r s g =
@@ -85,11 +92,12 @@ by-fields r s g =
     record {
       whole = g .whole;
       whole' = g .whole';
-      head = stretch r s 0 4 (k .long) (λ i a b. same-first r s k i (omega arith));
-      reserved = stretch r s 10 6 (k .long) (λ i a b. same-always r s k i a (omega arith));
-      rotation = stretch r s 16 32 (k .long) (λ i a b. same-always r s k i (omega arith) b);
+      head = stretch r s 0 4 (as-much r s k 0 4 (omega arith)) (λ i a b. same-first r s k i (omega arith));
+      reserved = stretch r s 10 6 (as-much r s k 10 6 (omega arith)) (λ i a b. same-always r s k i a (omega arith));
+      rotation = stretch r s 16 32 (as-much r s k 16 32 (omega arith)) (λ i a b. same-always r s k i (omega arith) b);
       field = same-part r s k;
-      name = stretch r s name-at name-size (k .long) (λ i a b. g .same i (yes-of (byte-name (shape-of r) i a)));
+      name = stretch r s name-at name-size (simp (length-take, length-drop) (rw (g .whole, g .whole')))
+          (λ i a b. g .same i (yes-of (byte-name (shape-of r) i a)));
     }
 
 -- ---- field by field

@@ -1,19 +1,20 @@
 -- Two requests that agree in all that is read have the same angles, and the same answers; the name alters neither.
 use Prim.Native.Nat.{ℕ, _≤_}
 use native.Mathlib.Omega.{arith}
-use mathlib.Core.Path.{_≡_, refl, ap, subst, _∙_}
+use mathlib.Core.Path.{_≡_, refl, sym, ap, subst, _∙_}
 use mathlib.Core.List.{List, map}
 use mathlib.Core.Bool.{Bool, true, false, _&&_, false≢true}
 use lib.ListN.{length}
-use lib.Dec.{T, leb}
+use lib.Dec.{T, eqb, leb}
 use lib.Ieee.{toBits, binary64}
 use lib.Ieee.Fits.{and-i}
+use borrow.Author.Tests.{eq-eqb}
 use Rattle.float.specs.Laws.Tests.{and-left}
 use Rattle.sampling.specs.Reads.{joint-read, reference-read, arm-read, SameJoint, SameRead}
 use Rattle.sheet.specs.declared.request.Shape.{Shape}
 use Rattle.sheet.specs.declared.request.Shape.the-variants.{Bad, Right}
 use Rattle.sheet.specs.declared.request.Field.the-variants.{Sign, Arm, Reference, Offset, From, To}
-use Rattle.sheet.specs.Request.{shape-of, reads}
+use Rattle.sheet.specs.Request.{request-size, shape-of, reads}
 use Rattle.sheet.specs.Fields.{sign-of, joint-at, arm-of, kind-of, limited-of, fixed-of, job-of, matrix}
 use Rattle.sheet.specs.Refusals.{Answer, accepted, need}
 use Rattle.sheet.specs.Validate.{right, head-right, name-right, validate}
@@ -103,21 +104,26 @@ module _ (r s : List ℕ) (g : Core r s) where
   unfolding validate need
   validate-wrong e v u h = rw h
 
-  -- two requests that agree before the name, both names right or both wrong, get the same refusal, or go on alike
-  by-work-same : name-right r ≡ name-right s → (e : Edition) (places : ℕ) (v u : Answer) → (head-right r ≡ true → v ≡ u)
-      → by-work e r places v ≡ by-work e s places u
+  -- two requests that agree before the name, as requests of editions whose lengths and names are both right, or both wrong, get the same refusal, or go on
+  -- alike
+  by-work-same : (e e′ : Edition) → eqb (length r) (request-size e) ≡ eqb (length s) (request-size e′) → name-right r ≡ name-right s → (places : ℕ)
+      → (v u : Answer) → (head-right r ≡ true → v ≡ u) → by-work e r places v ≡ by-work e′ s places u
   unfolding by-work by-request
-  by-work-same n e places v u h = go (head-right r) refl ∙ validate-same r s g n e _
+  by-work-same e e′ l n places v u h = go (head-right r) refl ∙ validate-same r s g e e′ l n _
     where
       go : (b : Bool) → head-right r ≡ b
           → validate e r (need (holds r) 9 (need (leb (cut-count r) places) 10 v)) ≡ validate e r (need (holds s) 9 (need (leb (cut-count s) places) 10 u))
       go true q = rw (holds-same q, cuts-same q, h q)
       go false q = validate-wrong e _ _ q
 
-  pub answer-same : name-right r ≡ name-right s → (places room : ℕ) → answer r places room ≡ answer s places room
+  pub answer-same : length r ≡ length s → name-right r ≡ name-right s → (places room : ℕ) → answer r places room ≡ answer s places room
   unfolding answer
-  answer-same n places room =
-      by-work-same n newest places _ _ (λ h. ap (λ (l : List ℕ). need (leb (sheet-size newest (length l)) room) 11 (accepted (length l))) (items-same h))
+  answer-same l n places room =
+      by-work-same newest newest (rw l) n places _ _
+      (λ h. ap (λ (l : List ℕ). need (leb (sheet-size newest (length l)) room) 11 (accepted (length l))) (items-same h))
 
-  pub before-same : name-right r ≡ name-right s → (e : Edition) (places : ℕ) → before-output e r places ≡ before-output e s places
-  before-same n e places = by-work-same n e places _ _ (λ h. ap (λ (l : List ℕ). accepted (length l)) (items-same h))
+  pub before-same : (e e′ : Edition) → length r ≡ request-size e → length s ≡ request-size e′ → name-right r ≡ name-right s → (places : ℕ)
+      → before-output e r places ≡ before-output e′ s places
+  before-same e e′ l l′ n places =
+      by-work-same e e′ (eq-eqb (length r) (request-size e) l ∙ sym (eq-eqb (length s) (request-size e′) l′)) n places _ _
+      (λ h. ap (λ (l : List ℕ). accepted (length l)) (items-same h))

@@ -19,7 +19,8 @@ use Rattle.sheet.specs.Refusals.{Answer, accepted, refused, need}
 use Rattle.sheet.specs.Sheet.{trailer, trailer-size, frame-size, items-bound, sheet-size}
 use Rattle.sheet.specs.Sampling.{angles, items, cut-count, by-request, by-work, answer, before-output, sheet, output-after}
 use Rattle.sheet.specs.Check.{trailer-of, count-of, edition-of, request-of, items-of, formed, meets-none, clean}
-use Rattle.sheet.specs.Demands.{of-sampling, of-check, Among, Answers, Leaves, Counted, Faithful, OtherEdition, Written, Sound, Complete, Exact, Few, SameAnswer, SameAngles, SameSheet, Together}
+use Rattle.sheet.specs.Demands.{of-sampling, of-check, Among, Answers, Leaves, Counted, Faithful, OtherEdition, Written, Sound, Complete, Exact, Few}
+use Rattle.sheet.specs.Demands.{SameAnswer, SameAngles, SameSheet, Together}
 use Rattle.sheet.specs.Promises.Plan.{compared, checked}
 use Rattle.sheet.specs.declared.edition.Edition.{Edition}
 use Rattle.sheet.specs.declared.edition.Said.{Said}
@@ -201,12 +202,14 @@ own-edition e r places n q =
     let p = before-passed e r places n q in
     let h = few-items r in
     let own : Agree e r (blank r) = agree-own e r (p .whole) in
-    let a : items-of e (sheet e r) ≡ words-bytes (items (blank r)) = items-in e r (p .whole) ∙ ap words-bytes (items-same r (blank r) (core-of own) (p .head)) in
+    let a : items-of e (sheet e r) ≡ words-bytes (items (blank r)) =
+    items-in e r (p .whole) ∙ ap words-bytes (items-same r (blank r) (core-of own) (p .head)) in
+    let b = before-same r (blank r) (core-of own) e e (own .whole) (own .whole') (name-same r (blank r) own) places in
     let c : count-of (sheet e r) ≡ n = count-in e r (p .whole) h ∙ sym (before-count e r places n q) in
     edition-formed e (sheet e r) places (formed-in e r (p .whole) h)
     ∙ ap (λ (x : List ℕ). checked e x (items-of e (sheet e r)) (count-of (sheet e r)) places) (request-in e r (p .whole))
     ∙ ap (λ (l : List ℕ). checked e (blank r) l (count-of (sheet e r)) places) a
-    ∙ checked-own e (blank r) (count-of (sheet e r)) n places (sym (before-same r (blank r) (core-of own) (name-same r (blank r) own) e places) ∙ q) (blank-twice e r (p .whole))
+    ∙ checked-own e (blank r) (count-of (sheet e r)) n places (sym b ∙ q) (blank-twice e r (p .whole))
     ∙ ap accepted c
 
 pub complete : Complete
@@ -235,7 +238,7 @@ exact upto s places n = (
 -- ---- demand 3
 
 pub same-answer : SameAnswer
-same-answer r s g places room = answer-same r s (core-of g) (name-same r s g) places room
+same-answer r s g places room = answer-same r s (core-of g) (g .whole ∙ sym (g .whole')) (name-same r s g) places room
 
 pub same-angles : SameAngles
 same-angles r s g h = angles-same r s (core-of g) h

@@ -5,22 +5,23 @@ use native.Mathlib.Omega.{arith}
 use mathlib.Core.Path.{_≡_, refl, sym, ap, _∙_}
 use mathlib.Core.List.{List}
 use mathlib.Core.Bool.{Bool, true, false}
-use lib.ListN.{length, getD, drop-of-length-le}
-use lib.Seq.{getD-take}
+use lib.ListN.{length, take, getD, drop-of-length-le}
+use lib.Seq.{getD-take, take-take, length-take-le}
 use lib.Dec.{eqb, leb}
 use lib.Ieee.{ofBits, binary64}
-use borrow.Author.Tests.{eqb-true}
+use borrow.Author.Tests.{eqb-true, eq-eqb}
 use Rattle.sheet.specs.Bytes.{little-endian, float-at}
 use Rattle.sheet.specs.Edition.{number, newest, known}
-use Rattle.sheet.specs.Request.{core-size, request-size, place, shape-of}
+use Rattle.sheet.specs.Request.{core-size, request-size, place}
 use Rattle.sheet.specs.Fields.{joint-at, rotation-of, arm-of, job-of}
 use Rattle.sampling.specs.Pose.{try-normalize}
-use Rattle.sheet.specs.Validate.{head-right, is-name, name-right, signs-right, rotation-finite, rotation-nonzero, arm-within, references-finite, offsets-within, validate}
+use Rattle.sheet.specs.Validate.{head-right, is-name, name-right, signs-right, rotation-finite, rotation-nonzero, arm-within, references-finite}
+use Rattle.sheet.specs.Validate.{offsets-within, validate}
 use Rattle.sheet.specs.Refusals.{Answer, accepted, refused, need}
 use Rattle.sheet.specs.Sheet.{trailer, trailer-size}
 use Rattle.sheet.specs.Sampling.{angles, sheet}
 use Rattle.sheet.specs.Check.{edition-of, formed, by-said, by-edition}
-use Rattle.sheet.specs.Demands.{EarlierRefuses, OlderAsBefore, NameAlone, ByNameAlone}
+use Rattle.sheet.specs.Demands.{EarlierRefuses, OlderAsBefore, ByNameAlone, Unnamed}
 use Rattle.sheet.specs.declared.edition.Edition.{Edition}
 use Rattle.sheet.specs.declared.edition.Edition.the-variants.{One, Two}
 use Rattle.sheet.specs.declared.edition.Said.{Said}
@@ -28,8 +29,8 @@ use Rattle.sheet.specs.declared.edition.Said.the-variants.{Known, Unknow
 use Rattle.sheet.specs.declared.request.Field.the-variants.{Sign, Reference, Offset, From, To}
 use Rattle.sheet.specs.Laws.Places.{core-least, place-fits}
 use Rattle.sheet.specs.Laws.Validate.{one-name}
-use Rattle.sheet.specs.Laws.Agree.{Core, stretch}
-use Rattle.sheet.specs.Laws.Alike.{answer-same}
+use Rattle.sheet.specs.Laws.Agree.{Core, as-much, same-shape, stretch}
+use Rattle.sheet.specs.Laws.Alike.{answer-same, before-same}
 use Rattle.sheet.specs.Laws.Check.{answer-unknown, known-number, known-said, known-upto, edition-unformed, formed-edition}
 use Rattle.sheet.specs.Laws.Accepted.{answer-passed}
 use Rattle.sheet.specs.Laws.Written.{size, says}
@@ -127,22 +128,16 @@ base-tests r v = without (eqb (length r) core-size) (head-right r) (name-right r
 
 -- ---- the name
 
-module _ (r s : List ℕ) (g : NameAlone r s) where
+-- two requests with the same first 264 bytes
+module _ (r s : List ℕ) (a : core-size ≤ length r) (b : core-size ≤ length s) (q : take core-size r ≡ take core-size s) where
   byte : (i : ℕ) → i < core-size → getD r i 0 ≡ getD s i 0
-  byte i h = sym (getD-take core-size r i 0 h) ∙ ap (λ (l : List ℕ). getD l i 0) (g .core) ∙ getD-take core-size s i 0 h
-
-  long : length r ≡ length s
-  long = g .whole ∙ sym (g .whole')
+  byte i h = sym (getD-take core-size r i 0 h) ∙ ap (λ (l : List ℕ). getD l i 0) q ∙ getD-take core-size s i 0 h
 
   core : Core r s
-  core = record { long = long; same = λ i h t. byte i h }
+  core = record { least = a; least' = b; same = λ i h t. byte i h }
 
   float : (at : ℕ) → at + 8 ≤ core-size → float-at r at ≡ float-at s at
-  float at h = ap (λ (l : List ℕ). ofBits binary64 (little-endian l)) (stretch r s at 8 long (λ i a b. byte i (omega arith)))
-
-  shape-alike : shape-of r ≡ shape-of s
-  unfolding shape-of
-  shape-alike = rw (byte 0 (omega arith), byte 1 (omega arith), byte 2 (omega arith))
+  float at h = ap (λ (l : List ℕ). ofBits binary64 (little-endian l)) (stretch r s at 8 (as-much r s core at 8 h) (λ i c d. byte i (omega arith)))
 
   rotation-alike : rotation-of r ≡ rotation-of s
   unfolding rotation-of
@@ -154,20 +149,20 @@ module _ (r s : List ℕ) (g : NameAlone r s) where
 
   joint-alike : (j : ℕ) → 1 ≤ j → j ≤ 6 → joint-at r j ≡ joint-at s j
   unfolding joint-at
-  joint-alike j a b =
+  joint-alike j c d =
       rw (
-        byte (place Sign j) (omega (arith, place-fits Sign j a b)),
-        float (place Offset j) (place-fits Offset j a b),
-        float (place Reference j) (place-fits Reference j a b),
-        float (place From j) (place-fits From j a b),
-        float (place To j) (place-fits To j a b),
+        byte (place Sign j) (omega (arith, place-fits Sign j c d)),
+        float (place Offset j) (place-fits Offset j c d),
+        float (place Reference j) (place-fits Reference j c d),
+        float (place From j) (place-fits From j c d),
+        float (place To j) (place-fits To j c d),
       )
 
   job-alike : job-of r ≡ job-of s
   unfolding job-of
   job-alike =
       rw (
-        shape-alike,
+        same-shape r s core,
         rotation-alike,
         arm-alike,
         joint-alike 1 (omega arith) (omega arith),
@@ -181,8 +176,22 @@ module _ (r s : List ℕ) (g : NameAlone r s) where
   unfolding angles
   angles-alike = ap Angles.angles job-alike
 
-  sheets-differ : sheet newest r ≡ sheet newest s → ⊥
-  sheets-differ q = g .names (one-name r s (sheets-agree newest r s (g .whole) (g .whole') q))
-
 pub by-name-alone : ByNameAlone
-by-name-alone r s g = (angles-alike r s g, answer-same r s (core r s g), sheets-differ r s g)
+by-name-alone r s g =
+    let a : core-size ≤ length r = omega (arith, g .whole) in
+    let b : core-size ≤ length s = omega (arith, g .whole') in (
+      angles-alike r s a b (g .core),
+      answer-same r s (core r s a b (g .core)) (g .whole ∙ sym (g .whole')),
+      λ e. g .names (one-name r s (sheets-agree newest r s (g .whole) (g .whole') e)),
+    )
+
+pub unnamed : Unnamed
+unnamed r w =
+    let s = take core-size r in
+    let a : core-size ≤ length r = omega (arith, w) in
+    let l : length s ≡ core-size = length-take-le core-size r a in
+    let q : take core-size s ≡ take core-size r = take-take core-size core-size r (omega arith) in
+    let b : core-size ≤ length s = omega (arith, l) in (
+      angles-alike s r b a q,
+      λ n. before-same s r (core s r b a q) One newest l w (no-name s (eq-eqb (length s) core-size l) ∙ sym n),
+    )

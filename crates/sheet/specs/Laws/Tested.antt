@@ -23,7 +23,8 @@ use Rattle.sheet.specs.declared.validate.Tested.{Tested}
 use Rattle.sheet.specs.Request.{request-size, shape-of, reads, last}
 use Rattle.sheet.specs.Fields.{field, rotation-of}
 use Rattle.sheet.specs.Refusals.{Answer, accepted, refused, need, number}
-use Rattle.sheet.specs.Validate.{all-from, head-right, name-right, signs-right, rotation-finite, rotation-nonzero, passes, field-right, fields-right, within, arm-within, references-finite, offsets-within, validate}
+use Rattle.sheet.specs.Validate.{all-from, head-right, name-right, signs-right, rotation-finite, rotation-nonzero, passes, field-right, fields-right}
+use Rattle.sheet.specs.Validate.{within, arm-within, references-finite, offsets-within, validate}
 use Rattle.sheet.specs.Promises.Tested.{tested-fields, tested-rotation, tested, after, Passed}
 use Rattle.sheet.specs.declared.refusals.Refusal.the-variants as refusal
 use Rattle.sheet.specs.declared.validate.Tested.the-variants as tests
@@ -65,7 +66,8 @@ validate-passed e r n v h =
 -- and behind the tests comes what was to come
 pub passed-validate : (e : Edition) (r : List ℕ) (v : Answer) → Passed e r → validate e r v ≡ v
 unfolding validate need
-passed-validate e r v p = rw (eq-eqb (length r) (request-size e) (p .whole), p .head, p .name, p .signs, p .rotation, p .nonzero, p .arm, p .references, p .offsets)
+passed-validate e r v p =
+    rw (eq-eqb (length r) (request-size e) (p .whole), p .head, p .name, p .signs, p .rotation, p .nonzero, p .arm, p .references, p .offsets)
 
 -- ---- the tests as the code makes them
 

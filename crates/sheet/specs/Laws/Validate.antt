@@ -4,15 +4,16 @@ use native.Mathlib.Omega.{arith}
 use mathlib.Core.Path.{_≡_, refl, ap}
 use mathlib.Core.List.{List}
 use mathlib.Core.Bool.{Bool, true, false, cond, _||_}
-use lib.ListN.{getD, drop, length-drop}
+use lib.ListN.{length, getD, drop, length-drop}
 use lib.Seq.{ext-getD, getD-drop}
 use lib.Dec.{T, eqb}
 use Rattle.sheet.specs.declared.request.Field.{Field}
 use Rattle.sheet.specs.declared.request.Field.the-variants.{Sign, Arm, Reference, Offset}
-use Rattle.sheet.specs.Request.{name-at, shape-of, reads, place, last, width, Agree}
+use Rattle.sheet.specs.Request.{request-size, name-at, shape-of, reads, place, last, width, Agree}
 use Rattle.sheet.specs.declared.edition.Edition.{Edition}
 use Rattle.sheet.specs.Fields.{field, rotation-of}
-use Rattle.sheet.specs.Validate.{all-from, zero-at, head-right, is-name, name-right, sign-right, signs-right, passes, field-right, fields-right, arm-within, references-finite, offsets-within, validate}
+use Rattle.sheet.specs.Validate.{all-from, zero-at, head-right, is-name, name-right, sign-right, signs-right, passes, field-right, fields-right}
+use Rattle.sheet.specs.Validate.{arm-within, references-finite, offsets-within, validate}
 use Rattle.sheet.specs.Refusals.{Answer}
 use Rattle.sheet.specs.Laws.Places.{byte-name}
 use Rattle.float.specs.Laws.Le.{yes-of}
@@ -77,10 +78,12 @@ module _ (r s : List ℕ) (g : Core r s) where
   unfolding offsets-within
   offsets-same = fields-same Offset refl
 
-  -- two requests that agree before the name and whose names are both right, or both wrong, meet the same of refusals 1 to 8 and 41
-  pub validate-same : name-right r ≡ name-right s → (e : Edition) (v : Answer) → validate e r v ≡ validate e s v
+  -- two requests that agree before the name, as requests of editions whose lengths and names are both right, or both wrong, meet the same of refusals 1 to 8
+  -- and 41
+  pub validate-same : (e e′ : Edition) → eqb (length r) (request-size e) ≡ eqb (length s) (request-size e′) → name-right r ≡ name-right s → (v : Answer)
+      → validate e r v ≡ validate e′ s v
   unfolding validate
-  validate-same n e v = rw (g .long, head-same, n, signs-same, rotation-same, arm-same, references-same, offsets-same)
+  validate-same e e′ l n v = rw (l, head-same, n, signs-same, rotation-same, arm-same, references-same, offsets-same)
 
 -- requests that agree have one name
 pub one-name : {e : Edition} (r s : List ℕ) → Agree e r s → drop name-at r ≡ drop name-at s

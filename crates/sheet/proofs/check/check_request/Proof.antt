@@ -47,7 +47,8 @@ compare-requires c =
     let g = tested-passed _ _ _ e in
     let w = c .before .before .before .before .before .before .before .before .before .before .before .before .before .before .args .work .now in
     let f = planned-for _ g (p .result) w (p .last .0) (p .ensures .0) (p .ensures .1) (p .kept .0) in
-    λ κs. (omega (arith, g .whole, core-least (c .before .before .before .before .before .before .before .before .before .before .before .before .before .before .args .e)), (f, sym (c .before .before .is-refused .ensures) ∙ c .before .if1 .left))
+    let l = core-least (c .before .before .before .before .before .before .before .before .before .before .before .before .before .before .args .e) in
+    λ κs. (omega (arith, g .whole, l), (f, sym (c .before .before .is-refused .ensures) ∙ c .before .if1 .left))
 
 enum-told : tie.Need-enum-told
 enum-told c = search needs

@@ -19,7 +19,9 @@ known-requires : tie.Need-known-requires
 known-requires c = search needs
 
 returns : tie.Need-returns
-returns c = c .known .ensures ∙ ap (known newest) (c .before .pair .ensures ∙ edition-at (c .before .before .before .args .sheet .now) (c .before .before .before .pre))
+returns c =
+    let s = c .before .before .before in
+    c .known .ensures ∙ ap (known newest) (c .before .pair .ensures ∙ edition-at (s .args .sheet .now) (s .pre))
 
 pub edition-of-spec : {M : Type 1} → statement M
 edition-of-spec = tie.close (tie.spec sub-at add-pair pair-requires known-requires returns)

@@ -18,7 +18,8 @@ add-if1 c = search needs
 returns : tie.Need-returns
 returns c =
     let s = c .before .before .before in
-    formed-no (s .args .e) (s .args .sheet .now) (s .args .n) (s .pre .1 .0) (λ q. c .if1 .taken (q ∙ ap (λ (k : ℕ). 8 * s .args .n + k) (sym (c .before .frame-size .ensures .0))))
+    let f = ap (λ (k : ℕ). 8 * s .args .n + k) (sym (c .before .frame-size .ensures .0)) in
+    formed-no (s .args .e) (s .args .sheet .now) (s .args .n) (s .pre .1 .0) (λ q. c .if1 .taken (q ∙ f))
 
 returns-2 : tie.Need-returns-2
 returns-2 c =
@@ -51,5 +52,5 @@ returns-3 c =
     ∙ formed-by (s .args .e) (s .args .sheet .now) _ _ (s .args .n) (s .pre .1 .0) l f refl (c .before .before .before .put-trailer .ensures)
 
 pub formed-spec : {M : Type 1} → statement M
-formed-spec = tie.close (tie.spec mul-if1 frame-size-requires add-if1 returns returns-2 slice-aggregate-put-trailer put-trailer-requires sub-same-at slice-aggregate-same-at
-    same-at-requires returns-3)
+formed-spec = tie.close (tie.spec mul-if1 frame-size-requires add-if1 returns returns-2 slice-aggregate-put-trailer put-trailer-requires sub-same-at
+    slice-aggregate-same-at same-at-requires returns-3)

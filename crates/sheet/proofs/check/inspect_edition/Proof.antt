@@ -71,7 +71,8 @@ returns-2 c =
     let k = d .frame-size .ensures .0 in
     let i = request-is (a .e) s _ _ (omega (arith, formed-length (a .e) s f)) (ap (λ (m : ℕ). length s - m) k) refl in
     let j = ap (λ (m : ℕ). take (length s - m) s) k in (
-      r .0 ∙ ap (λ (q : List ℕ). checked (a .e) q (take (length s - d .frame-size .result) s) (n .result) p) i ∙ ap (λ (q : List ℕ). checked (a .e) (request-of (a .e) s) q (n .result) p) j
+      r .0 ∙ ap (λ (q : List ℕ). checked (a .e) q (take (length s - d .frame-size .result) s) (n .result) p) i
+          ∙ ap (λ (q : List ℕ). checked (a .e) (request-of (a .e) s) q (n .result) p) j
           ∙ ap (λ (m : ℕ). checked (a .e) (request-of (a .e) s) (items-of (a .e) s) m p) (n .ensures .0)
           ∙ sym (edition-formed (a .e) s p f),
       r .1 ∙ ap (λ (q : List ℕ). work-left (a .e) q (a .work .now)) i ∙ left-formed s (a .work .now) (a .e) f,

@@ -45,4 +45,5 @@ returns c =
     (lay-sheet newest (a .request .now) (a .output .now) (to-come (a .plan) (a .work .now) start) (a .n) (s .pre .0) (s .pre .1 .1 .0))
 
 pub fill-spec : {M : Type 1} → statement M
-fill-spec = tie.close (tie.spec put-angles-requires mul-put-blank put-blank-requires mul-put-trailer add-put-trailer newest-requires put-trailer-requires same-length returns)
+fill-spec = tie.close (tie.spec put-angles-requires mul-put-blank put-blank-requires mul-put-trailer add-put-trailer newest-requires put-trailer-requires
+    same-length returns)

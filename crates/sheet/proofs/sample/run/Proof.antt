@@ -71,5 +71,5 @@ returns-2 c =
     (refused-answer (a .request .now) _ (length (a .work .now)) (length (a .output .now)) e, (refl, left-refused newest (a .request .now) _ (a .work .now) e))
 
 pub run-spec : {M : Type 1} → statement M
-run-spec = tie.close (tie.spec newest-requires validate-requires enum-known-t plan-request-requires finish-requires enum-known-t-2 same-length same-length-2 returns
-    returns-2)
+run-spec = tie.close (tie.spec newest-requires validate-requires enum-known-t plan-request-requires finish-requires enum-known-t-2 same-length same-length-2
+    returns returns-2)

@@ -44,4 +44,5 @@ returns c =
     rw (c .before .before .put4 .ensures, z, d .edition-number .ensures, y, x) (lay-trailer (a .e) (a .out .now) (a .at) (a .n))
 
 pub put-trailer-spec : {M : Type 1} → statement M
-put-trailer-spec = tie.close (tie.spec put-requires add-put mul-put put-requires-2 add-put-2 edition-number-requires put-requires-3 add-put-3 put-requires-4 same-length returns)
+put-trailer-spec = tie.close (tie.spec put-requires add-put mul-put put-requires-2 add-put-2 edition-number-requires put-requires-3 add-put-3 put-requires-4
+    same-length returns)
