@@ -38,13 +38,20 @@ module _ (upto : Edition) (s : List ℕ) (places : ℕ) (h : core-size + trailer
   unfolding answer by-said need
   answer-known e k = rw (le-leb (core-size + trailer-size) (length s) h, k)
 
--- an edition is known by its number
-pub known-number : (upto e : Edition) → number e ≤ number upto → known upto (number e) ≡ Known e
-unfolding known numbered
-known-number One One h = refl
-known-number One Two h = absurd (omega arith)
-known-number Two One h = refl
-known-number Two Two h = refl
+-- an edition is known by its number, unless it is later than the newest known
+numbered-own : (e : Edition) → numbered (number e) ≡ Known e
+unfolding numbered
+numbered-own One = refl
+numbered-own Two = refl
+
+module _ (upto e : Edition) where
+  pub known-number : number e ≤ number upto → known upto (number e) ≡ Known e
+  unfolding known
+  known-number h = rw (le-leb (number e) (number upto) h, numbered-own e)
+
+  pub not-known : number upto < number e → known upto (number e) ≡ Unknown
+  unfolding known
+  not-known h = rw (lt-leb (number e) (number upto) h)
 
 -- and it has the number that it is known by, which is that of the newest known at most
 said-number : (e : Edition) (k : ℕ) (b c : Bool) → (b ≡ true → k ≡ number One) → (c ≡ true → k ≡ number Two)

@@ -31,7 +31,7 @@ use Rattle.sheet.specs.Laws.Places.{core-least, place-fits}
 use Rattle.sheet.specs.Laws.Validate.{one-name}
 use Rattle.sheet.specs.Laws.Agree.{Core, as-much, same-shape, stretch}
 use Rattle.sheet.specs.Laws.Alike.{answer-same, before-same}
-use Rattle.sheet.specs.Laws.Check.{answer-unknown, known-number, known-said, known-upto, edition-unformed, formed-edition}
+use Rattle.sheet.specs.Laws.Check.{answer-unknown, known-number, not-known, known-said, known-upto, edition-unformed, formed-edition}
 use Rattle.sheet.specs.Laws.Accepted.{answer-passed}
 use Rattle.sheet.specs.Laws.Written.{size, says}
 use Rattle.sheet.specs.Laws.Demands.{sound, exact, sheets-agree}
@@ -39,13 +39,6 @@ use Rattle.sampling.specs.Angles as Angles
 use Rattle.sheet.specs.Check as Check
 
 -- ---- sheets of a later edition
-
-not-known : (upto e : Edition) → number upto < number e → known upto (number e) ≡ Unknown
-unfolding known
-not-known One One h = absurd (omega arith)
-not-known One Two h = refl
-not-known Two One h = absurd (omega arith)
-not-known Two Two h = absurd (omega arith)
 
 pub later-refused : (upto e : Edition) → number upto < number e → (r : List ℕ) → length r ≡ request-size e → (places : ℕ)
     → Check.answer upto (sheet e r) places ≡ refused 32
