@@ -113,14 +113,14 @@ pub record OlderAsBefore : Type 0 where
   pub answers : (s : List ℕ) (places : ℕ) → edition-of s ≡ number One → Check.answer newest s places ≡ Check.answer One s places
   pub accepts : (s : List ℕ) (places n : ℕ) → Check.answer One s places ≡ accepted n → Check.answer newest s places ≡ accepted n
 
--- Two requests that differ in the name alone, both names right or both wrong: the same angles, the same answer with equally long work and output, different
--- sheets.
+-- two requests that differ in the name alone
 pub record NameAlone (r s : List ℕ) : Type 0 where
   pub whole : length r ≡ request-size newest
   pub whole' : length s ≡ request-size newest
   pub core : take core-size r ≡ take core-size s
   pub names : drop name-at r ≡ drop name-at s → ⊥
 
+-- They have the same angles; with equally long work and output the same answer, if both names are right or both wrong; and different sheets.
 abbrev pub ByNameAlone : Type 0
 ByNameAlone =
     (r s : List ℕ) → NameAlone r s

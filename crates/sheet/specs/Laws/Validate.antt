@@ -31,7 +31,7 @@ guarded true p x y h = ap p (h tt)
 guarded false p x y h = refl
 
 module _ (r s : List ℕ) (g : Core r s) where
-  pub head-same : head-right r ≡ head-right s
+  head-same : head-right r ≡ head-right s
   unfolding head-right
   head-same =
       rw (
