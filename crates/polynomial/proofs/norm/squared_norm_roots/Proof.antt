@@ -9,7 +9,8 @@ use Rattle.float.specs.Trig.{P}
 use Rattle.float.specs.Laws.Zero.{zero-bits}
 use Rattle.float.specs.Laws.Literals.{one-bits, P-bits}
 use Rattle.polynomial.specs.Laws.Nine.{norm-front}
-use Rattle.polynomial.proofs.norm.Sides.{Half, half-of, half-refused, half-held, half-count, half-angles, half-room, left-refused, right-refused, both-counted}
+use Rattle.polynomial.proofs.norm.Sides.{Half, half-of, half-refused, half-held, half-count, half-angles, half-room, left-refused}
+use Rattle.polynomial.proofs.norm.Sides.{right-refused, both-counted}
 use Rattle.polynomial.proofs.norm.squared_norm_roots.Statement.{statement}
 use Rattle.polynomial.proofs.norm.squared_norm_roots.Tie as tie
 

@@ -15,7 +15,7 @@ rem-euclid-requires-3 : tie.Need-rem-euclid-requires-3
 rem-euclid-requires-3 c = search needs
 
 returns : tie.Need-returns
-unfolding arc ofBits
+unfolding ofBits
 returns c = simp (← c .before .before .rem-euclid .ensures, ← c .before .rem-euclid2 .ensures, ← c .rem-euclid3 .ensures)
 
 pub arc-spec : {M : Type 1} → statement M
