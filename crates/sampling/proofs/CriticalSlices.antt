@@ -1,29 +1,31 @@
 -- Laws of the cuts that curves give, for the loops over them: one more root, one more curve.
-use Prim.Native.Nat.{ℕ, suc, _+_, _-_, _≤_, _<_}
+use Prim.Native.Nat.{ℕ, zero, suc, _+_, _-_, _≤_, _<_}
+use native.Mathlib.Nat.{not-suc-le-zero, le-of-suc-le-suc}
 use native.Mathlib.Omega.{arith}
 use native.Mathlib.Numerals.{add-one}
 use mathlib.Core.Path.{_≡_, refl, sym, ap, subst, _∙_}
-use mathlib.Core.Bool.{Bool, true, false, _&&_}
-use mathlib.Core.List.{List, [], _∷_, _++_, map}
-use lib.ListN.{length, take, getD, replicate, length-append, length-map, length-replicate}
-use lib.Seq.{slice, slice-cons, slice-empty}
+use mathlib.Core.Bool.{Bool, _&&_, and-true}
+use mathlib.Core.List.{List, [], _∷_, _++_, map, flatMap, map-append, append-nil}
+use lib.ListN.{length, take, getD, set, replicate, length-append, length-map, length-replicate}
+use lib.Seq.{slice, slice-cons, slice-empty, take-suc, take-suc-set, length-take-le, getD-take}
 use lib.Ieee.{Float, nan, neg}
 use Rattle.float.specs.Number.{_⊕_, _⊗_, one-float, two-float}
 use Rattle.float.specs.Trig.{atan}
 use Rattle.polynomial.specs.Curve.{numerator, harmonic-a, harmonic-b, harmonic-c}
 use Rattle.polynomial.specs.Polynomial.{zero-pair, nine, add, multiply, determinant}
+use Rattle.polynomial.specs.Promises.Lists.{All}
+use Rattle.polynomial.specs.Laws.Lists.{all-append}
 use Rattle.polynomial.specs.Laws.Nine.{add-front, multiply-front, determinant-front, numerator-front}
 use Rattle.polynomial.specs.declared.compensated.Compensated.{Compensated}
 use Rattle.polynomial.specs.declared.curve.Curve.{Curve}
 use Rattle.polynomial.specs.declared.cuts.Put.{Put}
 use Rattle.polynomial.specs.declared.curve.Harmonic.{Harmonic}
 use Rattle.polynomial.specs.declared.curve.Numerators.{Numerators}
-use Rattle.sampling.specs.CriticalSlices.{angles, chart-roots, chart-holds, critical, critical-holds}
-use Rattle.sampling.specs.CriticalSlices.{Polynomials, polynomials, squares, tangency, intersection}
-use Rattle.sampling.specs.Promises.Meetings.{meetings, meetings-hold}
-use Rattle.sampling.specs.Laws.CriticalSlices.{critical-nil, critical-cons, critical-holds-nil, critical-holds-cons}
+use Rattle.sampling.specs.CriticalSlices.{angles, chart-roots, chart-holds, charts-hold, critical, critical-holds, Polynomials, polynomials}
+use Rattle.sampling.specs.CriticalSlices.{all-polynomials, squares, tangency, intersection}
+use Rattle.sampling.specs.Laws.CriticalSlices.{roots-append, hold-append, critical-more, critical-holds-more}
 use Rattle.sampling.specs.Promises.Grown.{Grown}
-use Rattle.sampling.specs.Promises.Numerators.{first-three}
+use Rattle.sampling.specs.Promises.Numerators.{first-three, first-threes, Threes, meetings}
 use Rattle.sampling.specs.declared.critical_slices.Chart.{Chart}
 use Rattle.sampling.proofs.Grown.{then}
 
@@ -63,9 +65,6 @@ squares-front s p q r n h a b c e =
     let k : add (take m (nine sum)) (take m (nine rr)) (neg one-float) ≡ add (add pp qq one-float) rr (neg one-float) = rw (w, x, y, z) in
     add-front s (nine sum) (nine rr) m (neg one-float) (e ∙ ap nine (sym k)) (long sum) (long rr) ∙ k
 
-abbrev pub Threes : Numerators → Type 0
-Threes k = (3 ≤ length (k .a)) × (3 ≤ length (k .b)) × (3 ≤ length (k .c))
-
 tangency-front : (k : Numerators) (p : List Compensated) → Threes k → p ≡ nine (tangency (first-three k)) → take 5 p ≡ tangency (first-three k)
 unfolding tangency
 tangency-front k p t e = squares-front p (k .a) (k .b) (k .c) 3 (omega arith) (t .0) (t .1) (t .2) e
@@ -99,85 +98,90 @@ numerators-are r q origin e =
     let z = numerator-front (r .c) (harmonic-c q) origin (e .2) in
     λ i. record { a = x i; b = y i; c = z i }
 
--- the polynomials of a curve, where the code has its numerators
-module _ (r : Numerators) (q : Curve) (origin : Float) (e : Are r q origin) where
-  threes : Threes r
-  threes =
-      let long : (x l : List Compensated) → x ≡ nine l → 3 ≤ length x = λ x l g. rw g (omega (arith, nine-long l)) in
-      let n : Harmonic → List Compensated = λ h. numerator h origin in
-      (long (r .a) (n (harmonic-a q)) (e .0), long (r .b) (n (harmonic-b q)) (e .1), long (r .c) (n (harmonic-c q)) (e .2))
+threes : (r : Numerators) (q : Curve) (origin : Float) → Are r q origin → Threes r
+threes r q origin e =
+    let long : (x l : List Compensated) → x ≡ nine l → 3 ≤ length x = λ x l g. rw g (omega (arith, nine-long l)) in
+    let n : Harmonic → List Compensated = λ h. numerator h origin in
+    (long (r .a) (n (harmonic-a q)) (e .0), long (r .b) (n (harmonic-b q)) (e .1), long (r .c) (n (harmonic-c q)) (e .2))
 
-  pub intersection-is : (k : Numerators) (p : List Compensated) → Threes k
-      → p ≡ nine (intersection (first-three k) (first-three r)) → take 9 p ≡ intersection (first-three k) (polynomials q origin)
-  intersection-is k p t f = intersection-front k r p t threes f ∙ ap (intersection (first-three k)) (numerators-are r q origin e)
+-- the polynomials of curves, kept
+pub record Known (origin : Float) (r : List Numerators) (l : List Curve) : Type 0 where
+  pub long : All Threes r
+  pub are : first-threes r ≡ all-polynomials origin l
 
--- a curve alone and with later ones, where the code has its numerators
-module _ (c : Chart) (r : Numerators) (q : Curve) (later : List Curve) (p : List Compensated) (e : Are r q (c .origin))
-    (f : p ≡ nine (tangency (first-three r))) where
-  abbrev k : Polynomials
-  k = polynomials q (c .origin)
+pub known-none : {origin : Float} → Known origin [] []
+known-none = record { long = tt; are = refl }
 
-  are : first-three r ≡ k
-  are = numerators-are r q (c .origin) e
+pub known-more : (origin : Float) (r : List Numerators) (l : List Curve) (j : ℕ) (k : Numerators) (d : Curve) → j < length r → j < length l
+    → Are k (getD l j d) origin → Known origin (take j r) (take j l) → Known origin (take (j + 1) (set r j k)) (take (j + 1) l)
+known-more origin r l j k d h g e f =
+    let q = getD l j d in
+    let x = map-append first-three (take j r) (k ∷ []) in
+    let y = map-append (λ (z : Curve). polynomials z origin) (take j l) (q ∷ []) in
+    let own = numerators-are k q origin e in
+    rw (add-one, take-suc-set r j k h, take-suc l j d g)
+    (record {
+      long = all-append Threes (take j r) (k ∷ []) (f .long) (threes k q origin e, tt);
+      are = x ∙ (λ i. f .are i ++ (own i ∷ [])) ∙ sym y;
+    })
 
-  front : take 5 p ≡ tangency (first-three r)
-  front = tangency-front r p (threes r q (c .origin) e) f
+-- ---- an earlier curve more with the same later one
 
-  pub both-hold : (g h : Bool) → g ≡ chart-holds c (take 5 p) → h ≡ meetings-hold c (first-three r) later
-      → (g && h) ≡ (chart-holds c (tangency k) && meetings-hold c k later)
-  both-hold g h x y = rw (x, y, front, are)
+all-at : {A : Type 0} (P : A → Type 0) (l : List A) (i : ℕ) (d : A) → All P l → i < length l → P (getD l i d)
+all-at P [] i d a h = absurd (not-suc-le-zero h)
+all-at P (x ∷ l) zero d a h = a .0
+all-at P (x ∷ l) (suc i) d a h = all-at P l i d (a .1) (le-of-suc-le-suc h)
 
-  pub both-grown : {w w′ w″ : List Float} {s s′ s″ : Put}
-      → Grown (chart-roots c (take 5 p)) w s w′ s′ → Grown (meetings c (first-three r) later) w′ s′ w″ s″
-      → Grown (chart-roots c (tangency k) ++ meetings c k later) w s w″ s″
-  both-grown {w} {w′} {w″} {s} {s′} {s″} x y =
-      then
-      (subst (λ (z : List Compensated). Grown (chart-roots c z) w s w′ s′) (front ∙ ap tangency are) x)
-      (subst (λ (z : Polynomials). Grown (meetings c z later) w′ s′ w″ s″) are y)
+module _ (c : Chart) (l : List Numerators) (i n : ℕ) (d k : Numerators) (h : i < n) (b : n ≤ length l) (ts : All Threes (take n l)) (t : Threes k)
+    (p : List Compensated) (f : p ≡ nine (intersection (first-three (getD l i d)) (first-three k))) where
+  abbrev met : ℕ → List (List Compensated)
+  met m = meetings (first-threes (take m l)) (first-three k)
 
-module _ (c : Chart) (l : List Curve) (i n : ℕ) (d : Curve) (h : i < n) (b : n ≤ length l) where
-  module _ (k : Polynomials) where
-    pub meetings-next : meetings c k (slice i n l) ≡ chart-roots c (intersection k (polynomials (getD l i d) (c .origin))) ++ meetings c k (slice (i + 1) n l)
-    unfolding meetings
-    meetings-next = rw (add-one, slice-cons i n l d h b)
+  front-met : take 9 p ≡ intersection (first-three (getD l i d)) (first-three k)
+  front-met =
+      let s = all-at Threes (take n l) i d ts (omega (arith, length-take-le n l b)) in
+      intersection-front (getD l i d) k p (rw (← getD-take n l i d h) s) t f
 
-    pub meetings-hold-next : meetings-hold c k (slice i n l)
-        ≡ (chart-holds c (intersection k (polynomials (getD l i d) (c .origin))) && meetings-hold c k (slice (i + 1) n l))
-    unfolding meetings-hold
-    meetings-hold-next = rw (add-one, slice-cons i n l d h b)
+  met-more : met (i + 1) ≡ met i ++ (take 9 p ∷ [])
+  met-more =
+      let e = getD l i d in
+      let x = map-append first-three (take i l) (e ∷ []) in
+      let y = map-append (λ (z : Polynomials). intersection z (first-three k)) (first-threes (take i l)) (first-three e ∷ []) in
+      rw (add-one, take-suc l i d (omega arith), x, front-met) y
 
-  pub critical-next :
-      critical c (slice i n l)
-      ≡ (chart-roots c (tangency (polynomials (getD l i d) (c .origin))) ++ meetings c (polynomials (getD l i d) (c .origin))
-      (slice (i + 1) n l)) ++ critical c (slice (i + 1) n l)
-  critical-next = rw (add-one, slice-cons i n l d h b) (critical-cons c (getD l i d) (slice (suc i) n l))
+  pub met-hold : (x y : Bool) → x ≡ charts-hold c (met i) → y ≡ chart-holds c (take 9 p) → (x && y) ≡ charts-hold c (met (i + 1))
+  unfolding charts-hold
+  met-hold x y e g = rw (e, g, met-more, hold-append c (met i) (take 9 p ∷ []), and-true (chart-holds c (take 9 p)))
 
-  pub critical-holds-next :
-      critical-holds c (slice i n l)
-      ≡ ((chart-holds c (tangency (polynomials (getD l i d) (c .origin))) && meetings-hold c (polynomials (getD l i d) (c .origin))
-      (slice (i + 1) n l)) && critical-holds c (slice (i + 1) n l))
-  critical-holds-next = rw (add-one, slice-cons i n l d h b) (critical-holds-cons c (getD l i d) (slice (suc i) n l))
+  pub met-grown : {w w′ w″ : List Float} {s s′ s″ : Put} → Grown (flatMap (chart-roots c) (met i)) w s w′ s′ → Grown (chart-roots c (take 9 p)) w′ s′ w″ s″
+      → Grown (flatMap (chart-roots c) (met (i + 1))) w s w″ s″
+  unfolding flatMap
+  met-grown {w} {w′} {w″} {s} {s′} {s″} x y =
+      let e = ap (flatMap (chart-roots c)) met-more ∙ roots-append c (met i) (take 9 p ∷ [])
+      ∙ ap (λ (z : List Float). flatMap (chart-roots c) (met i) ++ z) (append-nil (chart-roots c (take 9 p))) in
+      subst (λ (z : List Float). Grown z w s w″ s″) (sym e) (then x y)
 
--- one more part of what has to hold
-pub holds-next : (h g x y z w : Bool) → (h && z) ≡ w → z ≡ (x && y) → g ≡ x → ((h && g) && y) ≡ w
-holds-next true g x y z w p q r = ap (λ (b : Bool). b && y) r ∙ sym q ∙ p
-holds-next false g x y z w p q r = p
+-- ---- a curve more: alone, and with each earlier one
 
-pub holds-end : (h y w : Bool) → (h && y) ≡ w → y ≡ true → h ≡ w
-holds-end true y w p q = sym q ∙ p
-holds-end false y w p q = p
+module _ (c : Chart) (l : List Curve) (r : List Numerators) (j : ℕ) (d : Curve) (h : j < length l) (known : Known (c .origin) (take j r) (take j l))
+    (k : Numerators) (e : Are k (getD l j d) (c .origin)) (p : List Compensated) (f : p ≡ nine (tangency (first-three k))) where
+  abbrev own : Polynomials
+  own = polynomials (getD l j d) (c .origin)
 
-module _ (c : Chart) (l : List Curve) (i n : ℕ) (e : i ≡ n) where
-  pub meetings-end : (k : Polynomials) → meetings c k (slice i n l) ≡ []
-  unfolding meetings
-  meetings-end k = rw (e, slice-empty n l)
+  front-own : take 5 p ≡ tangency own
+  front-own = tangency-front k p (threes k (getD l j d) (c .origin) e) f ∙ ap tangency (numerators-are k (getD l j d) (c .origin) e)
 
-  pub meetings-hold-end : (k : Polynomials) → meetings-hold c k (slice i n l) ≡ true
-  unfolding meetings-hold
-  meetings-hold-end k = rw (e, slice-empty n l)
+  met-own : meetings (first-threes (take j r)) (first-three k) ≡ meetings (all-polynomials (c .origin) (take j l)) own
+  met-own = λ i. meetings (known .are i) (numerators-are k (getD l j d) (c .origin) e i)
 
-  pub critical-end : critical c (slice i n l) ≡ []
-  critical-end = rw (e, slice-empty n l) (critical-nil c)
+  pub critical-hold : (x y z : Bool) → x ≡ critical-holds c (take j l) → y ≡ chart-holds c (take 5 p)
+      → z ≡ charts-hold c (meetings (first-threes (take j r)) (first-three k)) → (x && (y && z)) ≡ critical-holds c (take (j + 1) l)
+  critical-hold x y z a b g = rw (add-one, take-suc l j d h, a, b, g, front-own, met-own) (sym (critical-holds-more c (take j l) (getD l j d)))
 
-  pub critical-holds-end : critical-holds c (slice i n l) ≡ true
-  critical-holds-end = rw (e, slice-empty n l) (critical-holds-nil c)
+  pub critical-grown : {w w′ w″ w‴ : List Float} {s s′ s″ s‴ : Put} → Grown (critical c (take j l)) w s w′ s′ → Grown (chart-roots c (take 5 p)) w′ s′ w″ s″
+      → Grown (flatMap (chart-roots c) (meetings (first-threes (take j r)) (first-three k))) w″ s″ w‴ s‴ → Grown (critical c (take (j + 1) l)) w s w‴ s‴
+  critical-grown {w} {w′} {w″} {w‴} {s} {s′} {s″} {s‴} x y z =
+      let new = chart-roots c (take 5 p) ++ flatMap (chart-roots c) (meetings (first-threes (take j r)) (first-three k)) in
+      let e : critical c (take (j + 1) l) ≡ critical c (take j l) ++ new =
+      rw (add-one, take-suc l j d h, front-own, met-own) (critical-more c (take j l) (getD l j d)) in
+      subst (λ (g : List Float). Grown g w s w‴ s‴) (sym e) (then x (then y z))

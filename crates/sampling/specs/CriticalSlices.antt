@@ -1,8 +1,11 @@
 -- The cuts of joint 1 at the intersections and the vertical tangencies of curves: `critical_slices` of j1j2free.rs (01, module 6). Beside each
 -- list stands whether no inner call of the root finder on the way is refused; a refused call gives no angle. Definitions only.
 -- Between two neighbouring cuts the curves keep their order, so what joint 2 may do does not change: one value of joint 1 stands for all of them.
+use Prim.Native.Nat.{ℕ}
 use mathlib.Core.Bool.{Bool, true, _&&_, cond}
-use mathlib.Core.List.{List, [], _∷_, _++_, map, flatMap}
+use mathlib.Core.List.{List, [], _∷_, map, flatMap}
+use lib.Dec.{eqb}
+use lib.ListN.{length, getD}
 use lib.Ieee.{Float, neg}
 use Rattle.float.specs.Number.{_⊕_, _⊖_, _⊗_, _⊘_, middle, one-float, two-float}
 use Rattle.float.specs.Trig.{tan, atan}
@@ -11,6 +14,7 @@ use Rattle.polynomial.specs.Roots.{roots}
 use Rattle.polynomial.specs.Curve.{numerator, harmonic-a, harmonic-b, harmonic-c, inner-holds}
 use Rattle.polynomial.specs.declared.compensated.Compensated.{Compensated}
 use Rattle.polynomial.specs.declared.curve.Curve.{Curve}
+use Rattle.sampling.specs.Pairs.{order}
 use Rattle.sampling.specs.declared.critical_slices.Chart.{Chart}
 
 -- The chart u = tan((q1 - origin) / 2) of a half of joint 1's interval: its origin and its bounds. A half, so that u
@@ -57,15 +61,27 @@ intersection k l =
     let sine-numerator = determinant (k .c) (l .a) (l .c) (k .a) in
     squares cosine-numerator sine-numerator denominator
 
--- The polynomials that the root finder is asked about, in order: each curve's tangency, then its intersection with each later one, so that no pair comes twice.
-unfoldable pub calls : Float → List Curve → List (List Compensated)
-calls origin [] = []
-calls origin (k ∷ later) =
-    tangency (polynomials k origin) ∷ (map (λ l. intersection (polynomials k origin) (polynomials l origin)) later ++ calls origin later)
+-- a curve's polynomials, by its place; the order has no place past the list
+abbrev pub nowhere : Polynomials
+nowhere = record { a = []; b = []; c = [] }
+
+abbrev pub at : List Polynomials → ℕ → Polynomials
+at ks i = getD ks i nowhere
+
+-- what the root finder is asked at a place of the order: (j, j) is curve j's own tangency, (i, j) the intersection of the curves i and j
+unfoldable pub asked : List Polynomials → ℕ × ℕ → List Compensated
+asked ks p = cond (eqb (p .0) (p .1)) (tangency (at ks (p .1))) (intersection (at ks (p .0)) (at ks (p .1)))
+
+-- the polynomials that it is asked about, in order
+unfoldable pub calls : List Polynomials → List (List Compensated)
+calls ks = map (asked ks) (order (length ks))
+
+abbrev pub all-polynomials : Float → List Curve → List Polynomials
+all-polynomials origin curves = map (λ k. polynomials k origin) curves
 
 -- the angles of all calls
 unfoldable pub critical : Chart → List Curve → List Float
-critical c curves = flatMap (chart-roots c) (calls (c .origin) curves)
+critical c curves = flatMap (chart-roots c) (calls (all-polynomials (c .origin) curves))
 
 -- whether no call is refused
 unfoldable pub charts-hold : Chart → List (List Compensated) → Bool
@@ -73,4 +89,4 @@ charts-hold c [] = true
 charts-hold c (p ∷ ps) = chart-holds c p && charts-hold c ps
 
 unfoldable pub critical-holds : Chart → List Curve → Bool
-critical-holds c curves = charts-hold c (calls (c .origin) curves)
+critical-holds c curves = charts-hold c (calls (all-polynomials (c .origin) curves))

@@ -25,6 +25,7 @@ pub mod Step
 pub mod Woven
 pub mod Plan
 pub mod J1j2free
+pub mod Pairs
 pub mod CriticalSlices
 pub mod SliceCounts
 pub mod SliceBounds
@@ -33,3 +34,4 @@ pub mod Angles
 pub mod Reads
 pub mod Nested
 pub mod Fit
+pub mod RustOrder

@@ -21,10 +21,12 @@ pub mod Samples
 pub mod SampleAngles
 pub mod Boundaries
 pub mod BendSlices
+pub mod Pairs
 pub mod CriticalSlices
 pub mod Slices
 pub mod J1j2free
 pub mod Angles
 pub mod Reads
+pub mod RustOrder
 pub mod Laws
 pub mod Promises

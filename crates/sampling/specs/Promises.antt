@@ -1,5 +1,5 @@
 -- What inner functions promise one another: `Polar` (crossings in steps), `Pushed`, `Deferred` and `Grown` (lists, deferred crossings
--- and cuts that grow), `Numerators` and `Meetings` (curves one by one), `Halves` (cuts of both halves in work),
+-- and cuts that grow), `Numerators` (a curve's polynomials, and with each earlier curve's), `Halves` (cuts of both halves in work),
 -- `Stream` (slices one at a time), `Plan` (what `plan_of` answers and leaves in work, and the angles read off the cuts there).
 pub mod Polar
 pub mod Pushed
@@ -8,5 +8,4 @@ pub mod Grown
 pub mod Stream
 pub mod Plan
 pub mod Numerators
-pub mod Meetings
 pub mod Halves

@@ -1,14 +1,14 @@
 // The cuts of joint 1 at the intersections and the vertical tangencies of curves, from
 // src/singularity/j1j2free.rs, put into the cuts in a lent slice.
 ghost use mathlib.Core.Path.{_≡_};
+ghost use mathlib.Core.List.{flatMap};
 ghost use Prim.Native.Nat.{_≤_, _<_};
 ghost use lib.ListN.{length, take};
-ghost use lib.Seq.{slice};
 ghost use Rattle.polynomial.specs.Polynomial.{nine};
+ghost use Rattle.polynomial.specs.Promises.Lists.{All};
 ghost use Rattle.sampling.specs.Promises.Grown.{Grown};
 ghost use Rattle.sampling.specs.CriticalSlices as Of;
-ghost use Rattle.sampling.specs.Promises.Meetings as Met;
-ghost use Rattle.sampling.specs.Promises.Numerators.{first-three};
+ghost use Rattle.sampling.specs.Promises.Numerators.{first-three, first-threes, Threes, meetings};
 use crate::work::push;
 use float::arc::atan;
 use float::number::middle;
@@ -124,49 +124,59 @@ fn intersection(k: Numerators, l: Numerators) -> [Compensated; 9]
     squares(cosine, sine, denominator, 5)
 }
 
-// A curve with each of the curves from `first` on.
+// A later curve, k, with each of the earlier ones at the places below `later`, which are the first
+// operands.
 fn meetings(
     work: &mut [f64],
     cuts: Put,
     c: Chart,
+    at: [Numerators; 18],
+    later: usize,
     k: Numerators,
-    at: [Curve; 18],
-    first: usize,
-    n: usize,
 ) -> Grew
-    requires { ⌜ (first ≤ n) × (n ≤ 18) ⌝ }
-    ensures { λ r. ⌜ (r .holds ≡ Met.meetings-hold c (first-three k) (slice first n at)) ×
-        Grown (Met.meetings c (first-three k) (slice first n at)) (now (work .entry)) cuts (now (work .exit)) (r .cuts) ⌝ }
+    requires { ⌜ (later ≤ 18) × All Threes (take later at) ⌝ }
+    ensures { λ r. ⌜ (r .holds ≡ Of.charts-hold c (meetings (first-threes (take later at)) (first-three k))) ×
+        Grown (flatMap (Of.chart-roots c) (meetings (first-threes (take later at)) (first-three k))) (now (work .entry)) cuts (now (work .exit)) (r .cuts) ⌝ }
 {
     let mut state = cuts;
     let mut holds = true;
-    let mut j = first;
-    while j < n {
-        let l = at[j];
-        j += 1;
-        let p = intersection(k, l.polynomials(c.origin));
-        let grew = chart_roots(work, state, c, p, 9);
+    let mut earlier = 0;
+    while earlier < later {
+        let e = at[earlier];
+        earlier += 1;
+        let grew = chart_roots(work, state, c, intersection(e, k), 9);
         state = grew.cuts;
         holds = holds & grew.holds;
     }
     Grew { cuts: state, holds }
 }
 
-// Each of the first n curves alone, then with each later one.
+// Each of the first n curves alone, then with each earlier one, whose polynomials are kept.
 pub(crate) fn critical(work: &mut [f64], cuts: Put, c: Chart, at: [Curve; 18], n: usize) -> Grew
     requires { ⌜ n ≤ 18 ⌝ }
     ensures { λ r. ⌜ (r .holds ≡ Of.critical-holds c (take n at)) × Grown (Of.critical c (take n at)) (now (work .entry)) cuts (now (work .exit)) (r .cuts) ⌝ }
 {
+    let zero = [Compensated {
+        high: 0.0,
+        low: 0.0,
+    }; 9];
+    let none = Numerators {
+        a: zero,
+        b: zero,
+        c: zero,
+    };
+    let mut known = [none; 18];
     let mut state = cuts;
     let mut holds = true;
-    let mut i = 0;
-    while i < n {
-        let curve = at[i];
-        i += 1;
+    let mut j = 0;
+    while j < n {
+        let curve = at[j];
         let k = curve.polynomials(c.origin);
         let alone = chart_roots(work, state, c, tangency(k), 5);
         let before = alone.cuts;
-        let met = meetings(work, before, c, k, at, i, n);
+        let met = meetings(work, before, c, known, j, k);
+        known[j] = k;
+        j += 1;
         state = met.cuts;
         holds = holds & (alone.holds & met.holds);
     }

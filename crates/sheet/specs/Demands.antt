@@ -22,6 +22,7 @@ use Rattle.sheet.specs.declared.edition.Edition.{Edition}
 use Rattle.sheet.specs.declared.edition.Edition.the-variants.{One}
 use Rattle.sampling.specs.Angles as Angles
 use Rattle.sheet.specs.Check as Check
+use Rattle.sheet.specs.RustOrder as RustOrder
 
 -- Demand 1. Every answer is a count, or a number of the papers: Sampling's are 1 to 11 and 41, Check's 31 to 36.
 abbrev pub of-sampling : ℕ → Bool
@@ -134,3 +135,9 @@ Unnamed =
     (r : List ℕ) → length r ≡ request-size newest
     → (angles (take core-size r) ≡ angles r)
     × (name-right r ≡ true → (places : ℕ) → before-output One (take core-size r) places ≡ before-output newest r places)
+
+-- Pairs of curves (02, change 3). Every answer of Sampling and Check, and what the output holds afterwards, is what it was with the pairs in the Rust's order.
+pub record PairsAsBefore : Type 0 where
+  pub sampling : (r : List ℕ) (places room : ℕ) → RustOrder.answer r places room ≡ answer r places room
+  pub output : (a : Answer) (r output : List ℕ) → RustOrder.output-after a r output ≡ output-after a r output
+  pub check : (upto : Edition) (s : List ℕ) (places : ℕ) → RustOrder.check upto s places ≡ Check.answer upto s places

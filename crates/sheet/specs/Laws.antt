@@ -25,4 +25,5 @@ pub mod Written
 pub mod Faithful
 pub mod Demands
 pub mod Editions
+pub mod RustOrder
 pub mod Sheet

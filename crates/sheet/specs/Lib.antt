@@ -14,6 +14,7 @@ pub mod Validate
 pub mod Sheet
 pub mod Sampling
 pub mod Check
+pub mod RustOrder
 pub mod Demands
 pub mod Laws
 pub mod Promises

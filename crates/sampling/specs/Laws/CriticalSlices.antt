@@ -1,65 +1,111 @@
--- The cuts that curves give, curve by curve: each alone, then with each later one.
+-- The polynomials that the root finder is asked about, curve by curve: a curve more at the list's end asks for its own tangency and for its
+-- intersection with each earlier curve, and for nothing else.
+use Prim.Native.Nat.{ℕ, zero, suc, _≤_, _<_}
+use native.Mathlib.Omega.{arith}
 use mathlib.Core.Path.{_≡_, refl, sym, ap, _∙_}
 use mathlib.Core.Bool.{Bool, true, _&&_, and-assoc}
-use mathlib.Core.List.{List, [], _∷_, _++_, map, flatMap, append-assoc}
+use mathlib.Core.List.{List, [], _∷_, _++_, map, flatMap, append-assoc, map-append}
+use lib.ListN.{length, take, length-append, List·getD-append}
+use lib.Seq.{take-suc, take-length, getD-append-seam}
 use lib.Ieee.{Float}
+use borrow.Author.Tests.{eq-eqb, ne-eqb}
+use Rattle.polynomial.specs.Promises.Lists.{All}
 use Rattle.polynomial.specs.declared.compensated.Compensated.{Compensated}
 use Rattle.polynomial.specs.declared.curve.Curve.{Curve}
-use Rattle.sampling.specs.CriticalSlices.{Polynomials, polynomials, tangency, intersection}
-use Rattle.sampling.specs.CriticalSlices.{chart-roots, chart-holds, charts-hold, calls, critical, critical-holds}
-use Rattle.sampling.specs.Promises.Meetings.{meetings, meetings-hold}
+use Rattle.sampling.specs.Pairs.{earlier, order}
+use Rattle.sampling.specs.CriticalSlices.{Polynomials, polynomials, all-polynomials, tangency, intersection, chart-roots, chart-holds}
+use Rattle.sampling.specs.CriticalSlices.{charts-hold, nowhere, at, asked, calls, critical, critical-holds}
+use Rattle.sampling.specs.Promises.Numerators.{meetings}
+use Rattle.sampling.specs.Laws.Pairs.{Placed, order-placed, order-more}
 use Rattle.sampling.specs.declared.critical_slices.Chart.{Chart}
 
-module _ (c : Chart) where
-  abbrev pairs : Polynomials → List Curve → List (List Compensated)
-  pairs k l = map (λ (d : Curve). intersection k (polynomials d (c .origin))) l
+-- ---- what is asked, place by place
 
-  roots-append : (ps qs : List (List Compensated)) → flatMap (chart-roots c) (ps ++ qs) ≡ flatMap (chart-roots c) ps ++ flatMap (chart-roots c) qs
+-- a curve with itself, and with an earlier one
+pub asked-own : (ks : List Polynomials) (j : ℕ) → asked ks (j, j) ≡ tangency (at ks j)
+unfolding asked
+asked-own ks j = rw (eq-eqb j j refl)
+
+pub asked-pair : (ks : List Polynomials) (i j : ℕ) → i < j → asked ks (i, j) ≡ intersection (at ks i) (at ks j)
+unfolding asked
+asked-pair ks i j h = rw (ne-eqb i j (λ e. omega arith))
+
+module _ (ks more : List Polynomials) where
+  asked-before : (p : ℕ × ℕ) → Placed (length ks) p → asked (ks ++ more) p ≡ asked ks p
+  unfolding asked
+  asked-before p h = rw (List·getD-append ks more nowhere (p .0) (omega arith), List·getD-append ks more nowhere (p .1) (h .1))
+
+  all-before : (ps : List (ℕ × ℕ)) → All (Placed (length ks)) ps → map (asked (ks ++ more)) ps ≡ map (asked ks) ps
+  all-before [] h = refl
+  all-before (p ∷ ps) h = λ i. asked-before p (h .0) i ∷ all-before ps (h .1) i
+
+module _ (ks : List Polynomials) (k : Polynomials) where
+  abbrev grown : List Polynomials
+  grown = ks ++ (k ∷ [])
+
+  last : at grown (length ks) ≡ k
+  last = getD-append-seam ks k [] nowhere
+
+  earlier-asked : (i : ℕ) → i ≤ length ks → map (asked grown) (earlier i (length ks)) ≡ meetings (take i ks) k
+  unfolding earlier
+  earlier-asked zero h = refl
+  earlier-asked (suc i) h =
+      let one : asked grown (i, length ks) ≡ intersection (at ks i) k =
+      asked-pair grown i (length ks) h ∙ rw (last, List·getD-append ks (k ∷ []) nowhere i h) in
+      let front = map-append (asked grown) (earlier i (length ks)) ((i, length ks) ∷ []) in
+      let back = map-append (λ (e : Polynomials). intersection e k) (take i ks) (at ks i ∷ []) in
+      front ∙ rw (earlier-asked i (omega arith), one, take-suc ks i nowhere h) (sym back)
+
+  -- A curve more asks for its own tangency and for its intersection with each earlier one, behind all that was asked before.
+  pub calls-more : calls grown ≡ calls ks ++ (tangency k ∷ meetings ks k)
+  unfolding calls
+  calls-more =
+      let n = length ks in
+      let size : length grown ≡ suc n = omega (arith, length-append ks (k ∷ [])) in
+      let old : map (asked grown) (order n) ≡ calls ks = all-before ks (k ∷ []) (order n) (order-placed n) in
+      let own : asked grown (n, n) ≡ tangency k = asked-own grown n ∙ ap tangency last in
+      let new : map (asked grown) (earlier n n) ≡ meetings ks k = earlier-asked n (omega arith) ∙ rw (take-length ks) in
+      ap (λ (m : ℕ). map (asked grown) (order m)) size ∙ ap (map (asked grown)) (order-more n)
+      ∙ map-append (asked grown) (order n) ((n, n) ∷ earlier n n) ∙ (λ i. old i ++ (own i ∷ new i))
+
+-- ---- what the calls give
+
+module _ (c : Chart) where
+  pub roots-append : (ps qs : List (List Compensated)) → flatMap (chart-roots c) (ps ++ qs) ≡ flatMap (chart-roots c) ps ++ flatMap (chart-roots c) qs
   unfolding flatMap
   roots-append [] qs = refl
   roots-append (p ∷ ps) qs =
       ap (λ (z : List Float). chart-roots c p ++ z) (roots-append ps qs)
       ∙ sym (append-assoc (chart-roots c p) (flatMap (chart-roots c) ps) (flatMap (chart-roots c) qs))
 
-  hold-append : (ps qs : List (List Compensated)) → charts-hold c (ps ++ qs) ≡ (charts-hold c ps && charts-hold c qs)
+  pub hold-append : (ps qs : List (List Compensated)) → charts-hold c (ps ++ qs) ≡ (charts-hold c ps && charts-hold c qs)
   unfolding charts-hold
   hold-append [] qs = refl
   hold-append (p ∷ ps) qs =
       ap (λ (z : Bool). chart-holds c p && z) (hold-append ps qs) ∙ sym (and-assoc (chart-holds c p) (charts-hold c ps) (charts-hold c qs))
 
-  pairs-roots : (k : Polynomials) (l : List Curve) → flatMap (chart-roots c) (pairs k l) ≡ meetings c k l
-  unfolding flatMap meetings
-  pairs-roots k [] = refl
-  pairs-roots k (d ∷ l) = ap (λ (z : List Float). chart-roots c (intersection k (polynomials d (c .origin))) ++ z) (pairs-roots k l)
-
-  pairs-hold : (k : Polynomials) (l : List Curve) → charts-hold c (pairs k l) ≡ meetings-hold c k l
-  unfolding charts-hold meetings-hold
-  pairs-hold k [] = refl
-  pairs-hold k (d ∷ l) = ap (λ (z : Bool). chart-holds c (intersection k (polynomials d (c .origin))) && z) (pairs-hold k l)
+  abbrev of : List Curve → List Polynomials
+  of l = all-polynomials (c .origin) l
 
   pub critical-nil : critical c [] ≡ []
-  unfolding critical calls flatMap
+  unfolding critical calls order flatMap
   critical-nil = refl
 
   pub critical-holds-nil : critical-holds c [] ≡ true
-  unfolding critical-holds calls charts-hold
+  unfolding critical-holds calls order charts-hold
   critical-holds-nil = refl
 
-  pub critical-cons : (k : Curve) (later : List Curve)
-      → critical c (k ∷ later) ≡ (chart-roots c (tangency (polynomials k (c .origin))) ++ meetings c (polynomials k (c .origin)) later) ++ critical c later
-  unfolding critical calls flatMap
-  critical-cons k later =
-      let n = polynomials k (c .origin) in
-      let alone = chart-roots c (tangency n) in
-      let split = roots-append (pairs n later) (calls (c .origin) later) ∙ ap (λ (z : List Float). z ++ critical c later) (pairs-roots n later) in
-      ap (λ (z : List Float). alone ++ z) split ∙ sym (append-assoc alone (meetings c n later) (critical c later))
+  module _ (l : List Curve) (q : Curve) where
+    abbrev k : Polynomials
+    k = polynomials q (c .origin)
 
-  pub critical-holds-cons : (k : Curve) (later : List Curve)
-      → critical-holds c (k ∷ later)
-      ≡ ((chart-holds c (tangency (polynomials k (c .origin))) && meetings-hold c (polynomials k (c .origin)) later) && critical-holds c later)
-  unfolding critical-holds calls charts-hold
-  critical-holds-cons k later =
-      let n = polynomials k (c .origin) in
-      let alone = chart-holds c (tangency n) in
-      let split = hold-append (pairs n later) (calls (c .origin) later) ∙ ap (λ (z : Bool). z && critical-holds c later) (pairs-hold n later) in
-      ap (λ (z : Bool). alone && z) split ∙ sym (and-assoc alone (meetings-hold c n later) (critical-holds c later))
+    calls-curve : calls (of (l ++ (q ∷ []))) ≡ calls (of l) ++ (tangency k ∷ meetings (of l) k)
+    calls-curve = ap calls (map-append (λ (d : Curve). polynomials d (c .origin)) l (q ∷ [])) ∙ calls-more (of l) k
+
+    pub critical-more : critical c (l ++ (q ∷ [])) ≡ critical c l ++ (chart-roots c (tangency k) ++ flatMap (chart-roots c) (meetings (of l) k))
+    unfolding critical flatMap
+    critical-more = ap (flatMap (chart-roots c)) calls-curve ∙ roots-append (calls (of l)) (tangency k ∷ meetings (of l) k)
+
+    pub critical-holds-more : critical-holds c (l ++ (q ∷ [])) ≡ (critical-holds c l && (chart-holds c (tangency k) && charts-hold c (meetings (of l) k)))
+    unfolding critical-holds charts-hold
+    critical-holds-more = ap (charts-hold c) calls-curve ∙ hold-append (calls (of l)) (tangency k ∷ meetings (of l) k)

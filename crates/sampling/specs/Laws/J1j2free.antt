@@ -16,7 +16,7 @@ use Rattle.polynomial.specs.Laws.Cuts.{fit-append, cuts-left}
 use Rattle.polynomial.specs.declared.compensated.Compensated.{Compensated}
 use Rattle.polynomial.specs.declared.curve.Curve.{Curve}
 use Rattle.sampling.specs.Samples.{inside, copies, all-copies}
-use Rattle.sampling.specs.CriticalSlices.{chart, angles, chart-roots, calls, critical}
+use Rattle.sampling.specs.CriticalSlices.{chart, angles, chart-roots, all-polynomials, calls, critical}
 use Rattle.sampling.specs.J1j2free.{curves, bends, critical-slices, half-cuts}
 use Rattle.sampling.specs.Promises.Halves.{half-values}
 use Rattle.sampling.specs.declared.critical_slices.Chart.{Chart}
@@ -44,9 +44,9 @@ unfolding flatMap
 calls-fit c [] = tt
 calls-fit c (p ∷ ps) = fit-append (chart-roots c p) (flatMap (chart-roots c) ps) (chart-roots-fit c p) (calls-fit c ps)
 
-critical-fit : (c : Chart) (l : List Curve) → Fit (critical c l)
+pub critical-fit : (c : Chart) (l : List Curve) → Fit (critical c l)
 unfolding critical
-critical-fit c l = calls-fit c (calls (c .origin) l)
+critical-fit c l = calls-fit c (calls (all-polynomials (c .origin) l))
 
 inside-fit : (lower upper angle : Float) → T (fits binary64 angle) → Fit (inside lower upper angle)
 unfolding inside

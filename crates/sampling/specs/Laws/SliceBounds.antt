@@ -11,10 +11,9 @@ use lib.Ieee.Fits.{div-fits, and-i}
 use Rattle.float.specs.Laws.Tests.{three}
 use Rattle.float.specs.Number.{_⊕_, _⊖_, _⊗_, _⊘_, middle, zero-float, one-float, two-float}
 use Rattle.float.specs.Trig.{sin, cos, tan}
-use Rattle.float.specs.Promises.Order.{Within}
+use Rattle.float.specs.Promises.Order.{Within, Span}
 use Rattle.float.specs.Laws.Within.{weaken, numeral, add-within, mul-within, within→Le, Le→within}
 use Rattle.float.specs.Laws.Interval.{in-of, Le-trans}
-use Rattle.float.specs.Promises.Order.{Span}
 use Rattle.float.specs.Laws.Middle.{middle-within, left-half, right-half}
 use Rattle.float.specs.Laws.Arctangent.{atan-within}
 use Rattle.polynomial.specs.Angle.{two-pi}
@@ -29,7 +28,7 @@ use Rattle.polynomial.specs.declared.curve.Curve.{Curve}
 use Rattle.polynomial.specs.Promises.Lists.{All}
 use Rattle.polynomial.specs.Laws.Lists.{all-append}
 use Rattle.sampling.specs.Samples.{inside, copies, all-copies}
-use Rattle.sampling.specs.CriticalSlices.{chart, angles, chart-roots, calls, critical}
+use Rattle.sampling.specs.CriticalSlices.{chart, angles, chart-roots, all-polynomials, calls, critical}
 use Rattle.sampling.specs.Promises.Halves.{half-values}
 use Rattle.sampling.specs.J1j2free.{curves, bends, half-cuts, first-half, second-half}
 use Rattle.sampling.specs.Promises.Stream.{Woven}
@@ -99,7 +98,7 @@ module _ (c : Chart) (g : Charted c) where
 
   critical-small : (l : List Curve) → All Small (critical c l)
   unfolding critical
-  critical-small l = calls-small (calls (c .origin) l)
+  critical-small l = calls-small (calls (all-polynomials (c .origin) l))
 
 -- ---- copies
 

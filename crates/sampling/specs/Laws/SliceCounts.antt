@@ -2,9 +2,9 @@
 use Prim.Native.Nat.{ℕ, zero, suc, _+_, _*_, _≤_, zero-le}
 use native.Mathlib.Nat.{not-suc-le-zero, le-of-suc-le-suc}
 use native.Mathlib.Omega.{arith}
-use mathlib.Core.Path.{_≡_, refl, ap}
+use mathlib.Core.Path.{_≡_, refl, ap, _∙_}
 use mathlib.Core.Bool.{Bool, true, false, _&&_, cond}
-use mathlib.Core.List.{List, [], _∷_, _++_, map, flatMap}
+use mathlib.Core.List.{List, [], _∷_, _++_, flatMap}
 use lib.Dec.{leb}
 use lib.ListN.{length, length-append, length-map}
 use lib.Ieee.{Float, lt, le, neg}
@@ -23,11 +23,12 @@ use Rattle.polynomial.specs.declared.compensated.Compensated.{Compensated}
 use Rattle.polynomial.specs.declared.curve.Curve.{Curve}
 use Rattle.sampling.specs.Continuum.{root-roundoff}
 use Rattle.sampling.specs.Samples.{all-copies}
-use Rattle.sampling.specs.Boundaries.{across, second-curves, pole-curves, fourth-curves, fifth-curves}
-use Rattle.sampling.specs.Boundaries.{sixth-curves, signed-corners, corner-curves, boundaries}
-use Rattle.sampling.specs.BendSlices.{transverse, transverse-range, transverses, axis-angles, axes-range}
-use Rattle.sampling.specs.BendSlices.{fold, folds, folds-range, bend-slice, bend-slices}
-use Rattle.sampling.specs.CriticalSlices.{chart, angles, chart-roots, polynomials, intersection, calls, critical}
+use Rattle.sampling.specs.Boundaries.{across, second-curves, pole-curves, fourth-curves, fifth-curves, sixth-curves, signed-corners}
+use Rattle.sampling.specs.Boundaries.{corner-curves, boundaries}
+use Rattle.sampling.specs.BendSlices.{transverse, transverse-range, transverses, axis-angles, axes-range, fold, folds, folds-range, bend-slice}
+use Rattle.sampling.specs.BendSlices.{bend-slices}
+use Rattle.sampling.specs.Pairs.{earlier, order}
+use Rattle.sampling.specs.CriticalSlices.{chart, angles, chart-roots, Polynomials, polynomials, all-polynomials, asked, calls, critical}
 use Rattle.sampling.specs.J1j2free.{curves, bends, critical-slices, half-cuts, first-half, second-half, on-interval, cut-count}
 use Rattle.sampling.specs.Laws.AngleCounts.{both, either, norm-roots-few, all-copies-few}
 use Rattle.sampling.specs.declared.critical_slices.Chart.{Chart}
@@ -186,17 +187,26 @@ pairs-up zero m h = zero-le
 pairs-up (suc n) zero h = absurd (not-suc-le-zero h)
 pairs-up (suc n) (suc m) h = let k = pairs-up n m (le-of-suc-le-suc h) in omega arith
 
-calls-length : (origin : Float) (l : List Curve) → length (calls origin l) ≡ pairs (length l)
+earlier-length : (i j : ℕ) → length (earlier i j) ≡ i
+unfolding earlier
+earlier-length zero j = refl
+earlier-length (suc i) j = omega (arith, length-append (earlier i j) ((i, j) ∷ []), earlier-length i j)
+
+order-length : (n : ℕ) → length (order n) ≡ pairs n
+unfolding order
+order-length zero = refl
+order-length (suc n) = omega (arith, length-append (order n) ((n, n) ∷ earlier n n), order-length n, earlier-length n n)
+
+calls-length : (ks : List Polynomials) → length (calls ks) ≡ pairs (length ks)
 unfolding calls
-calls-length origin [] = refl
-calls-length origin (k ∷ l) =
-    let m = map (λ (d : Curve). intersection (polynomials k origin) (polynomials d origin)) l in
-    let e = calls-length origin l in
-    omega (arith, length-append m (calls origin l), length-map l (λ (d : Curve). intersection (polynomials k origin) (polynomials d origin)))
+calls-length ks = length-map (order (length ks)) (asked ks) ∙ order-length (length ks)
 
 critical-by : (c : Chart) (l : List Curve) → length (critical c l) ≤ 509 * pairs (length l)
 unfolding critical
-critical-by c l = rw (← calls-length (c .origin) l) (calls-few c (calls (c .origin) l))
+critical-by c l =
+    let ks = all-polynomials (c .origin) l in
+    let e = length-map l (λ (k : Curve). polynomials k (c .origin)) in
+    rw (← e, ← calls-length ks) (calls-few c (calls ks))
 
 pub critical-few : (c : Chart) (l : List Curve) → length l ≤ 18 → length (critical c l) ≤ 87039
 critical-few c l h =

@@ -1,38 +1,35 @@
--- `sampling::critical_slices::critical` meets its contract. The loop's invariant: where the cuts that are left come to a slice, all come to it.
-use borrow.Author.Needs.{needs}
-use mathlib.Core.Path.{_≡_, refl, _∙_}
-use mathlib.Core.Bool.{_&&_}
+-- `sampling::critical_slices::critical` meets its contract. The loop's invariant: what the first j curves give is in the cuts, and their polynomials are kept.
 use Prim.Native.Nat.{_-_, _≤_}
 use native.Mathlib.Omega.{arith}
+use mathlib.Core.Path.{_≡_, refl, sym, _∙_}
 use lib.ListN.{length, take}
-use lib.Seq.{slice}
+use borrow.Author.Needs.{needs}
+use Rattle.sampling.specs.Laws.CriticalSlices.{critical-nil, critical-holds-nil}
+use Rattle.sampling.specs.Promises.Grown.{Grown}
 use Rattle.sampling.specs.CriticalSlices as Of
-use Rattle.sampling.proofs.Grown.{Leads, leads-all, leads-next, leads-end}
-use Rattle.sampling.proofs.CriticalSlices.{both-hold, both-grown, critical-next, critical-holds-next}
-use Rattle.sampling.proofs.CriticalSlices.{critical-end, critical-holds-end, holds-next, holds-end}
+use Rattle.sampling.proofs.Grown.{none}
+use Rattle.sampling.proofs.CriticalSlices.{Known, known-none, known-more, critical-hold, critical-grown}
 use Rattle.sampling.proofs.critical_slices.critical.Statement.{statement}
 use Rattle.sampling.proofs.critical_slices.critical.Tie as tie
 
 abbrev Inv-loop : tie.InvT-loop
-Inv-loop work₀ c n at state₀ holds₀ i₀ work state holds i =
-    (i ≤ n) × (length at ≡ 18) × (length work ≡ length work₀)
-    × ((holds && Of.critical-holds c (slice i n at)) ≡ Of.critical-holds c (take n at))
-    × Leads (Of.critical c (take n at)) (Of.critical c (slice i n at)) work₀ state₀ work state
+Inv-loop work₀ c n at known₀ state₀ holds₀ j₀ work known state holds j =
+    (j ≤ n) × (length at ≡ 18) × (length work ≡ length work₀) × (length known ≡ 18) × Known (c .origin) (take j known) (take j at)
+    × (holds ≡ Of.critical-holds c (take j at)) × Grown (Of.critical c (take j at)) work₀ state₀ work state
 
 abbrev μ-loop : tie.MeasureT-loop
-μ-loop work₀ c n at state₀ holds₀ i₀ work state holds i = n - i
+μ-loop work₀ c n at known₀ state₀ holds₀ j₀ work known state holds j = n - j
 
 loop-holds : tie.Need-loop-holds Inv-loop μ-loop
-loop-holds c = (search needs, search needs, refl, refl, leads-all)
+loop-holds c =
+    let o = c .before .args .c in
+    (search needs, search needs, refl, search needs, known-none, sym (critical-holds-nil o), rw (critical-nil o) none)
 
 mul-curve : tie.Need-mul-curve Inv-loop μ-loop
 mul-curve c = search needs
 
 array-copy-out-curve : tie.Need-array-copy-out-curve Inv-loop μ-loop
 array-copy-out-curve c = search needs
-
-add-i : tie.Need-add-i Inv-loop μ-loop
-add-i c = search needs
 
 polynomials-requires : tie.Need-polynomials-requires Inv-loop μ-loop
 polynomials-requires c κs = search needs
@@ -44,7 +41,18 @@ chart-roots-requires : tie.Need-chart-roots-requires Inv-loop μ-loop
 chart-roots-requires c κs = search needs
 
 meetings-requires : tie.Need-meetings-requires Inv-loop μ-loop
-meetings-requires c κs = omega arith
+meetings-requires c κs =
+    let l = c .before .before .before .before .before .before .before .before .before in
+    (omega arith, l .loop .inv .4 .long)
+
+mul-known : tie.Need-mul-known Inv-loop μ-loop
+mul-known c = search needs
+
+array-set-from-known : tie.Need-array-set-from-known Inv-loop μ-loop
+array-set-from-known c = search needs
+
+add-j : tie.Need-add-j Inv-loop μ-loop
+add-j c = search needs
 
 loop-less : tie.Need-loop-less Inv-loop μ-loop
 loop-less c = search needs
@@ -56,16 +64,20 @@ loop-again c =
     let q = g .before .before .before in
     let l = q .before .before .before in
     let a = l .before .before .args in
+    let k = q .polynomials .result in
+    let e = q .polynomials .ensures in
+    let f = g .before .tangency .ensures in
     let r = g .chart-roots .ensures in
-    let t = m .meetings .ensures in (
+    let t = m .meetings .ensures in
+    let i = l .loop .inv in
+    let j = l .loop .j in (
       search needs,
-      l .loop .inv .1,
-      t .1 .same ∙ r .1 .same ∙ l .loop .inv .2,
-      holds-next (l .loop .holds) (g .chart-roots .result .holds && m .meetings .result .holds) _ _ _ _ (l .loop .inv .3)
-          (critical-holds-next (a .c) (a .t4) (l .loop .i) (a .n) _ (search needs) (omega arith))
-          (both-hold (a .c) (q .polynomials .result) _ _ _ (q .polynomials .ensures) (g .before .tangency .ensures) _ _ (r .0) (t .0)),
-      leads-next (l .loop .inv .4) (critical-next (a .c) (a .t4) (l .loop .i) (a .n) _ (search needs) (omega arith))
-          (both-grown (a .c) (q .polynomials .result) _ _ _ (q .polynomials .ensures) (g .before .tangency .ensures) (r .1) (t .1)),
+      i .1,
+      t .1 .same ∙ r .1 .same ∙ i .2,
+      search needs,
+      known-more (a .c .origin) (l .loop .known) (a .t4) j k _ (omega arith) (omega arith) e (i .4),
+      critical-hold (a .c) (a .t4) (l .loop .known) j _ (omega arith) (i .4) k e _ f _ _ _ (i .5) (r .0) (t .0),
+      critical-grown (a .c) (a .t4) (l .loop .known) j _ (omega arith) (i .4) k e _ f (i .6) (r .1) (t .1),
     )
 
 same-length : tie.Need-same-length Inv-loop μ-loop
@@ -74,10 +86,8 @@ same-length c = c .before .loop .inv .2
 returns : tie.Need-returns Inv-loop μ-loop
 returns c =
     let l = c .before in
-    let a = l .before .before .args in (
-      holds-end (l .loop .holds) _ _ (l .loop .inv .3) (critical-holds-end (a .c) (a .t4) (l .loop .i) (a .n) (omega arith)),
-      leads-end (l .loop .inv .4) (critical-end (a .c) (a .t4) (l .loop .i) (a .n) (omega arith)),
-    )
+    let e : l .before .before .args .n ≡ l .loop .j = omega arith in
+    rw e (l .loop .inv .5, l .loop .inv .6)
 
 pub critical-spec : {M : Type 1} → statement M
 critical-spec =
@@ -88,11 +98,13 @@ critical-spec =
     loop-holds
     mul-curve
     array-copy-out-curve
-    add-i
     polynomials-requires
     tangency-requires
     chart-roots-requires
     meetings-requires
+    mul-known
+    array-set-from-known
+    add-j
     loop-less
     loop-again
     same-length
