@@ -1,5 +1,6 @@
--- The cuts of joint 1 at the intersections and the vertical tangencies of curves: `critical_slices` of j1j2free.rs (01, module 6). Beside each
--- list stands whether no inner call of the root finder on the way is refused; a refused call gives no angle. Definitions only.
+-- The cuts of joint 1 at the intersections and the vertical tangencies of curves: `critical_slices` of j1j2free.rs (01, module 6), with the
+-- curves taken in the order of `Pairs` (02, change 3). Beside each list stands whether no inner call of the root finder on the way is refused; a
+-- refused call gives no angle. Definitions only.
 -- Between two neighbouring cuts the curves keep their order, so what joint 2 may do does not change: one value of joint 1 stands for all of them.
 use Prim.Native.Nat.{ℕ}
 use mathlib.Core.Bool.{Bool, true, _&&_, cond}

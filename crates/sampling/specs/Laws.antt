@@ -2,7 +2,8 @@
 -- `Intervals` (a limit interval is in order and lies within P), `Limits` (the ends of a joint's interval are in order and lie within a turn),
 -- `Pose` (the parts of a normalized quaternion lie within 2, the entries of its matrix within 17),
 -- `Samples` (roots one by one, the sample at each position), `AngleCounts` (how many boundary angles, cuts and
--- angles of one free joint at most), `CriticalSlices` (what curves give, curve by curve),
+-- angles of one free joint at most), `Pairs` (each pair stands in the order once, nothing else does, a curve more only adds at
+-- its end), `CriticalSlices` (what curves give, curve by curve),
 -- `Weave` (a list with the middles of its neighbours: its values, its length, its places),
 -- `Slices` (the values at which joint 1 is tried are what the stream has; how many at most; the reference is among them),
 -- `Least`, `Heads` and `Step` (a step of the stream gives the first of what is to come), `Woven` (the cuts of
@@ -11,7 +12,8 @@
 -- `SliceCounts` (how many curves, bends and cuts of two free joints at most), `SliceBounds` (the cuts of both
 -- halves can be streamed), `Reference` (joint 1's reference as a model angle lies within P),
 -- `Angles` (how many angles a job has at most; kind 3 tries the reference), `Reads` (what is not read changes no angle, no number of
--- cuts and no refusal), `Fit` (the format holds every angle), `Nested` (definitions of one sentence, test by test).
+-- cuts and no refusal), `Fit` (the format holds every angle), `Nested` (definitions of one sentence, test by test), `RustOrder` (the
+-- order of pairs is a permutation of the Rust's, so every angle, number of cuts and refusal is that of before).
 pub mod Intervals
 pub mod Limits
 pub mod Pose

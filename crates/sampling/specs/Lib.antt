@@ -3,8 +3,9 @@
 -- of module 5, `Continuum` (first harmonics and where they meet a target), `J1free`, `J2free`, `Marks`, `Wrist`, `Rays` and `Bends` (the boundary
 -- angles of joints 4, 5 and 6, in order), `Samples` (from boundary angles to cuts and samples), `SampleAngles` (the angles of one free joint);
 -- of module 6, `Boundaries` (the boundary curves of two free joints), `BendSlices` (the slices of narrow bends),
--- `CriticalSlices` (where curves meet), `Slices` and `J1j2free` (the values at which joint 1 is tried);
+-- `Pairs` and `CriticalSlices` (in which order curves are taken, and where they meet), `Slices` and `J1j2free` (the values at which joint 1 is tried);
 -- of both, `Angles` (a job's angles by its kind) and `Reads` (which fields of a job each kind reads).
+-- `RustOrder`: the order of pairs before 02's change 3 and what went by it, to compare with; nothing is promised by it.
 -- `Promises`: what functions promise one another, and `plan_of` its callers. `Laws`: theorems that upper crates cite.
 pub mod Constraints
 pub mod Intervals

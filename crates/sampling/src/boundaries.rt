@@ -3,6 +3,7 @@ ghost use mathlib.Core.Path.{_≡_};
 ghost use mathlib.Core.List.{[], _∷_};
 ghost use Prim.Native.Nat.{_+_, _≤_, _<_};
 ghost use lib.ListN.{take};
+ghost use Rattle.sampling.specs.Promises.Curves.{most-curves};
 ghost use Rattle.sampling.specs.Promises.Pushed.{Pushed};
 ghost use Rattle.sampling.specs.Boundaries as Of;
 use crate::intervals::Range;
@@ -16,10 +17,13 @@ use float::trig::sin_cos;
 use polynomial::curve::Curve;
 use polynomial::curve::Harmonic;
 
+// The most boundary curves.
+pub(crate) const CURVES: usize = 18;
+
 // Boundary curves, by value: the first `count` of them.
 pub struct Curves {
     pub count: usize,
-    pub at: [Curve; 18],
+    pub at: [Curve; CURVES],
 }
 
 // A harmonic that is a constant.
@@ -185,13 +189,13 @@ fn empty() -> Curves
     };
     Curves {
         count: 0,
-        at: [zero; 18],
+        at: [zero; CURVES],
     }
 }
 
 // The array alone: the proof knows its length.
-fn put(at: [Curve; 18], n: usize, v: Curve) -> [Curve; 18]
-    requires { ⌜ n < 18 ⌝ }
+fn put(at: [Curve; CURVES], n: usize, v: Curve) -> [Curve; CURVES]
+    requires { ⌜ n < most-curves ⌝ }
     ensures { λ r. ⌜ Pushed 1 (v ∷ []) n at (n + 1) r ⌝ }
 {
     let mut next = at;
@@ -200,7 +204,7 @@ fn put(at: [Curve; 18], n: usize, v: Curve) -> [Curve; 18]
 }
 
 fn add(c: Curves, v: Curve) -> Curves
-    requires { ⌜ c .count < 18 ⌝ }
+    requires { ⌜ c .count < most-curves ⌝ }
     ensures { λ r. ⌜ Pushed 1 (v ∷ []) (c .count) (c .at) (r .count) (r .at) ⌝ }
 {
     let n = c.count;
@@ -211,7 +215,7 @@ fn add(c: Curves, v: Curve) -> Curves
 
 // Both ends of joint 2's interval.
 fn second_curves(c: Curves, q3: f64, range: Range) -> Curves
-    requires { ⌜ c .count + 2 ≤ 18 ⌝ }
+    requires { ⌜ c .count + 2 ≤ most-curves ⌝ }
     ensures { λ r. ⌜ Pushed 2 (Of.second-curves q3 range) (c .count) (c .at) (r .count) (r .at) ⌝ }
 {
     match range {
@@ -224,7 +228,7 @@ fn second_curves(c: Curves, q3: f64, range: Range) -> Curves
 }
 
 fn pole_curves(c: Curves, z: Vector) -> Curves
-    requires { ⌜ c .count + 2 ≤ 18 ⌝ }
+    requires { ⌜ c .count + 2 ≤ most-curves ⌝ }
     ensures { λ r. ⌜ Pushed 2 (Of.pole-curves z) (c .count) (c .at) (r .count) (r .at) ⌝ }
 {
     let d = add(c, bend_curve(z, -1.0));
@@ -232,7 +236,7 @@ fn pole_curves(c: Curves, z: Vector) -> Curves
 }
 
 fn fourth_curves(c: Curves, z: Vector, range: Range) -> Curves
-    requires { ⌜ c .count + 2 ≤ 18 ⌝ }
+    requires { ⌜ c .count + 2 ≤ most-curves ⌝ }
     ensures { λ r. ⌜ Pushed 2 (Of.fourth-curves z range) (c .count) (c .at) (r .count) (r .at) ⌝ }
 {
     match range {
@@ -245,7 +249,7 @@ fn fourth_curves(c: Curves, z: Vector, range: Range) -> Curves
 }
 
 fn fifth_curves(c: Curves, z: Vector, range: Range) -> Curves
-    requires { ⌜ c .count + 2 ≤ 18 ⌝ }
+    requires { ⌜ c .count + 2 ≤ most-curves ⌝ }
     ensures { λ r. ⌜ Pushed 2 (Of.fifth-curves z range) (c .count) (c .at) (r .count) (r .at) ⌝ }
 {
     match range {
@@ -258,7 +262,7 @@ fn fifth_curves(c: Curves, z: Vector, range: Range) -> Curves
 }
 
 fn sixth_curves(c: Curves, m: Matrix, range: Range) -> Curves
-    requires { ⌜ c .count + 2 ≤ 18 ⌝ }
+    requires { ⌜ c .count + 2 ≤ most-curves ⌝ }
     ensures { λ r. ⌜ Pushed 2 (Of.sixth-curves m range) (c .count) (c .at) (r .count) (r .at) ⌝ }
 {
     match range {
@@ -272,7 +276,7 @@ fn sixth_curves(c: Curves, m: Matrix, range: Range) -> Curves
 
 // Each end of joint 4's limits with each of joint 6's.
 fn signed_corners(x: Curves, m: Matrix, sign: f64, a: f64, b: f64, c: f64, d: f64) -> Curves
-    requires { ⌜ x .count + 4 ≤ 18 ⌝ }
+    requires { ⌜ x .count + 4 ≤ most-curves ⌝ }
     ensures { λ r. ⌜ Pushed 4 (Of.signed-corners m sign a b c d) (x .count) (x .at) (r .count) (r .at) ⌝ }
 {
     let x1 = add(x, corner_curve(m, sign, a, c));
@@ -282,7 +286,7 @@ fn signed_corners(x: Curves, m: Matrix, sign: f64, a: f64, b: f64, c: f64, d: f6
 }
 
 fn corner_curves(x: Curves, m: Matrix, range4: Range, range6: Range) -> Curves
-    requires { ⌜ x .count + 8 ≤ 18 ⌝ }
+    requires { ⌜ x .count + 8 ≤ most-curves ⌝ }
     ensures { λ r. ⌜ Pushed 8 (Of.corner-curves m range4 range6) (x .count) (x .at) (r .count) (r .at) ⌝ }
 {
     match range4 {
@@ -306,7 +310,7 @@ pub(crate) fn boundaries(
     range5: Range,
     range6: Range,
 ) -> Curves
-    ensures { λ r. ⌜ (r .count ≤ 18) × (take (r .count) (r .at) ≡ Of.boundaries m q3 range2 range4 range5 range6) ⌝ }
+    ensures { λ r. ⌜ (r .count ≤ most-curves) × (take (r .count) (r .at) ≡ Of.boundaries m q3 range2 range4 range5 range6) ⌝ }
 {
     let x0 = empty();
     let x1 = second_curves(x0, q3, range2);

@@ -6,9 +6,11 @@ ghost use Prim.Native.Nat.{_≤_, _<_};
 ghost use lib.ListN.{length, take};
 ghost use Rattle.polynomial.specs.Polynomial.{nine};
 ghost use Rattle.polynomial.specs.Promises.Lists.{All};
+ghost use Rattle.sampling.specs.Promises.Curves.{most-curves};
 ghost use Rattle.sampling.specs.Promises.Grown.{Grown};
 ghost use Rattle.sampling.specs.CriticalSlices as Of;
 ghost use Rattle.sampling.specs.Promises.Numerators.{first-three, first-threes, Threes, meetings};
+use crate::boundaries::CURVES;
 use crate::work::push;
 use float::arc::atan;
 use float::number::middle;
@@ -130,11 +132,11 @@ fn meetings(
     work: &mut [f64],
     cuts: Put,
     c: Chart,
-    at: [Numerators; 18],
+    at: [Numerators; CURVES],
     later: usize,
     k: Numerators,
 ) -> Grew
-    requires { ⌜ (later ≤ 18) × All Threes (take later at) ⌝ }
+    requires { ⌜ (later ≤ most-curves) × All Threes (take later at) ⌝ }
     ensures { λ r. ⌜ (r .holds ≡ Of.charts-hold c (meetings (first-threes (take later at)) (first-three k))) ×
         Grown (flatMap (Of.chart-roots c) (meetings (first-threes (take later at)) (first-three k))) (now (work .entry)) cuts (now (work .exit)) (r .cuts) ⌝ }
 {
@@ -152,8 +154,8 @@ fn meetings(
 }
 
 // Each of the first n curves alone, then with each earlier one, whose polynomials are kept.
-pub(crate) fn critical(work: &mut [f64], cuts: Put, c: Chart, at: [Curve; 18], n: usize) -> Grew
-    requires { ⌜ n ≤ 18 ⌝ }
+pub(crate) fn critical(work: &mut [f64], cuts: Put, c: Chart, at: [Curve; CURVES], n: usize) -> Grew
+    requires { ⌜ n ≤ most-curves ⌝ }
     ensures { λ r. ⌜ (r .holds ≡ Of.critical-holds c (take n at)) × Grown (Of.critical c (take n at)) (now (work .entry)) cuts (now (work .exit)) (r .cuts) ⌝ }
 {
     let zero = [Compensated {
@@ -165,7 +167,7 @@ pub(crate) fn critical(work: &mut [f64], cuts: Put, c: Chart, at: [Curve; 18], n
         b: zero,
         c: zero,
     };
-    let mut known = [none; 18];
+    let mut known = [none; CURVES];
     let mut state = cuts;
     let mut holds = true;
     let mut j = 0;

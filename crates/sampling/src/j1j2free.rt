@@ -6,6 +6,7 @@ ghost use Prim.Native.Nat.{_+_, _≤_};
 ghost use lib.ListN.{length, take, drop};
 ghost use Rattle.polynomial.specs.Promises.Held.{Kept};
 ghost use Rattle.sampling.specs.CriticalSlices.{chart, critical-holds};
+ghost use Rattle.sampling.specs.Promises.Curves.{most-curves};
 ghost use Rattle.sampling.specs.Promises.Halves.{half-values, start, both};
 ghost use Rattle.sampling.specs.Promises.Plan.{halves-of, folded-plan, folded-cuts, granted, where-laid};
 ghost use Rattle.sampling.specs.J1j2free as Of;
@@ -90,7 +91,7 @@ fn half_cuts(
     lower: f64,
     upper: f64,
 ) -> Grew
-    requires { ⌜ (curves .count ≤ 18) × (n ≤ length (now bends)) ⌝ }
+    requires { ⌜ (curves .count ≤ most-curves) × (n ≤ length (now bends)) ⌝ }
     ensures { λ r. ⌜ (r .holds ≡ critical-holds (chart lower upper) (take (curves .count) (curves .at))) ×
         Kept (half-values (take (curves .count) (curves .at)) (take n (now (bends .entry))) lower upper) (now (work .entry))
         (now (work .exit)) (r .cuts) ⌝ }

@@ -7,7 +7,7 @@
 -- `Plan` (what becomes of a request that passed), `Sampling` (how a sheet is stored, and its length), `Check` (its refusals one by one), `Accepted` (what is
 -- known of an accepted request), `Written` (the parts of a sheet), `Faithful` (the bytes of a sheet stand for its angles),
 -- `Alike` (two requests that agree in what is read have the same angles and the same answers), `Demands` (the demands, proved), `Editions`
--- (what the editions promise, proved).
+-- (what the editions promise, proved), `RustOrder` (every answer is what it was with the pairs of curves in the Rust's order).
 
 pub mod Bytes
 pub mod Blank

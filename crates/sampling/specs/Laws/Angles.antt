@@ -1,5 +1,5 @@
 -- Two theorems about a job's angles: how many there are at most, and that kind 3 tries the reference.
-use Prim.Native.Nat.{ℕ, _+_, _^_, _≤_, _<_}
+use Prim.Native.Nat.{ℕ, _+_, _*_, _^_, _≤_, _<_}
 use native.Mathlib.Omega.{arith}
 use mathlib.Core.Path.{_≡_, refl, sym, subst}
 use mathlib.Core.Bool.{true, not}
@@ -25,9 +25,9 @@ use Rattle.sampling.specs.declared.job.Job.{Job}
 use Rattle.sampling.specs.declared.job.Kind.{Kind}
 use Rattle.sampling.specs.declared.job.Kind.the-variants.{J1free, J2free, J1j2free}
 
--- twice the cuts of both halves, the reference and the limits
+-- twice the cuts of both halves, the reference and the limits: 351239
 abbrev pub most-angles : ℕ
-most-angles = 351239
+most-angles = 2 * most-both-cuts + 3
 
 all-slices-few : (t : Folded) → length (all-slices t) ≤ most-angles
 unfolding all-slices cut-count

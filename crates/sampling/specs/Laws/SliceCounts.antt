@@ -30,6 +30,7 @@ use Rattle.sampling.specs.BendSlices.{bend-slices}
 use Rattle.sampling.specs.Pairs.{earlier, order}
 use Rattle.sampling.specs.CriticalSlices.{chart, angles, chart-roots, Polynomials, polynomials, all-polynomials, asked, calls, critical}
 use Rattle.sampling.specs.J1j2free.{curves, bends, critical-slices, half-cuts, first-half, second-half, on-interval, cut-count}
+use Rattle.sampling.specs.Promises.Curves.{most-curves}
 use Rattle.sampling.specs.Laws.AngleCounts.{both, either, norm-roots-few, all-copies-few}
 use Rattle.sampling.specs.declared.critical_slices.Chart.{Chart}
 use Rattle.sampling.specs.declared.intervals.Range.{Range}
@@ -72,7 +73,7 @@ corner-curves-few m (Between a b) Nothing = omega arith
 corner-curves-few m (Between a b) (Between c d) = omega arith
 
 module _ (m : Matrix) (q3 : Float) (range2 range4 range5 range6 : Range) where
-  pub boundaries-few : length (boundaries m q3 range2 range4 range5 range6) ≤ 18
+  pub boundaries-few : length (boundaries m q3 range2 range4 range5 range6) ≤ most-curves
   unfolding boundaries
   boundaries-few =
       let s = second-curves q3 range2 in
@@ -208,14 +209,15 @@ critical-by c l =
     let e = length-map l (λ (k : Curve). polynomials k (c .origin)) in
     rw (← e, ← calls-length ks) (calls-few c (calls ks))
 
-pub critical-few : (c : Chart) (l : List Curve) → length l ≤ 18 → length (critical c l) ≤ 87039
-critical-few c l h =
-    let j : pairs (length l) ≤ 171 = pairs-up (length l) 18 h in
-    omega (arith, critical-by c l, j)
+abbrev most-critical : ℕ
+most-critical = 509 * pairs most-curves
+
+critical-few : (c : Chart) (l : List Curve) → length l ≤ most-curves → length (critical c l) ≤ most-critical
+critical-few c l h = omega (arith, critical-by c l, pairs-up (length l) most-curves h)
 
 -- ---- cuts
 
-curves-few : (t : Folded) → length (curves t) ≤ 18
+curves-few : (t : Folded) → length (curves t) ≤ most-curves
 unfolding curves
 curves-few t = boundaries-few (t .matrix) (t .q3) (t .range2) (t .range4) (t .range5) (t .range6)
 
@@ -223,8 +225,11 @@ bends-few : (t : Folded) → length (bends t) ≤ 256
 unfolding bends
 bends-few t = bend-slices-few (t .matrix) (t .q3) (t .range2) (t .range4) (t .range5) (t .range6)
 
--- two ends, 18 curves and 153 pairs of them, three copies of each of 256 bends
-pub half-cuts-few : (t : Folded) (lower upper : Float) → length (half-cuts t lower upper) ≤ 87809
+-- two ends, the curves and the pairs of them, three copies of each of 256 bends
+abbrev most-half-cuts : ℕ
+most-half-cuts = 2 + most-critical + 3 * 256
+
+pub half-cuts-few : (t : Folded) (lower upper : Float) → length (half-cuts t lower upper) ≤ most-half-cuts
 unfolding half-cuts critical-slices
 half-cuts-few t lower upper =
     let c = critical (chart lower upper) (curves t) in
@@ -241,7 +246,7 @@ half-cuts-few t lower upper =
 
 -- the most cuts of both halves together
 abbrev pub most-both-cuts : ℕ
-most-both-cuts = 175618
+most-both-cuts = 2 * most-half-cuts
 
 pub both-cuts-few : (t : Folded) → cut-count t ≤ most-both-cuts
 unfolding cut-count first-half second-half

@@ -5,6 +5,7 @@ use mathlib.Core.Path.{_≡_, refl, sym, _∙_}
 use lib.ListN.{length, take}
 use borrow.Author.Needs.{needs}
 use Rattle.sampling.specs.Laws.CriticalSlices.{critical-nil, critical-holds-nil}
+use Rattle.sampling.specs.Promises.Curves.{most-curves}
 use Rattle.sampling.specs.Promises.Grown.{Grown}
 use Rattle.sampling.specs.CriticalSlices as Of
 use Rattle.sampling.proofs.Grown.{none}
@@ -14,7 +15,7 @@ use Rattle.sampling.proofs.critical_slices.critical.Tie as tie
 
 abbrev Inv-loop : tie.InvT-loop
 Inv-loop work₀ c n at known₀ state₀ holds₀ j₀ work known state holds j =
-    (j ≤ n) × (length at ≡ 18) × (length work ≡ length work₀) × (length known ≡ 18) × Known (c .origin) (take j known) (take j at)
+    (j ≤ n) × (length at ≡ most-curves) × (length work ≡ length work₀) × (length known ≡ most-curves) × Known (c .origin) (take j known) (take j at)
     × (holds ≡ Of.critical-holds c (take j at)) × Grown (Of.critical c (take j at)) work₀ state₀ work state
 
 abbrev μ-loop : tie.MeasureT-loop

@@ -5,6 +5,7 @@ use mathlib.Core.Path.{_≡_, refl, _∙_}
 use mathlib.Core.List.{flatMap}
 use lib.ListN.{length, take}
 use borrow.Author.Needs.{needs}
+use Rattle.sampling.specs.Promises.Curves.{most-curves}
 use Rattle.sampling.specs.Promises.Grown.{Grown}
 use Rattle.sampling.specs.Promises.Numerators.{first-three, first-threes, Threes, meetings}
 use Rattle.sampling.specs.CriticalSlices as Of
@@ -15,7 +16,7 @@ use Rattle.sampling.proofs.critical_slices.meetings.Tie as tie
 
 abbrev Inv-loop : tie.InvT-loop
 Inv-loop work₀ c later k at state₀ holds₀ i₀ work state holds i =
-    (i ≤ later) × (length at ≡ 18) × (length work ≡ length work₀) × (holds ≡ Of.charts-hold c (meetings (first-threes (take i at)) (first-three k)))
+    (i ≤ later) × (length at ≡ most-curves) × (length work ≡ length work₀) × (holds ≡ Of.charts-hold c (meetings (first-threes (take i at)) (first-three k)))
     × Grown (flatMap (Of.chart-roots c) (meetings (first-threes (take i at)) (first-three k))) work₀ state₀ work state
 
 abbrev μ-loop : tie.MeasureT-loop
