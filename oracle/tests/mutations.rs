@@ -1,4 +1,4 @@
-//! Document 01, 'Slips to rule out', and slips of change requests 1 and 2: each is
+//! Document 01, 'Slips to rule out', and slips of change requests 1 to 3: each is
 //! built into a copy of the package, which must then answer the corpus otherwise
 //! than the package itself.
 //!
@@ -212,6 +212,44 @@ fn dropping_cuts_beyond_their_half() {
                cuts.retain(|&angle| lo <= angle && angle <= hi);\n",
     };
     is_caught(slip, &["kept-half"]);
+}
+
+#[test]
+fn leaving_out_a_pair_of_curves() {
+    let slip = Slip {
+        name: "leaving-out-a-pair-of-curves",
+        file: "singularity/j1j2free.rs",
+        text: "polynomials.iter().skip(index + 1)",
+        slip: "polynomials.iter().skip(index + 2)",
+    };
+    is_caught(slip, &["generated-two-free"]);
+}
+
+#[test]
+fn turning_the_operands_of_a_pair() {
+    let slip = Slip {
+        name: "turning-the-operands-of-a-pair",
+        file: "singularity/j1j2free.rs",
+        text: "        for [d, e, f] in polynomials.iter().skip(index + 1) {\n",
+        slip: "        for later in polynomials.iter().skip(index + 1) {\n            \
+               let [d, e, f] = [a, b, c];\n            \
+               let [a, b, c] = later;\n",
+    };
+    is_caught(slip, &["generated-two-free", "kept-half"]);
+}
+
+/// No slip: the order of change request 3. Cuts are sorted, so nothing shows it.
+#[test]
+fn pairs_by_their_later_curve_answer_alike() {
+    let order = Slip {
+        name: "pairs-by-their-later-curve",
+        file: "singularity/j1j2free.rs",
+        text: "        for [d, e, f] in polynomials.iter().skip(index + 1) {\n",
+        slip: "        for earlier in polynomials.iter().take(index) {\n            \
+               let [d, e, f] = [a, b, c];\n            \
+               let [a, b, c] = earlier;\n",
+    };
+    assert!(caught(order).is_empty());
 }
 
 /// No sheet shows this one: it shows in Roots alone, where a bound is a zero.
