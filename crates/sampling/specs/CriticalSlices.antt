@@ -62,10 +62,11 @@ intersection k l =
     let sine-numerator = determinant (k .c) (l .a) (l .c) (k .a) in
     squares cosine-numerator sine-numerator denominator
 
--- a curve's polynomials, by its place; the order has no place past the list
+-- what stands past the list, where the order has no place
 abbrev pub nowhere : Polynomials
 nowhere = record { a = []; b = []; c = [] }
 
+-- a curve's polynomials, by its place
 abbrev pub at : List Polynomials → ℕ → Polynomials
 at ks i = getD ks i nowhere
 
