@@ -3,7 +3,8 @@ use Prim.Native.Nat.{suc, _≤_}
 use native.Mathlib.Omega.{arith}
 use mathlib.Core.Path.{_≡_, refl, sym, ap, ap₂, _∙_}
 use mathlib.Core.Bool.{Bool, true, false, not, cond}
-use mathlib.Core.List.{List, [], _∷_, _++_, append-nil, append-assoc, List·Permᴰ, List·Permᴰ·trans, Permᴰ·append-left, Permᴰ·append-right}
+use mathlib.Core.List.{List, [], _∷_, _++_, append-nil, append-assoc, List·Permᴰ, List·Permᴰ·trans, List·Permᴰ·append-comm, Permᴰ·append-left}
+use mathlib.Core.List.{Permᴰ·append-right}
 use lib.Dec.{T}
 use lib.ListN.{length}
 use lib.Ieee.{Float, binary64, fits}
@@ -14,7 +15,7 @@ use Rattle.polynomial.specs.Polynomial.{evaluate, near-zero}
 use Rattle.polynomial.specs.Roots.{touches, crosses, crossing, crossings, bisected}
 use Rattle.polynomial.specs.Promises.Inside.{Ready, touched, crossed}
 use Rattle.polynomial.specs.Promises.Lists.{Fit}
-use Rattle.polynomial.specs.Laws.Cuts.{cuts-cons, cuts-perm, perm-comm, fit-append, put-most, put-longer}
+use Rattle.polynomial.specs.Laws.Cuts.{cuts-cons, cuts-perm, fit-append, put-most, put-longer}
 use Rattle.polynomial.specs.Laws.Bisection.{bisected-in}
 use Rattle.polynomial.specs.declared.compensated.Compensated.{Compensated}
 use Rattle.polynomial.specs.declared.roots.Interval.{Interval}
@@ -111,7 +112,7 @@ module _ (p : List Compensated) where
 -- ---- the order in which the values come
 
 swap : (a b c : List Float) → List·Permᴰ (a ++ (b ++ c)) (b ++ (a ++ c))
-swap a b c = simp append-assoc at (Permᴰ·append-right c (perm-comm a b))
+swap a b c = simp append-assoc at (Permᴰ·append-right c (List·Permᴰ·append-comm a b))
 
 shuffle : (A B X T E : List Float) → List·Permᴰ ((A ++ B) ++ (X ++ (T ++ E))) (((T ++ A) ++ (X ++ B)) ++ E)
 shuffle A B X T E =
@@ -154,5 +155,5 @@ module _ (p : List Compensated) where
       let f = fit-one (near-zero p x) x (h .0 .lo-fits) in
       ap (λ (s : List Float). run p s x (b ∷ r)) (first x)
       ∙ run-cuts t x (b ∷ r) f h
-      ∙ cuts-perm (perm-comm (m ++ n) t) (fit-append (m ++ n) t (fit-both p x (b ∷ r) h) f)
+      ∙ cuts-perm (List·Permᴰ·append-comm (m ++ n) t) (fit-append (m ++ n) t (fit-both p x (b ∷ r) h) f)
       ∙ ap cuts (sym (append-assoc t m n) ∙ ap (λ (y : List Float). y ++ n) (sym (touches-cons p x (b ∷ r))))

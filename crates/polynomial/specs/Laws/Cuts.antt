@@ -1,23 +1,21 @@
 -- Laws of `sort`, `dedup`, `cuts` and `put`. Those of `put` hold for every value, NaN included. Where values change places,
 -- as in `cuts-perm`, they have to fit the format, so that values which `total_cmp` does not tell apart are one.
 -- A list of cuts increases strictly, and a list that does is its own list of cuts.
-use mathlib.Core.Path.{_≡_, refl, sym, ap, subst, _∙_}
-use mathlib.Core.Bool.{Bool, true, false, not, cond}
-use mathlib.Core.List.{List, [], _∷_, _++_, List·Permᴰ, List·Permᴰ·nil}
-use mathlib.Core.List.{List·Permᴰ·cons, List·Permᴰ·swap, List·Permᴰ·trans, Permᴰ·symm, Permᴰ·middle, Permᴰ·append-nil}
-use lib.Dec.{T}
 use Prim.Native.Nat.{ℕ, suc, _≤_}
 use native.Mathlib.Nat.{le-refl}
 use native.Mathlib.Omega.{arith}
+use mathlib.Core.Path.{_≡_, refl, sym, ap, subst, _∙_}
+use mathlib.Core.Bool.{Bool, true, false, not, cond}
+use mathlib.Core.List.{List, [], _∷_, _++_, List·Permᴰ, List·Permᴰ·nil, List·Permᴰ·cons, List·Permᴰ·swap, List·Permᴰ·trans, List·Permᴰ·append-comm}
+use lib.Dec.{T}
 use lib.ListN.{length, drop}
 use lib.Ieee.{Float, binary64, eq, fits, isNan}
 use lib.Ieee.Bits.{is-true}
 use Rattle.float.specs.Number.{total-le}
 use Rattle.polynomial.specs.Cuts.{ins, sort, rest, dedup, cuts, put}
-use Rattle.polynomial.specs.Promises.Lists.{All}
+use Rattle.polynomial.specs.Promises.Lists.{All, From, Sorted, Fits, Fit}
 use Rattle.polynomial.specs.Laws.Lists.{all-append, all-right, all-drop}
 use Rattle.float.specs.Laws.Total.{total-le-total, total-le-trans, total-le-refl, total-le-antisym, eq-refl, between-low, eq-sym, eq-cong}
-use Rattle.polynomial.specs.Promises.Lists.{From, Sorted, Fits, Fit}
 
 -- ---- order
 
@@ -257,13 +255,9 @@ fit-append = all-append Fits
 pub fit-right : (a b : List Float) → Fit (a ++ b) → Fit b
 fit-right = all-right Fits
 
-pub perm-comm : (a b : List Float) → List·Permᴰ (a ++ b) (b ++ a)
-perm-comm [] b = Permᴰ·symm (Permᴰ·append-nil b)
-perm-comm (x ∷ a) b = List·Permᴰ·trans (List·Permᴰ·cons refl (perm-comm a b)) (Permᴰ·symm (Permᴰ·middle x b a))
-
 -- a push to the end
 pub cuts-snoc : (l : List Float) (v : Float) → Fit l → T (fits binary64 v) → cuts (l ++ v ∷ []) ≡ put v (cuts l)
-cuts-snoc l v f h = cuts-perm (perm-comm l (v ∷ [])) (fit-append l (v ∷ []) f (h, tt)) ∙ cuts-cons v l
+cuts-snoc l v f h = cuts-perm (List·Permᴰ·append-comm l (v ∷ [])) (fit-append l (v ∷ []) f (h, tt)) ∙ cuts-cons v l
 
 -- cutting a part beforehand changes nothing
 cuts-right : (a b : List Float) → cuts (a ++ cuts b) ≡ cuts (a ++ b)
@@ -292,12 +286,12 @@ fit-cuts = all-cuts Fits
 
 pub cuts-left : (a b : List Float) → Fit a → Fit b → cuts (cuts a ++ b) ≡ cuts (a ++ b)
 cuts-left a b f g =
-    cuts-perm (perm-comm (cuts a) b) (fit-append (cuts a) b (fit-cuts a f) g)
+    cuts-perm (List·Permᴰ·append-comm (cuts a) b) (fit-append (cuts a) b (fit-cuts a f) g)
     ∙ cuts-right b a
-    ∙ cuts-perm (perm-comm b a) (fit-append b a g f)
+    ∙ cuts-perm (List·Permᴰ·append-comm b a) (fit-append b a g f)
 
 pub cuts-longer-left : (a b : List Float) → Fit a → Fit b → length (cuts a) ≤ length (cuts (a ++ b))
-cuts-longer-left a b f g = rw (cuts-perm (perm-comm a b) (fit-append a b f g)) (cuts-longer b a)
+cuts-longer-left a b f g = rw (cuts-perm (List·Permᴰ·append-comm a b) (fit-append a b f g)) (cuts-longer b a)
 
 pub fit-drop : (k : ℕ) (l : List Float) → Fit l → Fit (drop k l)
 fit-drop = all-drop Fits

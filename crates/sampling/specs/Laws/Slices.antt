@@ -6,7 +6,7 @@ use native.Mathlib.Omega.{arith}
 use mathlib.Core.Path.{_≡_, refl, sym, ap, subst, _∙_}
 use mathlib.Core.Bool.{Bool, true, false, not, cond}
 use mathlib.Core.List.{List, [], _∷_, _++_, append-assoc, List·Permᴰ, List·Permᴰ·cons, List·Permᴰ·swap, List·Permᴰ·trans, Permᴰ·middle}
-use mathlib.Core.List.{Permᴰ·append-left, Permᴰ·append-right, Permᴰ·append-nil}
+use mathlib.Core.List.{List·Permᴰ·append-comm, Permᴰ·append-left, Permᴰ·append-right, Permᴰ·append-nil}
 use lib.Dec.{T}
 use lib.ListN.{length, length-append}
 use lib.Ieee.{Float, nan, inf, fin, binary64, eq, fits, isNan}
@@ -15,7 +15,7 @@ use Rattle.float.specs.Number.{total-le}
 use Rattle.float.specs.Laws.Total.{eq-refl}
 use Rattle.polynomial.specs.Cuts.{sort, rest, dedup, cuts, put}
 use Rattle.polynomial.specs.Promises.Lists.{Fit}
-use Rattle.polynomial.specs.Laws.Cuts.{fit-append, fit-right, fit-cuts, fit-perm, perm-comm, cuts-perm, cuts-cons, absorb}
+use Rattle.polynomial.specs.Laws.Cuts.{fit-append, fit-right, fit-cuts, fit-perm, cuts-perm, cuts-cons, absorb}
 use Rattle.polynomial.specs.Laws.Enclosed.{cuts-short}
 use Rattle.sampling.specs.Slices.{mids, slices}
 use Rattle.polynomial.specs.Kinds.{among}
@@ -91,7 +91,7 @@ module _ (r lo hi : Float) (a b : List Float) (fr : T (fits binary64 r)) (fl : T
   high-in : put hi (cuts all) ≡ cuts all
   high-in =
       let e : cuts all ≡ cuts (q ++ (mids q ++ (p ++ mids p))) =
-      cuts-perm (perm-comm (p ++ mids p) (q ++ mids q)) (fit-append (p ++ mids p) (q ++ mids q) fit-p fit-q)
+      cuts-perm (List·Permᴰ·append-comm (p ++ mids p) (q ++ mids q)) (fit-append (p ++ mids p) (q ++ mids q) fit-p fit-q)
       ∙ ap cuts (append-assoc q (mids q) (p ++ mids p)) in
       rw e (absorb hi b (mids q ++ (p ++ mids p)) nh fh fb (fit-append (mids q) (p ++ mids p) (fit-right q (mids q) fit-q) fit-p))
 
