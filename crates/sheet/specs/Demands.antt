@@ -1,6 +1,6 @@
--- The three demands, and what the editions promise, as statements about the definitions that the contracts of Sampling and Check cite; `Laws.Demands` and
--- `Laws.Editions` prove each. What stays with the contracts: that the code's answer, output and work are these definitions' (`sample::sample`,
--- `check::check`).
+-- The three demands, what the editions promise, and that the order of pairs changed no answer, as statements about the definitions that the contracts of
+-- Sampling and Check cite; `Laws.Demands`, `Laws.Editions` and `Laws.RustOrder` prove each. What stays with the contracts: that the code's
+-- answer, output and work are these definitions' (`sample::sample`, `check::check`).
 use Prim.Native.Nat.{ℕ, _+_, _*_, _≤_, _<_}
 use mathlib.Core.Path.{_≡_}
 use mathlib.Core.List.{List}

@@ -1,7 +1,8 @@
 -- Requests and sheets: document 01's module 7. What a reader must believe are the definitions beside this file, each with its sentence of 01:
 -- `Bytes`, `Edition` (the editions of the sheet), `Request` (positions, which fields are read, blanking), `Fields` (the job that the fields say, and its
 -- matrix), `Refusals` (answers, and the number of each refusal), `Validate` (1 to 8 in order, and 41), `Sheet` (its sizes and trailer), `Sampling` (9 to 11,
--- the sheet and the output afterwards), `Check` (31 to 36), `Demands` (the three demands as statements about them, and what editions promise).
+-- the sheet and the output afterwards), `Check` (31 to 36), `Demands` (statements about them: the three demands, what editions
+-- promise, and that the order of pairs changed no answer).
 -- `RustOrder`: Sampling and Check before 02's change 3, to compare with; nothing is promised by it.
 -- `Promises`: what inner functions promise one another.
 -- `Laws`: theorems, `Demands` among them, that upper crates cite.

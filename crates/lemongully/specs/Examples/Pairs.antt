@@ -1,5 +1,4 @@
 -- The order in which three curves are taken (02, change 3) and the Rust's order, each computed by antt, and how many calls 18 curves make.
-use Prim.Native.Nat.{ℕ}
 use mathlib.Core.Path.{_≡_, refl}
 use mathlib.Core.List.{[], _∷_}
 use lib.ListN.{length}

@@ -1,12 +1,12 @@
 -- The polynomials that the root finder is asked about, curve by curve: a curve more at the list's end asks for its own tangency and for its
 -- intersection with each earlier curve, and for nothing else.
-use Prim.Native.Nat.{ℕ, zero, suc, _≤_, _<_}
+use Prim.Native.Nat.{ℕ, zero, suc, _+_, _≤_, _<_}
 use native.Mathlib.Omega.{arith}
 use mathlib.Core.Path.{_≡_, refl, sym, ap, _∙_}
 use mathlib.Core.Bool.{Bool, true, _&&_, and-assoc}
 use mathlib.Core.List.{List, [], _∷_, _++_, map, flatMap, append-assoc, map-append}
 use lib.ListN.{length, take, length-append, List·getD-append}
-use lib.Seq.{take-suc, take-length, getD-append-seam}
+use lib.Seq.{take-suc, take-length, take-append-seam, getD-append-seam}
 use lib.Ieee.{Float}
 use borrow.Author.Tests.{eq-eqb, ne-eqb}
 use Rattle.polynomial.specs.Promises.Lists.{All}
@@ -16,7 +16,7 @@ use Rattle.sampling.specs.Pairs.{earlier, order}
 use Rattle.sampling.specs.CriticalSlices.{Polynomials, polynomials, all-polynomials, tangency, intersection, chart-roots, chart-holds}
 use Rattle.sampling.specs.CriticalSlices.{charts-hold, nowhere, at, asked, calls, critical, critical-holds}
 use Rattle.sampling.specs.Promises.Numerators.{meetings}
-use Rattle.sampling.specs.Laws.Pairs.{Placed, order-placed, order-more}
+use Rattle.sampling.specs.Laws.Pairs.{Placed, order-placed, added, order-added}
 use Rattle.sampling.specs.declared.critical_slices.Chart.{Chart}
 
 -- ---- what is asked, place by place
@@ -39,6 +39,22 @@ module _ (ks more : List Polynomials) where
   all-before [] h = refl
   all-before (p ∷ ps) h = λ i. asked-before p (h .0) i ∷ all-before ps (h .1) i
 
+  -- with more curves at the list's end, all that was asked is asked first, as it was
+  abbrev new-calls : List (List Compensated)
+  new-calls = map (asked (ks ++ more)) (added (length ks) (length more))
+
+  calls-added : calls (ks ++ more) ≡ calls ks ++ new-calls
+  unfolding calls
+  calls-added =
+      let n = length ks in
+      let m = length more in
+      let split = map-append (asked (ks ++ more)) (order n) (added n m) in
+      ap (λ (s : ℕ). map (asked (ks ++ more)) (order s)) (length-append ks more) ∙ ap (map (asked (ks ++ more))) (order-added n m) ∙ split
+      ∙ ap (λ (l : List (List Compensated)). l ++ new-calls) (all-before (order n) (order-placed n))
+
+  pub calls-front : take (length (calls ks)) (calls (ks ++ more)) ≡ calls ks
+  calls-front = rw calls-added (take-append-seam (calls ks) new-calls)
+
 module _ (ks : List Polynomials) (k : Polynomials) where
   abbrev grown : List Polynomials
   grown = ks ++ (k ∷ [])
@@ -58,15 +74,12 @@ module _ (ks : List Polynomials) (k : Polynomials) where
 
   -- A curve more asks for its own tangency and for its intersection with each earlier one, behind all that was asked before.
   pub calls-more : calls grown ≡ calls ks ++ (tangency k ∷ meetings ks k)
-  unfolding calls
   calls-more =
       let n = length ks in
-      let size : length grown ≡ suc n = omega (arith, length-append ks (k ∷ [])) in
-      let old : map (asked grown) (order n) ≡ calls ks = all-before ks (k ∷ []) (order n) (order-placed n) in
+      let e : n + 0 ≡ n = omega arith in
       let own : asked grown (n, n) ≡ tangency k = asked-own grown n ∙ ap tangency last in
       let new : map (asked grown) (earlier n n) ≡ meetings ks k = earlier-asked n (omega arith) ∙ rw (take-length ks) in
-      ap (λ (m : ℕ). map (asked grown) (order m)) size ∙ ap (map (asked grown)) (order-more n)
-      ∙ map-append (asked grown) (order n) ((n, n) ∷ earlier n n) ∙ (λ i. old i ++ (own i ∷ new i))
+      calls-added ks (k ∷ []) ∙ ap (λ (m : ℕ). calls ks ++ map (asked grown) ((m, m) ∷ earlier m m)) e ∙ (λ i. calls ks ++ (own i ∷ new i))
 
 -- ---- what the calls give
 
@@ -94,6 +107,16 @@ module _ (c : Chart) where
   pub critical-holds-nil : critical-holds c [] ≡ true
   unfolding critical-holds calls order charts-hold
   critical-holds-nil = refl
+
+  -- so all angles that were found are found first
+  pub critical-front : (l more : List Curve) → take (length (critical c l)) (critical c (l ++ more)) ≡ critical c l
+  unfolding critical
+  critical-front l more =
+      let new = new-calls (of l) (of more) in
+      let e : critical c (l ++ more) ≡ critical c l ++ flatMap (chart-roots c) new =
+      ap (λ (ks : List Polynomials). flatMap (chart-roots c) (calls ks)) (map-append (λ (d : Curve). polynomials d (c .origin)) l more)
+      ∙ ap (flatMap (chart-roots c)) (calls-added (of l) (of more)) ∙ roots-append (calls (of l)) new in
+      rw e (take-append-seam (critical c l) (flatMap (chart-roots c) new))
 
   module _ (l : List Curve) (q : Curve) where
     abbrev k : Polynomials

@@ -4,8 +4,10 @@ use native.Mathlib.Omega.{arith}
 use native.Mathlib.Decide.{ℕ-discrete, decLt}
 use mathlib.Core.Path.{_≡_, refl, sym, ap, _∙_}
 use mathlib.Core.Bool.{Bool, true, false, cond, _&&_}
-use mathlib.Core.List.{List, [], _∷_, _++_}
+use mathlib.Core.List.{List, [], _∷_, _++_, append-nil, append-assoc}
 use lib.Dec.{eqb, leb, ltb}
+use lib.ListN.{length, take, drop}
+use lib.Seq.{take-append-seam, drop-append-seam}
 use borrow.Author.Tests.{lt-ltb, le-ltb, le-leb, lt-leb, eq-eqb, ne-eqb}
 use Rattle.polynomial.specs.Promises.Lists.{All}
 use Rattle.polynomial.specs.Laws.Lists.{all-append}
@@ -34,6 +36,46 @@ order-placed-below (suc n) m h =
 
 pub order-placed : (n : ℕ) → All (Placed n) (order n)
 order-placed n = order-placed-below n n (omega arith)
+
+-- ---- more curves at the list's end
+
+module _ (n : ℕ) where
+  -- what m curves behind n add
+  abbrev pub added : ℕ → List (ℕ × ℕ)
+  added zero = []
+  added (suc m) = added m ++ ((n + m, n + m) ∷ earlier (n + m) (n + m))
+
+  pub order-added : (m : ℕ) → order (n + m) ≡ order n ++ added m
+  order-added zero =
+      let e : n + 0 ≡ n = omega arith in
+      ap order e ∙ sym (append-nil (order n))
+  order-added (suc m) =
+      let e : n + suc m ≡ suc (n + m) = omega arith in
+      let new : List (ℕ × ℕ) = (n + m, n + m) ∷ earlier (n + m) (n + m) in
+      ap order e ∙ order-more (n + m) ∙ ap (λ (l : List (ℕ × ℕ)). l ++ new) (order-added m) ∙ append-assoc (order n) (added m) new
+
+  -- All that was in the order stands in front, as it was.
+  pub order-front : (m : ℕ) → take (length (order n)) (order (n + m)) ≡ order n
+  order-front m = rw (order-added m) (take-append-seam (order n) (added m))
+
+  -- its later curve is a new one
+  abbrev pub New : ℕ × ℕ → Type 0
+  New p = n ≤ p .1
+
+  earlier-new : (i j : ℕ) → n ≤ j → All New (earlier i j)
+  unfolding earlier
+  earlier-new zero j h = tt
+  earlier-new (suc i) j h = all-append New (earlier i j) ((i, j) ∷ []) (earlier-new i j h) (h, tt)
+
+  added-new : (m : ℕ) → All New (added m)
+  added-new zero = tt
+  added-new (suc m) =
+      let h : n ≤ n + m = omega arith in
+      all-append New (added m) ((n + m, n + m) ∷ earlier (n + m) (n + m)) (added-new m) (h, earlier-new (n + m) (n + m) h)
+
+  -- Behind it the later curve of each pair is one of the new ones.
+  pub order-behind : (m : ℕ) → All New (drop (length (order n)) (order (n + m)))
+  order-behind m = rw (order-added m, drop-append-seam (order n) (added m)) (added-new m)
 
 -- ---- how often
 

@@ -1,6 +1,6 @@
 -- What the functions of `critical_slices` say of the numerators that they are handed.
-use mathlib.Core.List.{List, map}
 use Prim.Native.Nat.{_≤_}
+use mathlib.Core.List.{List, map}
 use lib.ListN.{length, take}
 use Rattle.polynomial.specs.declared.compensated.Compensated.{Compensated}
 use Rattle.polynomial.specs.declared.curve.Numerators.{Numerators}
