@@ -222,7 +222,7 @@ fn leaving_out_a_pair_of_curves() {
         text: "polynomials.iter().skip(index + 1)",
         slip: "polynomials.iter().skip(index + 2)",
     };
-    is_caught(slip, &["generated-two-free"]);
+    is_caught(slip, &["generated-two-free", "kept-half"]);
 }
 
 #[test]
