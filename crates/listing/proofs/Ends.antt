@@ -13,7 +13,7 @@ use Rattle.sheet.specs.Laws.Sampling.{length-sheet}
 use Rattle.sheet.specs.Laws.Accepted.{answer-passed, answer-count}
 use Rattle.sheet.specs.Laws.Demands.{checked-length}
 use Rattle.sheet.specs.Check as Check
-use Rattle.text.specs.Decimal.{numbered}
+use Rattle.text.specs.Numbered.{numbered}
 use Rattle.listing.specs.Listing.{places, most, refused-word, too-long, head, count, lines, check-text, make-output, make-error, filled}
 
 -- ---- check_text

@@ -7,8 +7,9 @@ use lib.ListN.{length, set, take, drop, length-append, length-drop, drop-of-leng
 use lib.Seq.{sets, sets-eq, drop-drop, take-all, take-at}
 use borrow.Rule.Slice.PartMut.{putMid, midOf}
 use borrow.Author.Tests.{le-leb, lt-leb}
-use Rattle.text.specs.Hex.{spelled}
-use Rattle.text.specs.Laws.Stores.{joined, length-spelled}
+use Rattle.digits.specs.Hex.{spelled}
+use Rattle.digits.specs.Laws.Lengths.{length-spelled}
+use Rattle.digits.specs.Laws.Stores.{joined}
 use Rattle.listing.specs.Listing.{item, lines, filled, after, printed}
 use Rattle.listing.specs.declared.printed.Printed.the-variants.{Length, Short}
 
@@ -19,20 +20,9 @@ line w = spelled 16 w ++ (10 ∷ [])
 length-line : (w : ℕ) → length (line w) ≡ 17
 length-line w = rw (length-append, length-spelled 16 w)
 
--- the digits are stored at the start of a part that was lent, and then the line's end
-pub line-stores : (out : List ℕ) (at k w : ℕ) → at + 16 ≤ length out → k ≡ length out - at
-    → set (putMid at k out (spelled 16 w ++ drop 16 (midOf at k out))) (at + 16) 10 ≡ sets out at (line w)
-line-stores out at k w h e =
-    let v = spelled 16 w in
-    let z : length v ≡ 16 = length-spelled 16 w in
-    let l : length (drop at out) ≡ k = length-drop at out ∙ sym e in
-    let all : take k (drop at out) ≡ drop at out = take-all k (drop at out) (omega arith) in
-    let short : length (drop at out) ≤ k = omega arith in
-    let none : drop k (drop at out) ≡ [] = drop-of-length-le (drop at out) short in
-    let s : sets out at v ≡ take at out ++ v ++ drop (at + length v) out = sets-eq v out at (rw z h) in
-    let p : putMid at k out (v ++ drop 16 (midOf at k out)) ≡ sets out at v =
-    rw (all, none, append-nil (v ++ drop 16 (drop at out)), drop-drop 16 at out, s, z) (sym (append-assoc (take at out) v (drop (at + 16) out))) in
-    rw p (joined v (10 ∷ []) out at (at + 16) (rw z))
+-- the digits are stored, and then the line's end
+pub line-stores : (out : List ℕ) (at w : ℕ) → set (sets out at (spelled 16 w)) (at + 16) 10 ≡ sets out at (line w)
+line-stores out at w = joined (spelled 16 w) (10 ∷ []) out at (at + 16) (rw (length-spelled 16 w))
 
 -- ---- lines
 -- a step stores the first line of those that are left

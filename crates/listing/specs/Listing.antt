@@ -10,8 +10,8 @@ use Rattle.sheet.specs.Refusals.{Answer, accepted, refused}
 use Rattle.sheet.specs.Sampling.{sheet}
 use Rattle.sheet.specs.Sampling as Sampling
 use Rattle.sheet.specs.Check as Check
-use Rattle.text.specs.Hex.{spelled}
-use Rattle.text.specs.Decimal.{numbered}
+use Rattle.digits.specs.Hex.{spelled}
+use Rattle.text.specs.Numbered.{numbered}
 use Rattle.listing.specs.declared.printed.Printed.{Printed}
 use Rattle.listing.specs.declared.printed.Printed.the-variants as printed-case
 

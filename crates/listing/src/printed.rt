@@ -4,11 +4,11 @@ ghost use mathlib.Core.List.{_++_, _∷_, []};
 ghost use Prim.Native.Nat.{_+_, _*_, _≤_};
 ghost use lib.ListN.{length};
 ghost use lib.Seq.{sets};
-ghost use Rattle.text.specs.Hex as Hex;
+ghost use Rattle.digits.specs.Hex as Hex;
 ghost use Rattle.listing.specs.Listing as Listing;
+use digits::hex::put_word;
+use digits::runs::put;
 use sheet::bytes::word;
-use text::decimal::put;
-use text::hex::put_word;
 
 // How many bytes the text has, or that fewer were lent.
 pub enum Printed {
@@ -21,7 +21,7 @@ fn put_line(text: &mut [u8], at: usize, w: u64)
     requires { ⌜ at + 17 ≤ length (now text) ⌝ }
     ensures { λ _. ⌜ now (text .exit) ≡ sets (now (text .entry)) at (Hex.spelled 16 w ++ (10 ∷ [])) ⌝ }
 {
-    put_word(&mut text[at..], w);
+    put_word(text, at, w);
     text[at + 16] = b'\n';
 }
 

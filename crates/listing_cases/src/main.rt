@@ -5,12 +5,12 @@
 // their order; what is not stored is zero. In this order: 01's whole sheet, the same job with a name
 // in edition 2, 01's sheet that says edition 2 (32), 17 angles, a changed angle (36), no byte (31),
 // 65,536 bytes (32), and one more (too long).
+use digits::hex::word;
 use libc::STDERR_FILENO;
 use libc::STDIN_FILENO;
 use libc::STDOUT_FILENO;
 use listing::check_text::check_text;
 use listing::printed::Printed;
-use text::hex::word;
 use text::input::Input;
 use text::input::read;
 use text::lines::bytes;

@@ -4,7 +4,7 @@ use mathlib.Core.Bool.{Bool, true, _&&_}
 use mathlib.Core.List.{List, [], _∷_}
 use lib.Dec.{leb, eqb}
 use lib.ListN.{length, getD}
-use Rattle.text.specs.Hex.{digits, value}
+use Rattle.digits.specs.Hex.{digits, value}
 
 -- Whether k words stand at `at`, a space before each.
 unfoldable pub are-words : List ℕ → ℕ → ℕ → Bool

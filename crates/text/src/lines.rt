@@ -6,8 +6,8 @@ ghost use Prim.Native.Nat.{_+_, _*_, _≤_, _<_, min};
 ghost use lib.ListN.{length, replicate};
 ghost use lib.Seq.{sets};
 ghost use Rattle.text.specs.Lines as Lines;
-use crate::hex::byte;
-use crate::hex::is_word;
+use digits::hex::byte;
+use digits::hex::is_word;
 
 // Room for a program's text, 3 MiB.
 pub fn room() -> [u8; 3145728]

@@ -2,6 +2,7 @@
 ghost use Prim.Native.Nat.{_+_, _*_, _≤_, _<_};
 ghost use lib.ListN.{length};
 use crate::digest::digest;
+use digits::hex::word;
 use float::number::bits;
 use sheet::check::Checked;
 use sheet::check::check;
@@ -10,17 +11,17 @@ use sheet::refusals::refusal_number;
 use sheet::sample::Sampled;
 use sheet::sample::sample;
 use std::num::wrapping_sub_u64;
-use text::hex::word;
 use text::lines::bytes;
 use text::lines::held;
 
 // How many words stand before the bytes; 0 for a mark that no operation has.
 fn head(mark: u8) -> usize
-    ensures { λ r. ⌜ r ≤ 5 ⌝ }
+    ensures { λ r. ⌜ r ≤ 6 ⌝ }
 {
     match mark {
         b'8' => 5,
         b'9' => 3,
+        b'0' => 6,
         _ => 0,
     }
 }
@@ -28,7 +29,7 @@ fn head(mark: u8) -> usize
 // The words that the line at `at` has by its length, or 0 where this is too large.
 pub(crate) fn words(s: &[u8], at: usize) -> usize
     requires { ⌜ at < length (now s) ⌝ }
-    ensures { λ r. ⌜ r ≤ 517 ⌝ }
+    ensures { λ r. ⌜ r ≤ 518 ⌝ }
 {
     let k = head(s[at]);
     if k < 1 {
@@ -67,7 +68,7 @@ fn expected(i: usize, places: usize) -> u64 {
 }
 
 // Whether every place of the work, of which so many were lent, holds what it is to hold.
-fn is_cleared(work: &[f64], places: usize) -> bool {
+pub(crate) fn is_cleared(work: &[f64], places: usize) -> bool {
     let mut good = true;
     let mut i = 0usize;
     while i < work.len() {

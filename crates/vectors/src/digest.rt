@@ -1,8 +1,8 @@
 // FNV-1a of 64 bits.
 ghost use mathlib.Core.Path.{_≡_};
 ghost use Rattle.vectors.specs.Digest as Digest;
+use digits::hex::wide;
 use std::num::wrapping_add_u64;
-use text::hex::wide;
 
 // The product with 2^40 + 435, modulo 2^64, by parts that fit.
 fn times_prime(h: u64) -> u64

@@ -2,9 +2,9 @@
 // and floor's whole number in two's complement.
 ghost use Prim.Native.Nat.{_+_, _*_, _≤_};
 ghost use lib.ListN.{length};
+use digits::hex::word;
 use float::number::bits;
 use float::number::of_bits;
-use text::hex::word;
 
 // How many words the line of a letter has: the operands, and the result; 0 for a letter that no
 // function has.

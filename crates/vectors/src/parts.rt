@@ -2,7 +2,7 @@
 // the numbers of its answer.
 ghost use Prim.Native.Nat.{_+_, _*_, _≤_};
 ghost use lib.ListN.{length};
-use text::hex::word;
+use digits::hex::word;
 
 // How many operands the function of a mark has; 0 for a mark that no function has.
 fn operands(mark: u8) -> usize {

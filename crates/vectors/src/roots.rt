@@ -1,10 +1,10 @@
 // A stored call of the operation Roots, made anew.
 ghost use Prim.Native.Nat.{_+_, _*_, _≤_, _<_};
 ghost use lib.ListN.{length};
+use digits::hex::word;
 use float::number::bits;
 use float::number::of_bits;
 use polynomial::operation::Answer;
-use text::hex::word;
 use text::lines::held;
 
 // The number of roots in an expected answer: none where it is below 0.

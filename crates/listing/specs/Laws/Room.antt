@@ -4,7 +4,7 @@ use native.Mathlib.Omega.{arith}
 use mathlib.Core.Path.{_≡_, refl, sym}
 use mathlib.Core.Bool.{Bool, true, false, cond}
 use mathlib.Core.List.{List, []}
-use lib.Dec.{leb, ltb, lit≤}
+use lib.Dec.{T, leb, ltb, lit≤}
 use lib.ListN.{length, length-append}
 use lib.Ieee.Bits.{is-true}
 use lib.Ieee.Fits.{and-r}
@@ -14,20 +14,9 @@ use Rattle.sheet.specs.Refusals.{Answer, accepted, refused}
 use Rattle.sheet.specs.Demands.{of-check, Among}
 use Rattle.sheet.specs.Laws.Demands.{answers, checked-length}
 use Rattle.sheet.specs.Check as Check
-use Rattle.text.specs.Decimal.{figures}
-use Rattle.text.specs.Laws.Stores.{length-spelled}
-use Rattle.listing.specs.Listing.{places, most, too-long, item, lines, report, check-text, printed}
+use Rattle.digits.specs.Laws.Lengths.{length-spelled, whole-short}
+use Rattle.listing.specs.Listing.{places, most, too-long, head, item, lines, report, check-text, printed}
 use Rattle.listing.specs.declared.printed.Printed.the-variants.{Length, Short}
-
--- ---- numbers
-one-more : (b : Bool) (l : List ℕ) (m : ℕ) → length l ≤ m → length (cond b [] l) + 1 ≤ suc m
-one-more true l m h = omega arith
-one-more false l m h = omega arith
-
-length-figures : (most n : ℕ) → length (figures most n) ≤ most
-unfolding figures
-length-figures zero n = lit≤ tt
-length-figures (suc m) n = rw length-append (one-more (ltb n 10) (figures m (n / 10)) m (length-figures m (n / 10)))
 
 pub length-lines : (s : List ℕ) (i n : ℕ) → length (lines s i n) ≡ 17 * n
 unfolding lines
@@ -35,11 +24,17 @@ length-lines s i zero = refl
 length-lines s i (suc n) = simp (length-append, length-spelled 16 (item s i), length-lines s (suc i) n) (omega arith)
 
 -- ---- the text
+-- a refusal's line
+pub length-refusal : (k : ℕ) → T (of-check k) → length (head (refused k)) ≤ 11
+length-refusal k g =
+    let l = leb-true k 36 (is-true (leb k 36) (and-r (leb 31 k) (leb k 36) g)) in
+    simp length-append (omega (arith, whole-short k 1 (omega arith)))
+
 length-report : (s : List ℕ) (a : Answer) → length s ≤ most → a ≡ Check.answer newest s places → Among of-check a → length (report a s) ≤ 147456
 length-report s (accepted n) h e g =
-    simp length-append (omega (arith, length-figures (suc n) n, length-lines s 0 n, checked-length newest s places n (sym e)))
-length-report s (refused k) h e g =
-    simp length-append (omega (arith, leb-true k 36 (is-true (leb k 36) (and-r (leb 31 k) (leb k 36) g)), length-figures (suc k) k, length-lines s 0 0))
+    let l = checked-length newest s places n (sym e) in
+    simp length-append (omega (arith, whole-short n 3 (omega arith), length-lines s 0 n))
+length-report s (refused k) h e g = rw length-append (omega (arith, length-refusal k g, length-lines s 0 0))
 
 pub room-suffices : (s : List ℕ) → length (check-text s) ≤ 147456
 unfolding check-text

@@ -9,7 +9,7 @@ use Rattle.sheet.specs.Sheet.{sheet-size}
 use Rattle.sheet.specs.Refusals.{accepted, refused}
 use Rattle.sheet.specs.Sampling.{answer, answer-of}
 use Rattle.sheet.specs.Laws.Accepted.{answer-room}
-use Rattle.text.specs.Decimal.{numbered}
+use Rattle.text.specs.Numbered.{numbered}
 use Rattle.listing.specs.Listing.{refused-word}
 use Rattle.listing.proofs.Lines.{sets-filled}
 use Rattle.listing.proofs.Ends.{accepted-sized, accepted-filled, refused-sized, refused-filled}

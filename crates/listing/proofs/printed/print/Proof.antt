@@ -5,7 +5,7 @@ use mathlib.Core.Path.{_≡_}
 use mathlib.Core.List.{List, _++_}
 use lib.ListN.{length, length-append}
 use borrow.Author.Needs.{needs}
-use Rattle.text.specs.Laws.Stores.{joined}
+use Rattle.digits.specs.Laws.Stores.{joined}
 use Rattle.listing.specs.Listing.{lines}
 use Rattle.listing.specs.Laws.Room.{length-lines}
 use Rattle.listing.proofs.Lines.{fits, fails}

@@ -3,8 +3,8 @@ use native.Mathlib.Omega.{arith}
 use mathlib.Core.Path.{_≡_, ap, _∙_}
 use lib.ListN.{length, take}
 use borrow.Author.Needs.{needs}
-use Rattle.text.specs.Decimal.{decimal}
-use Rattle.text.proofs.decimal.Figures.{few, decimal-is}
+use Rattle.digits.specs.Decimal.{whole}
+use Rattle.text.proofs.decimal.Figures.{few, whole-is}
 use Rattle.text.proofs.decimal.put_decimal.Statement.{statement}
 use Rattle.text.proofs.decimal.put_decimal.Tie as tie
 
@@ -36,7 +36,7 @@ returns : tie.Need-returns
 returns c =
     let b = c .before .before .before .before .before .decimal in
     let n = c .before .before .before .before .before .before .before .before .args .n in
-    let e : take (b .result) (b .last .1 .0) ≡ decimal n = b .ensures .1 .1 ∙ decimal-is (b .result) n (b .ensures .1 .0) in
+    let e : take (b .result) (b .last .1 .0) ≡ whole n = b .ensures .1 .1 ∙ whole-is (b .result) n (b .ensures .1 .0) in
     (b .ensures .0 .1 ∙ ap length e, (rw (c .before .before .put .ensures, e), few (b .result) n (omega arith) (b .ensures .1 .0)))
 
 pub put-decimal-spec : {M : Type 1} → statement M

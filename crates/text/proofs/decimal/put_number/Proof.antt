@@ -6,17 +6,18 @@ use mathlib.Core.List.{List, [], _∷_, _++_}
 use lib.ListN.{length, set, length-append, length-set}
 use lib.Seq.{sets}
 use borrow.Author.Needs.{needs}
-use Rattle.text.specs.Decimal.{decimal, numbered}
-use Rattle.text.specs.Laws.Stores.{joined}
+use Rattle.digits.specs.Decimal.{whole}
+use Rattle.text.specs.Numbered.{numbered}
+use Rattle.digits.specs.Laws.Stores.{joined}
 use Rattle.text.proofs.decimal.put_number.Statement.{statement}
 use Rattle.text.proofs.decimal.put_number.Tie as tie
 
 -- word, number and line's end, stored one after the other, are the line
-stored : (out word : List ℕ) (n k : ℕ) → k ≡ length (decimal n)
-    → set (sets (sets out 0 word) (length word) (decimal n)) (length word + k) 10 ≡ sets out 0 (numbered word n)
+stored : (out word : List ℕ) (n k : ℕ) → k ≡ length (whole n)
+    → set (sets (sets out 0 word) (length word) (whole n)) (length word + k) 10 ≡ sets out 0 (numbered word n)
 stored out word n k e =
-    rw (joined word (decimal n) out 0 (length word) (omega arith), e)
-    (joined (word ++ decimal n) (10 ∷ []) out 0 (length word + length (decimal n)) (simp length-append (omega arith)))
+    rw (joined word (whole n) out 0 (length word) (omega arith), e)
+    (joined (word ++ whole n) (10 ∷ []) out 0 (length word + length (whole n)) (simp length-append (omega arith)))
 
 -- src/decimal.rt:40:5
 put-requires : tie.Need-put-requires

@@ -6,7 +6,7 @@ use mathlib.Core.Path.{_≡_, refl, _∙_}
 use mathlib.Core.List.{List}
 use lib.ListN.{length, set, length-set}
 use lib.Seq.{sets}
-use Rattle.text.specs.Hex.{value}
+use Rattle.digits.specs.Hex.{value}
 use Rattle.text.specs.Lines.{bytes}
 use Rattle.text.proofs.lines.bytes.Statement.{statement}
 use Rattle.text.proofs.lines.bytes.Tie as tie
