@@ -1,6 +1,4 @@
 -- Laws on plain numbers and on rounding that more than one function's proof uses.
-mod Compare
-mod Cut
 mod Pattern
 mod Read
 mod Rounded

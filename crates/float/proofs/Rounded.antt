@@ -15,7 +15,7 @@ use lib.Ieee.Nearest.{closest, closest-same}
 use lib.Ieee.Order.{drop}
 use Rattle.float.specs.Promises.Jam.{jam}
 use Rattle.float.specs.Laws.Near.{size-gt}
-use Rattle.float.proofs.Cut.{closest-jam}
+use Rattle.float.specs.Laws.Cut.{closest-jam}
 
 -- ---- how many digits are dropped
 

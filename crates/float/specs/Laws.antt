@@ -9,6 +9,7 @@
 -- `Whole` (the counts of units as functions), `Close` (errors of rounding, in units).
 -- Bisection: `Middle` (the middle of an interval lies in it, and each half is narrower), `Between` (it stands between the ends in the order of `total_cmp`).
 -- Roots: `Grow` (what is not negative: squares, sums that do not go down), `Root` (bounds through the square root; normalized parts are within 2).
+-- Rounding to whole numbers: `Compare` (what `compare` answers), `Cut` (a number cut with its last digit set rounds as the whole of it does).
 -- Module 2: `Floor`, `Reduce` (the whole number of quarter turns and the reduced argument), `Sine`, `Trigonometry`, `Arctangent` (bounds on the results).
 pub mod Sign
 pub mod Like
@@ -25,6 +26,8 @@ pub mod Literals
 pub mod Operand
 pub mod Units
 pub mod Near
+pub mod Compare
+pub mod Cut
 pub mod Whole
 pub mod Close
 pub mod Extremes

@@ -6,4 +6,4 @@ pub mod product_error;
 mod remainder;
 pub mod sqrt;
 pub mod trig;
-mod wide;
+pub mod wide;

@@ -26,7 +26,7 @@ pub struct Parts {
 }
 
 // The sign, the digits and the place of a finite x.
-pub(crate) fn split(x: f64) -> Parts
+pub fn split(x: f64) -> Parts
     requires { ⌜ T (finite x) ⌝ }
     ensures { λ r. ⌜ Splits x (r .neg) (r .q) (r .k) ⌝ }
 {

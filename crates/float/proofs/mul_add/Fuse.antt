@@ -14,7 +14,7 @@ use lib.Pow.{pow-pos, pow-add, pow-mono}
 use lib.Ieee.{Float, binary64, unlike, sum}
 use Rattle.float.specs.MulAdd.{mul-add}
 use Rattle.float.specs.Promises.Jam.{jam}
-use Rattle.float.proofs.Compare.{lt-or-le}
+use Rattle.float.specs.Laws.Compare.{lt-or-le}
 use Rattle.float.specs.Promises.Parts.{Splits, Combines}
 use Rattle.float.specs.Laws.Zero.{sum-comm}
 use Rattle.float.proofs.mul_add.Aligned.{jam-some, jam-below}

@@ -20,7 +20,7 @@ use lib.Ieee.Exact.{HasValue}
 use lib.Ieee.Scale.{finite}
 use lib.Ieee.Compare.{differs-from-itself}
 use Rattle.float.specs.Sqrt.{root, rootOf, sqrt}
-use Rattle.float.proofs.Compare.{cmp-is, lt-or-le}
+use Rattle.float.specs.Laws.Compare.{cmp-is, lt-or-le}
 use Rattle.float.proofs.Rounded.{size-is}
 use Rattle.float.specs.Promises.Parts.{Splits, Roots}
 use Rattle.float.specs.Laws.Root.{root-is}

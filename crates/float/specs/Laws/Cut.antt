@@ -11,7 +11,7 @@ use lib.Ieee.{nearest}
 use lib.Ieee.Nearest.{closest}
 use Rattle.float.specs.Promises.Jam.{jam}
 use Rattle.float.specs.Laws.Near.{Cmp, cmp}
-use Rattle.float.proofs.Compare.{cmp-is}
+use Rattle.float.specs.Laws.Compare.{cmp-is}
 
 -- `closest` from a whole part q and a rest r
 closest-at : (a u q r : ℕ) → a ≡ q * u + r → r < u → closest a u ≡ nearest q (compare (r * 2) u)
