@@ -11,9 +11,10 @@
 -- and depend on its front alone), `J1j2free` (the cuts of a half as those of one list),
 -- `SliceCounts` (how many curves, bends and cuts of two free joints at most), `SliceBounds` (the cuts of both
 -- halves can be streamed), `Reference` (joint 1's reference as a model angle lies within P),
--- `Angles` (how many angles a job has at most; kind 3 tries the reference), `Reads` (what is not read changes no angle, no number of
--- cuts and no refusal), `Fit` (the format holds every angle), `Nested` (definitions of one sentence, test by test), `RustOrder` (the
--- order of pairs is a permutation of the Rust's, so every angle, number of cuts and refusal is that of before).
+-- `Angles` (how many angles a job has at most; kind 3 tries the reference), `AngleBounds` (every angle lies within ±64),
+-- `Reads` (what is not read changes no angle, no number of cuts and no refusal), `Fit` (the format holds every angle),
+-- `Nested` (definitions of one sentence, test by test), `RustOrder` (the order of pairs is a permutation of the Rust's,
+-- so every angle, number of cuts and refusal is that of before).
 pub mod Intervals
 pub mod Limits
 pub mod Pose
@@ -33,6 +34,7 @@ pub mod SliceCounts
 pub mod SliceBounds
 pub mod Reference
 pub mod Angles
+pub mod AngleBounds
 pub mod Reads
 pub mod Nested
 pub mod Fit

@@ -38,10 +38,10 @@ use Rattle.sampling.specs.Laws.Woven.{Small, cuts-woven}
 use Rattle.sampling.specs.declared.critical_slices.Chart.{Chart}
 use Rattle.sampling.specs.declared.j1j2free.Folded.{Folded}
 
-abbrev eight : Float
+abbrev pub eight : Float
 eight = fin false 1 (pos 3)
 
-ends-span : {lower upper : Float} → Ends lower upper → Span 3 lower upper
+pub ends-span : {lower upper : Float} → Ends lower upper → Span 3 lower upper
 ends-span e = record {
   room = lit< tt;
   lo-fits = e .lower-fits;
@@ -50,6 +50,11 @@ ends-span e = record {
   hi-within = weaken eight tt (e .upper-within);
   order = e .order;
 }
+
+-- what lies within ±8 lies within ±64
+pub all-small : (l : List Float) → All (Within eight) l → All Small l
+all-small [] h = tt
+all-small (x ∷ l) h = (weaken (fin false 1 (pos 6)) tt (h .0), all-small l (h .1))
 
 -- ---- what the curves give
 
@@ -103,43 +108,42 @@ module _ (c : Chart) (g : Charted c) where
 -- ---- copies
 
 module _ (lower upper : Float) (s : Span 3 lower upper) where
-  between-small : (x : Float) → T (le lower x) → T (le x upper) → Small x
-  between-small x a b =
+  between-within : (x : Float) → T (le lower x) → T (le x upper) → Within eight x
+  between-within x a b =
       let i = in-of lower upper x (and-i (finite lower) (finite upper) (s .lo-within .real) (s .hi-within .real)) a b in
-      let w : Within eight x = Le→within tt (Le-trans (i .upper) (within→Le tt tt (s .hi-within) .0))
-      (Le-trans (within→Le tt tt (s .lo-within) .1) (i .lower)) in
-      weaken (fin false 1 (pos 6)) tt w
+      Le→within tt (Le-trans (i .upper) (within→Le tt tt (s .hi-within) .0)) (Le-trans (within→Le tt tt (s .lo-within) .1) (i .lower))
 
-  inside-small : (x : Float) → All Small (inside lower upper x)
+  inside-within : (x : Float) → All (Within eight) (inside lower upper x)
   unfolding inside
-  inside-small x = go (le lower x) (le x upper) (between-small x)
+  inside-within x = go (le lower x) (le x upper) (between-within x)
     where
-      go : (a b : Bool) → (T a → T b → Small x) → All Small (cond (a && b) (x ∷ []) [])
+      go : (a b : Bool) → (T a → T b → Within eight x) → All (Within eight) (cond (a && b) (x ∷ []) [])
       go true true f = (f tt tt, tt)
       go true false f = tt
       go false b f = tt
 
-  copies-small : (angle : Float) → All Small (copies lower upper angle)
+  pub copies-within : (angle : Float) → All (Within eight) (copies lower upper angle)
   unfolding copies
-  copies-small angle =
+  copies-within angle =
       let at : Float → List Float = λ w. inside lower upper (angle ⊕ w ⊗ two-pi) in
-      let small : (w : Float) → All Small (at w) = λ w. inside-small (angle ⊕ w ⊗ two-pi) in
-      all-append Small (at (neg one-float) ++ at zero-float) (at one-float)
-      (all-append Small (at (neg one-float)) (at zero-float) (small (neg one-float)) (small zero-float)) (small one-float)
+      let within : (w : Float) → All (Within eight) (at w) = λ w. inside-within (angle ⊕ w ⊗ two-pi) in
+      all-append (Within eight) (at (neg one-float) ++ at zero-float) (at one-float)
+      (all-append (Within eight) (at (neg one-float)) (at zero-float) (within (neg one-float)) (within zero-float)) (within one-float)
 
   all-copies-small : (l : List Float) → All Small (all-copies lower upper l)
   unfolding all-copies
   all-copies-small [] = tt
-  all-copies-small (a ∷ l) = all-append Small (copies lower upper a) (all-copies lower upper l) (copies-small a) (all-copies-small l)
+  all-copies-small (a ∷ l) =
+      all-append Small (copies lower upper a) (all-copies lower upper l) (all-small (copies lower upper a) (copies-within a)) (all-copies-small l)
 
   -- ---- a half
 
   module _ (t : Folded) where
-    half-small : All Small (half-values (curves t) (bends t) lower upper)
+    pub half-small : All Small (half-values (curves t) (bends t) lower upper)
     half-small =
         let ends = lower ∷ [] ++ upper ∷ [] in
         let c = critical (chart lower upper) (curves t) in
-        let small : All Small ends = (weaken (fin false 1 (pos 6)) tt (s .lo-within), (weaken (fin false 1 (pos 6)) tt (s .hi-within), tt)) in
+        let small = all-small ends (s .lo-within, (s .hi-within, tt)) in
         all-append Small (ends ++ c) (all-copies lower upper (bends t))
         (all-append Small ends c small (critical-small (chart lower upper) (charted lower upper s) (curves t))) (all-copies-small (bends t))
 

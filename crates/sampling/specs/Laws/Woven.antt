@@ -31,10 +31,21 @@ record Pair (x y : Float) : Type 0 where
   below : T (total-le (middle x y) y)
   number-it : T (not (isNan (middle x y)))
 
+-- two neighbours of such cuts: an interval that can be halved
+pub neighbours : (x y : Float) → T (fits binary64 x) → T (fits binary64 y) → Small x → Small y → T (total-le x y) → eq y x ≡ false → Span 6 x y
+neighbours x y fx fy hx hy t e = record {
+  room = omega arith;
+  lo-fits = fx;
+  hi-fits = fy;
+  lo-within = hx;
+  hi-within = hy;
+  order = lt→Le x y (hx .real) (hy .real) (less x y (hy .real) t e);
+}
+
 pair : (x y : Float) → T (fits binary64 x) → T (fits binary64 y) → Small x → Small y → T (total-le x y) → eq y x ≡ false → Pair x y
 pair x y fx fy hx hy t e =
     let l = less x y (hy .real) t e in
-    let s : Span 6 x y = record { room = omega arith; lo-fits = fx; hi-fits = fy; lo-within = hx; hi-within = hy; order = lt→Le x y (hx .real) (hy .real) l } in
+    let s = neighbours x y fx fy hx hy t e in
     record { above = middle-above s l; below = middle-below s l; number-it = finite-number (middle x y) (middle-within s .real) }
 
 -- p stands before x
