@@ -30,6 +30,11 @@ unfoldable pub words-bytes : List ℕ → List ℕ
 words-bytes [] = []
 words-bytes (w ∷ ws) = bytes 8 w ++ words-bytes ws
 
+-- the first n 64-bit numbers of bytes
+unfoldable pub words : ℕ → List ℕ → List ℕ
+words zero s = []
+words (suc n) s = little-endian (take 8 s) ∷ words n (drop 8 s)
+
 -- n times +0.0
 abbrev pub zeros : ℕ → List Float
 zeros n = replicate n zero-float

@@ -4,7 +4,7 @@ use mathlib.Core.List.{List}
 use mathlib.Core.Bool.{Bool, true, false, _&&_}
 use lib.ListN.{length, take}
 use lib.Dec.{eqb, leb, ltb}
-use Rattle.sheet.specs.Bytes.{little-endian, part, words-bytes, same-bytes}
+use Rattle.sheet.specs.Bytes.{little-endian, part, words-bytes, words, same-bytes}
 use Rattle.sheet.specs.Edition.{known}
 use Rattle.sheet.specs.Request.{core-size, request-size, blank}
 use Rattle.sheet.specs.Refusals.{Answer, accepted, refused, need, fault-number}
@@ -37,6 +37,10 @@ request-of e s = part (length s - frame-size e) (request-size e) s
 
 abbrev pub items-of : Edition → List ℕ → List ℕ
 items-of e s = take (length s - frame-size e) s
+
+-- what a sheet lists, 64 bits each
+abbrev pub listed : List ℕ → List ℕ
+listed s = words (count-of s) s
 
 -- 32: the length is that of n items in this edition, 8n is a u32, and the trailer is theirs
 unfoldable pub formed : Edition → List ℕ → Bool

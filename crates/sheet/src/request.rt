@@ -22,7 +22,7 @@ use sampling::reads::reference_read;
 // has, the name what it has from edition 2 on.
 pub(crate) const CORE: usize = 264;
 
-pub(crate) const NAME: usize = CORE;
+pub const NAME: usize = CORE;
 
 pub(crate) const NAME_SIZE: usize = 32;
 

@@ -11,7 +11,7 @@ use crate::request::CORE;
 use crate::request::REQUEST;
 use crate::request::request_size;
 
-pub(crate) const TRAILER: usize = 16;
+pub const TRAILER: usize = 16;
 
 // A sheet of the newest edition without its items.
 pub const FRAME: usize = REQUEST + TRAILER;

@@ -190,7 +190,7 @@ checked-own e r m n places q f =
 pub few : Few
 few = angles-few
 
-few-items : (r : List ℕ) → length (items r) < items-bound
+pub few-items : (r : List ℕ) → length (items r) < items-bound
 unfolding angles
 few-items r =
     let f : length (angles r) < items-bound = few (job-of r) in

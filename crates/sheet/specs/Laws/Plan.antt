@@ -78,7 +78,7 @@ within-is (fin s m k) e =
 
 -- so the angles can be read off the plan
 module _ {e : Edition} (r : List ℕ) (g : Passed e r) where
-  passed-moderate : job-of r .kind ≡ J1j2free → Moderate (job-of r .j1)
+  pub passed-moderate : job-of r .kind ≡ J1j2free → Moderate (job-of r .j1)
   unfolding job-of joint-at head-right
   passed-moderate k =
       let t = folded-reads (shape-of r) (and-left _ _ (g .head)) k in
@@ -90,7 +90,7 @@ module _ {e : Edition} (r : List ℕ) (g : Passed e r) where
       }
 
   -- a reference is read from its bits
-  reference-fits : T (fits binary64 (job-of r .j1 .reference))
+  pub reference-fits : T (fits binary64 (job-of r .j1 .reference))
   unfolding job-of joint-at
   reference-fits = ofBits-fits binary64 _
 
