@@ -8,7 +8,7 @@ use mir.ValLaws.{toZ-ofZ}
 use Rattle.sheet.specs.Refusals.{signed}
 use Rattle.sheet.specs.Check.{answer-of}
 use Rattle.sheet.specs.declared.check.Checked.{Checked}
-use Rattle.lemongully.proofs.of_sheet.Signed.{fault-small, fits-pos, fits-negative, reads-negative}
+use Rattle.lemongully.proofs.Signed.{fault-small, fits-pos, fits-negative, reads-negative}
 use Rattle.lemongully.proofs.of_sheet.checked_number.Statement.{statement}
 use Rattle.lemongully.proofs.of_sheet.checked_number.Tie as tie
 

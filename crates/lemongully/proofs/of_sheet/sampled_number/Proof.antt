@@ -8,7 +8,7 @@ use mir.ValLaws.{toZ-ofZ}
 use Rattle.sheet.specs.Refusals.{signed}
 use Rattle.sheet.specs.Sampling.{answer-of}
 use Rattle.sheet.specs.declared.sample.Sampled.{Sampled}
-use Rattle.lemongully.proofs.of_sheet.Signed.{number-small, fits-pos, fits-negative, reads-negative}
+use Rattle.lemongully.proofs.Signed.{number-small, fits-pos, fits-negative, reads-negative}
 use Rattle.lemongully.proofs.of_sheet.sampled_number.Statement.{statement}
 use Rattle.lemongully.proofs.of_sheet.sampled_number.Tie as tie
 

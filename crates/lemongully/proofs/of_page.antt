@@ -1,3 +1,3 @@
 -- What the proofs of the two numbers for C use.
 
-mod Signed
+mod Room
