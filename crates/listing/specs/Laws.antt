@@ -1,3 +1,4 @@
--- `Room`: how long a text can be.
+-- `Room`: how long a text of `check_sheet` can be. `Pages`: and one of `show_pages`.
 
 pub mod Room
+pub mod Pages

@@ -1,4 +1,6 @@
-// What `check_sheet` and `make_sheet` print, as functions on slices. specs/Listing.antt defines the texts.
+// What the programs print of sheets and requests, as functions on slices. specs/Listing.antt and specs/Pages.antt
+// define the texts.
 pub mod check_text;
 pub mod make_text;
+pub mod pages_text;
 pub mod printed;

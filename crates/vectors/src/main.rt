@@ -29,12 +29,16 @@
 // 9 Check: bytes, places, answer, sheet. The digest is FNV-1a of the output's 8,192 bytes afterwards,
 // which hold 165 beforehand; request and sheet stand eight bytes to a word, zeros behind the last.
 //
-// The input is what the four programs of oracle/ write, one after the other.
+// Pages (`--bin page_samples`): D a decimal: a float and its 16 bytes, eight to a word; 0 Page: bytes,
+// page, places, room, answer, digest of the text's 8,192 bytes afterwards, sheet.
+//
+// The input is what the five programs of oracle/ write, one after the other.
 mod angles;
 mod calls;
 mod digest;
 mod floor;
 mod marks;
+mod pages;
 mod parts;
 mod roots;
 
@@ -124,7 +128,9 @@ fn report_layers(s: &[u8]) -> usize {
     report(s, b'6', b"interval");
     report(s, b'7', b"pose");
     report(s, b'8', b"sampling");
-    report(s, b'9', b"check")
+    report(s, b'9', b"check");
+    report(s, b'D', b"decimal");
+    report(s, b'0', b"page")
 }
 
 fn replay(s: &[u8]) {

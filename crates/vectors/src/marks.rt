@@ -12,7 +12,8 @@ fn words(s: &[u8], at: usize) -> usize
     match mark {
         b'1' | b'2' | b'3' => crate::roots::words(s, at),
         b'4' | b'5' | b'6' | b'7' => crate::parts::words(mark),
-        b'8' | b'9' => crate::calls::words(s, at),
+        b'0' | b'8' | b'9' => crate::calls::words(s, at),
+        b'D' => 3,
         _ => crate::floor::words(mark),
     }
 }
@@ -34,7 +35,9 @@ pub(crate) fn agrees(s: &[u8], at: usize, n: usize) -> bool
     match mark {
         b'1' | b'2' | b'3' => crate::roots::agrees(s, at, n),
         b'4' | b'5' | b'6' | b'7' => crate::parts::agrees(s, at, n),
+        b'0' => crate::pages::agrees(s, at, n),
         b'8' | b'9' => crate::calls::agrees(s, at, n),
+        b'D' => crate::pages::decimal_agrees(s, at, n),
         _ => crate::floor::agrees(s, at, n),
     }
 }
