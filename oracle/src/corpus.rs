@@ -3,8 +3,8 @@
 //! A line is the case's part, its operation and its arguments, divided by
 //! spaces. Bytes and floats are hexadecimal, lengths decimal; `-` is no byte.
 
-use crate::generate::{floats, requests, roots, sheets};
-use crate::{float, operations, trig};
+use crate::generate::{Random, decimals, floats, pages, requests, roots, sheets};
+use crate::{float, operations, page, trig};
 use std::collections::BTreeMap;
 
 /// One call of an operation.
@@ -13,6 +13,8 @@ pub enum Case {
     Sample(requests::Call),
     Roots(roots::Call),
     Check(sheets::Call),
+    Page(pages::Call),
+    Decimal(decimals::Call),
     Floats([u64; 3]),
 }
 
@@ -32,6 +34,8 @@ impl Case {
             Case::Sample(_) => "sample",
             Case::Roots(_) => "roots",
             Case::Check(_) => "check",
+            Case::Page(_) => "page",
+            Case::Decimal(_) => "decimal",
             Case::Floats(_) => "floats",
         }
     }
@@ -49,6 +53,11 @@ impl Case {
                 format!("{bounds} {} {} {parts}", call.result, call.kinds)
             }
             Case::Check(call) => format!("{} {}", hex(&call.sheet), call.work),
+            Case::Page(call) => {
+                let sheet = hex(&call.sheet);
+                format!("{sheet} {} {} {}", call.page, call.work, call.text)
+            }
+            Case::Decimal(call) => format!("{:016X} {}", call.x, call.text),
             Case::Floats(bits) => bits.map(|bits| format!("{bits:016X}")).join(" "),
         };
         format!("{} {arguments}", self.operation())
@@ -76,6 +85,16 @@ impl Case {
                 sheet: bytes(words.next()?)?,
                 work: words.next()?.parse().ok()?,
             })),
+            "page" => Some(Case::Page(pages::Call {
+                sheet: bytes(words.next()?)?,
+                page: words.next()?.parse().ok()?,
+                work: words.next()?.parse().ok()?,
+                text: words.next()?.parse().ok()?,
+            })),
+            "decimal" => Some(Case::Decimal(decimals::Call {
+                x: u64::from_str_radix(words.next()?, 16).ok()?,
+                text: words.next()?.parse().ok()?,
+            })),
             "floats" => {
                 let bits: Option<Vec<f64>> = words.map(float_of).collect();
                 let bits: [f64; 3] = bits?.try_into().ok()?;
@@ -89,27 +108,45 @@ impl Case {
     pub fn answer(&self) -> Answer {
         match self {
             Case::Sample(call) => {
-                let mut work = vec![7.5; call.work];
-                let mut output: Vec<u8> = (0..call.output).map(|at| (at % 251) as u8).collect();
+                let (mut work, mut output) = (vec![7.5; call.work], lent(call.output));
                 let number = operations::sample(&call.request, &mut work, &mut output);
-                let mut words: Vec<u64> = work.iter().map(|place| place.to_bits()).collect();
-                words.extend(output.chunks(8).map(little));
-                Answer { number, words }
+                written(number, &work, &output)
             }
             Case::Roots(call) => roots_answer(call),
             Case::Check(call) => {
                 let mut work = vec![7.5; call.work];
                 let number = operations::check(&call.sheet, &mut work);
-                Answer {
-                    number,
-                    words: work.iter().map(|place| place.to_bits()).collect(),
-                }
+                written(number, &work, &[])
+            }
+            Case::Page(call) => {
+                let (mut work, mut text) = (vec![7.5; call.work], lent(call.text));
+                let number = page::page_text(&call.sheet, call.page, &mut work, &mut text);
+                written(number, &work, &text)
+            }
+            Case::Decimal(call) => {
+                let mut text = lent(call.text);
+                let number = page::decimal_text(call.x, &mut text);
+                written(number, &[], &text)
             }
             Case::Floats(bits) => Answer {
                 number: 0,
                 words: floor_and_trigonometry(*bits),
             },
         }
+    }
+}
+
+/// The bytes of a slice before it is lent.
+pub fn lent(length: usize) -> Vec<u8> {
+    (0..length).map(|at| (at % 251) as u8).collect()
+}
+
+/// The words are the work places, then the bytes, eight to a word.
+fn written(number: i64, work: &[f64], bytes: &[u8]) -> Answer {
+    let places = work.iter().map(|place| place.to_bits());
+    Answer {
+        number,
+        words: places.chain(bytes.chunks(8).map(little)).collect(),
     }
 }
 
@@ -192,20 +229,30 @@ pub fn generated(seed: u64, size: usize) -> Corpus {
     part("check-two-free", size / 10, &|index| {
         Case::Check(sheets::call(seed, index, &[3]))
     });
-    let three = |index| {
-        let random = &mut crate::generate::Random::new(seed, index);
-        match index % 3 {
-            0 => floats::fma_triple(random),
-            1 => [
-                floats::sqrt_argument(random),
-                floats::float(random),
-                floats::float(random),
-            ],
-            _ => [(); 3].map(|()| floats::float(random)),
-        }
-    };
-    part("floats", 100 * size, &|index| Case::Floats(three(index)));
+    part("pages", 2 * size, &|index| {
+        Case::Page(pages::call(seed, index, &[1, 2]))
+    });
+    part("decimals", 50 * size, &|index| {
+        Case::Decimal(decimals::call(seed, index))
+    });
+    part("floats", 100 * size, &|index| {
+        Case::Floats(three_floats(seed, index))
+    });
     corpus
+}
+
+/// Operands of the fused product, of the square root, or any floats.
+fn three_floats(seed: u64, index: u64) -> [u64; 3] {
+    let random = &mut Random::new(seed, index);
+    match index % 3 {
+        0 => floats::fma_triple(random),
+        1 => [
+            floats::sqrt_argument(random),
+            floats::float(random),
+            floats::float(random),
+        ],
+        _ => [(); 3].map(|()| floats::float(random)),
+    }
 }
 
 /// A corpus as text, a case a line.

@@ -1,10 +1,12 @@
 //! Inputs by seed and index: the same numbers give the same bytes everywhere.
 
 pub mod aimed;
+pub mod decimals;
 pub mod floats;
 pub mod hostile;
 pub mod limits;
 pub mod names;
+pub mod pages;
 pub mod parts;
 pub mod requests;
 pub mod roots;

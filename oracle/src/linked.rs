@@ -288,3 +288,42 @@ pub mod sheet {
         unsafe { sheet_check(sheet.as_ptr(), sheet.len(), work.as_mut_ptr(), work.len()) }
     }
 }
+
+/// Pages of sheets: the text's length, or minus the refusal's number.
+pub mod page {
+    unsafe extern "C" {
+        fn page_text(
+            sheet: *const u8,
+            bytes: usize,
+            page: u64,
+            work: *mut f64,
+            places: usize,
+            text: *mut u8,
+            room: usize,
+        ) -> i64;
+        fn page_decimal(x: u64, text: *mut u8, room: usize) -> i64;
+    }
+
+    // SAFETY, for both: each slice is lent with its own length, and the function
+    // is proved to stay inside them.
+
+    /// A page of a sheet.
+    pub fn text(sheet: &[u8], page: u64, work: &mut [f64], text: &mut [u8]) -> i64 {
+        unsafe {
+            page_text(
+                sheet.as_ptr(),
+                sheet.len(),
+                page,
+                work.as_mut_ptr(),
+                work.len(),
+                text.as_mut_ptr(),
+                text.len(),
+            )
+        }
+    }
+
+    /// The columns of one angle, by its bits.
+    pub fn decimal(x: u64, text: &mut [u8]) -> i64 {
+        unsafe { page_decimal(x, text.as_mut_ptr(), text.len()) }
+    }
+}

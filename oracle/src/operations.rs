@@ -274,17 +274,24 @@ pub fn maker_output(input: &[u8]) -> (Vec<u8>, String) {
     (sheet, String::new())
 }
 
-/// What `check_sheet` prints for this standard input.
-pub fn program_output(input: &[u8]) -> String {
+/// The number of angles of a sheet that a program takes, or what it prints of
+/// another.
+pub fn program_check(input: &[u8]) -> Result<usize, String> {
     if input.len() > PROGRAM_INPUT {
-        return "too long\n".to_string();
+        return Err("too long\n".to_string());
     }
     let answer = check(input, &mut vec![0.0; PROGRAM_WORK]);
-    if answer < 0 {
-        return format!("refused {}\n", -answer);
-    }
-    let mut printed = format!("accepted {answer}\n");
-    for index in 0..answer as usize {
+    usize::try_from(answer).map_err(|_| format!("refused {}\n", -answer))
+}
+
+/// What `check_sheet` prints for this standard input.
+pub fn program_output(input: &[u8]) -> String {
+    let count = match program_check(input) {
+        Err(said) => return said,
+        Ok(count) => count,
+    };
+    let mut printed = format!("accepted {count}\n");
+    for index in 0..count {
         printed += &format!("{:016X}\n", request::word_at(input, 8 * index));
     }
     printed

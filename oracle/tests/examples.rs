@@ -8,6 +8,7 @@ use lemongully_oracle::generate::requests::Draft;
 use lemongully_oracle::generate::sheets::{one_angle, one_angle_named, put_trailer};
 use lemongully_oracle::kinematics_impl::{wrapped_angle, wrist_limit_intervals};
 use lemongully_oracle::operations::{check, check_as, program_output, roots_op, sample};
+use lemongully_oracle::page::pages_output;
 use lemongully_oracle::request::{FROM, SIGNS, SIZE, TO};
 use lemongully_oracle::touching::Root::{self, Crossing, Touch};
 use lemongully_oracle::trig;
@@ -302,6 +303,9 @@ fn program() {
     assert_eq!(program_output(&[0; 280]), "refused 32\n");
     assert_eq!(program_output(&[0; 65536]), "refused 32\n");
     assert_eq!(program_output(&[0; 65537]), "too long\n");
+    for input in [&[][..], &[0; 280], &[0; 65536], &[0; 65537]] {
+        assert_eq!(pages_output(input), program_output(input).as_bytes());
+    }
 }
 
 #[test]

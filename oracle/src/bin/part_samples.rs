@@ -1,6 +1,6 @@
 //! Writes the stored samples of module 4, a line each: the function's mark,
 //! 4 to 7, its operands and every number of its answer, as 16 capital
-//! hexadecimal digits. The same lines every time: the third of the four parts
+//! hexadecimal digits. The same lines every time: the third of the five parts
 //! of crates/vectors/stdin.
 
 use lemongully_oracle::generate::Random;

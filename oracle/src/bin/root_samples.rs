@@ -1,6 +1,6 @@
 //! Writes the stored calls of the operation Roots, a line each, as
 //! crates/vectors/src/main.rt reads them. The same lines every time: the second
-//! of the four parts of crates/vectors/stdin.
+//! of the five parts of crates/vectors/stdin.
 
 use lemongully_oracle::float;
 use lemongully_oracle::generate::roots::{Call, call};

@@ -1,7 +1,7 @@
 //! Writes the stored samples of the float floor and the trigonometry, a line
 //! each: the function's letter, its operands and its result, as 16 capital
 //! hexadecimal digits. The same lines every time:
-//! the first of the four parts of crates/vectors/stdin.
+//! the first of the five parts of crates/vectors/stdin.
 
 use lemongully_oracle::functions::{FUNCTIONS, Function};
 use lemongully_oracle::generate::Random;

@@ -1,7 +1,7 @@
 //! Writes the stored calls of Sampling and Check, a line each: the operation's
 //! letter, what is lent and answered, and the request or the sheet, as words
 //! of 16 capital hexadecimal digits (`crates/vectors/src/main.rt`). The
-//! same lines every time: the last of the four parts of crates/vectors/stdin.
+//! same lines every time: the fourth of the five parts of crates/vectors/stdin.
 //!
 //! Of the generated calls those are kept that are small, so many of each kind
 //! with its flags and edition, and so many of each refusal.
@@ -10,89 +10,12 @@ use lemongully_oracle::edition::{CORE, Edition, TRAILER};
 use lemongully_oracle::generate::{names, requests, sheets};
 use lemongully_oracle::operations;
 use lemongully_oracle::request::{SIGNS, SIZE};
-use std::collections::BTreeMap;
+use lemongully_oracle::stored::{
+    Kept, OUTPUT, RUBBISH, digest, inside, is_short, is_small, kinds, line,
+};
 use std::io::{BufWriter, Result, Write};
 
 const SEED: u64 = 1707;
-
-/// The bytes of the output, of which a call is lent the first.
-const OUTPUT: usize = 8192;
-/// What they hold beforehand.
-const RUBBISH: u8 = 165;
-
-/// The most inner calls of the root finder for which a request is small.
-const CALLS: usize = 200;
-/// The longest sheet that is stored.
-const SHEET: usize = 632;
-
-/// The calls that were kept, by their sort: an edition and a kind with its flags,
-/// or a refusal.
-struct Kept {
-    successes: usize,
-    refusals: usize,
-    counts: BTreeMap<(i64, [u8; 3]), usize>,
-}
-
-impl Kept {
-    /// None yet, and so many at most of each edition and kind with its flags, and
-    /// of each refusal.
-    fn at_most(successes: usize, refusals: usize) -> Self {
-        let counts = BTreeMap::new();
-        Self {
-            successes,
-            refusals,
-            counts,
-        }
-    }
-
-    /// Whether one more of this sort is wanted, which is then counted.
-    fn wants(&mut self, answer: i64, edition: Edition, request: &[u8]) -> bool {
-        let (sort, most) = if answer < 0 {
-            ((answer, [0; 3]), self.refusals)
-        } else {
-            let head = [request[0], request[1], request[2]];
-            ((i64::from(edition.number()), head), self.successes)
-        };
-        let count = self.counts.entry(sort).or_default();
-        *count += 1;
-        *count <= most
-    }
-}
-
-/// FNV-1a of 64 bits.
-fn digest(bytes: &[u8]) -> u64 {
-    bytes.iter().fold(0xCBF29CE484222325, |sum, &byte| {
-        (sum ^ u64::from(byte)).wrapping_mul(0x100000001B3)
-    })
-}
-
-/// A line: the letter, the words, and the bytes, eight to a word.
-fn line(lines: &mut impl Write, letter: char, words: &[u64], bytes: &[u8]) -> Result<()> {
-    write!(lines, "{letter}")?;
-    for word in words {
-        write!(lines, " {word:016X}")?;
-    }
-    for eight in bytes.chunks(8) {
-        let mut word = [0; 8];
-        word[..eight.len()].copy_from_slice(eight);
-        write!(lines, " {:016X}", u64::from_be_bytes(word))?;
-    }
-    writeln!(lines)
-}
-
-/// Whether sampling a request of this edition, if it comes to that, takes few
-/// inner calls.
-fn is_small(edition: Edition, request: &[u8]) -> bool {
-    operations::sampled(edition, request).map_or(true, |sampled| sampled.notes.calls <= CALLS)
-}
-
-/// Edition and request of a sheet; of one that is refused as 31 or 32, no byte.
-fn inside(sheet: &[u8]) -> (Edition, &[u8]) {
-    match operations::formed(Edition::NEWEST, sheet) {
-        Ok((edition, count)) => (edition, &sheet[8 * count..][..edition.request_size()]),
-        Err(_) => (Edition::NEWEST, &[]),
-    }
-}
 
 /// A call of Sampling and its answer.
 fn sample(lines: &mut impl Write, kept: Option<&mut Kept>, call: &requests::Call) -> Result<()> {
@@ -217,11 +140,6 @@ fn check_examples(lines: &mut impl Write) -> Result<()> {
     Ok(())
 }
 
-/// The kinds of the generated calls of an index: fewer of kind 3, which takes longer.
-fn kinds(index: u64) -> std::ops::RangeInclusive<u8> {
-    1..=if index < 300 { 3 } else { 2 }
-}
-
 fn main() -> Result<()> {
     let mut lines = BufWriter::new(std::io::stdout().lock());
     sample_examples(&mut lines)?;
@@ -240,8 +158,7 @@ fn main() -> Result<()> {
     for index in 0..4000 {
         for kind in kinds(index) {
             let call = sheets::call(SEED, index, &[kind]);
-            let (edition, request) = inside(&call.sheet);
-            if call.sheet.len() <= SHEET && is_small(edition, request) {
+            if is_short(&call.sheet) {
                 check(&mut lines, Some(&mut kept), &call)?;
             }
         }

@@ -46,13 +46,18 @@ pub fn call(seed: u64, index: u64, kinds: &[u8]) -> Call {
         9..13 => damage_edition(random, edition, &mut sheet),
         _ => {}
     }
-    let work = match random.below(6) {
+    let work = places(random, cuts);
+    Call { sheet, work }
+}
+
+/// The work places for so many cuts: mostly enough, else one short or any number.
+pub fn places(random: &mut Random, cuts: usize) -> usize {
+    match random.below(6) {
         0 => cuts.saturating_sub(1),
         1 => random.below(cuts + 1),
         2 => cuts,
         _ => operations::PROGRAM_WORK,
-    };
-    Call { sheet, work }
+    }
 }
 
 /// The request of 01's whole sheet, without a name: its one angle is zero.
