@@ -4,14 +4,14 @@ use lemongully_oracle::corpus::{self, Answer, Case};
 use lemongully_oracle::edition::{CORE, Edition, NAME, TRAILER};
 use lemongully_oracle::generate::requests::{self, Draft};
 use lemongully_oracle::generate::{Random, hostile, names, roots, sheets};
-use lemongully_oracle::operations;
 use lemongully_oracle::request::{self, SIZE};
+use lemongully_oracle::{operations, page};
 use std::collections::BTreeSet;
 
 const SEED: u64 = 20;
 const ONE_FREE: u64 = 20_000;
 const TWO_FREE: u64 = 250;
-const HOSTILE: u64 = 3_000;
+const HOSTILE: u64 = 5_000;
 
 /// The bytes of a new sheet beside its angles.
 const FRAME: usize = Edition::NEWEST.frame();
@@ -400,6 +400,8 @@ fn any_bytes_are_answered() {
         operations::roots_op(&words, bounds[0], bounds[1], work, kinds);
         operations::roots_op(&words, bounds[0], 4.0, work, kinds);
         operations::check(&bytes, work);
+        page::page_text(&bytes, random.bits(), work, kinds);
+        page::decimal_text(random.bits(), kinds);
         corpus::floor_and_trigonometry([(); 3].map(|()| random.bits()));
     }
 }
@@ -418,10 +420,10 @@ fn hostile_calls_reach_every_answer() {
         }
     }
     // Refusal 9 is not known to occur.
-    let expected = [(1..=8), (10..=11), (21..=24), (31..=36), (41..=41)];
+    let expected = [(1..=8), (10..=11), (21..=24), (31..=36), (41..=43)];
     let expected: Vec<i64> = expected.into_iter().flatten().collect();
     assert_eq!(refusals.into_iter().collect::<Vec<_>>(), expected);
-    assert_eq!(accepted.len(), 3);
+    assert_eq!(accepted.len(), 5);
 }
 
 #[test]

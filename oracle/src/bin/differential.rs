@@ -5,9 +5,10 @@
 
 use lemongully_oracle::functions::operands::Operands;
 use lemongully_oracle::functions::{FUNCTIONS, Function};
-use lemongully_oracle::generate::{Random, requests, roots, sheets};
+use lemongully_oracle::generate::{Random, decimals, pages, requests, roots, sheets};
 use lemongully_oracle::linked;
 use lemongully_oracle::operations::{check, roots_op, sample};
+use lemongully_oracle::page::{decimal_text, page_text};
 use lemongully_oracle::parts::{self, PARTS, Part};
 use std::process::ExitCode;
 
@@ -286,6 +287,56 @@ fn check_run(name: &'static str, kinds: &[u8], count: u64, seed: u64) -> Run {
     }
 }
 
+/// A page of sheets of requests of these kinds: its answer, every work place and
+/// every byte of the text, all of which hold rubbish beforehand.
+fn page_run(name: &'static str, kinds: &[u8], count: u64, seed: u64) -> Run {
+    let (places, bytes) = (rubbish_places(seed, 4096), rubbish_bytes(seed, 4096));
+    let (mut differences, mut first) = (0, None);
+    for index in 0..count {
+        let call = pages::call(seed, index, kinds);
+        let mut work = [places[..call.work].to_vec(), places[..call.work].to_vec()];
+        let mut text = [bytes[..call.text].to_vec(), bytes[..call.text].to_vec()];
+        let answer = page_text(&call.sheet, call.page, &mut work[0], &mut text[0]);
+        let linked = linked::page::text(&call.sheet, call.page, &mut work[1], &mut text[1]);
+        if answer != linked || text[0] != text[1] || !same_places(&work[0], &work[1]) {
+            differences += 1;
+            first.get_or_insert_with(|| format!("{call:02X?}: {answer}, linked {linked}"));
+        }
+    }
+    Run {
+        name,
+        inputs: count,
+        differences,
+        first,
+    }
+}
+
+/// The section `decimal`: its answer and every byte of the text, which holds rubbish
+/// beforehand.
+fn decimal_runs(count: u64, seed: u64) -> Vec<Run> {
+    let bytes = rubbish_bytes(seed, 32);
+    let (mut differences, mut first) = (0, None);
+    for index in 0..count {
+        let call = decimals::call(seed, index);
+        let [mut expected, mut found] = [(); 2].map(|()| bytes[..call.text].to_vec());
+        let answer = decimal_text(call.x, &mut expected);
+        let linked = linked::page::decimal(call.x, &mut found);
+        if answer != linked || expected != found {
+            differences += 1;
+            first.get_or_insert_with(|| {
+                let [expected, found] = [&expected, &found].map(|text| text.escape_ascii());
+                format!("{call:X?}: {answer} {expected}, linked {linked} {found}")
+            });
+        }
+    }
+    vec![Run {
+        name: "decimal",
+        inputs: count,
+        differences,
+        first,
+    }]
+}
+
 fn section(arguments: &[String]) -> Option<Vec<Run>> {
     let [section, count, rest @ ..] = arguments else {
         return None;
@@ -310,6 +361,11 @@ fn section(arguments: &[String]) -> Option<Vec<Run>> {
             sample_run("sample, kind 3", &[3], count, seed),
             check_run("check, kind 3", &[3], count / 10, seed),
         ]),
+        "page" => Some(vec![
+            page_run("page, kinds 1 and 2", &[1, 2], count, seed),
+            page_run("page, kind 3", &[3], count / 100, seed),
+        ]),
+        "decimal" => Some(decimal_runs(count, seed)),
         _ => None,
     }
 }
@@ -317,7 +373,8 @@ fn section(arguments: &[String]) -> Option<Vec<Run>> {
 fn main() -> ExitCode {
     let arguments: Vec<String> = std::env::args().skip(1).collect();
     let Some(runs) = section(&arguments) else {
-        eprintln!("differential float|remainder|polynomial|sampling|one|two COUNT [SEED]");
+        let sections = "float|remainder|polynomial|sampling|one|two|page|decimal";
+        eprintln!("differential {sections} COUNT [SEED]");
         return ExitCode::FAILURE;
     };
     for run in &runs {

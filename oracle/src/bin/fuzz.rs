@@ -8,9 +8,10 @@
 
 use lemongully_oracle::corpus::Case;
 use lemongully_oracle::edition::{CORE, Edition, NAME};
-use lemongully_oracle::generate::{Random, hostile, requests, roots, sheets};
+use lemongully_oracle::generate::{Random, decimals, hostile, pages, requests, roots, sheets};
 use lemongully_oracle::linked;
 use lemongully_oracle::operations::{check, roots_op, sample};
+use lemongully_oracle::page::{decimal_text, page_text};
 use lemongully_oracle::request::SIZE;
 use std::collections::BTreeMap;
 use std::fs::File;
@@ -94,10 +95,12 @@ fn demand(holds: bool, otherwise: &str) -> Result<(), String> {
     holds.then_some(()).ok_or(otherwise.to_string())
 }
 
-/// The refusals of Sampling, Check and Roots.
+/// The refusals of each operation.
 const SAMPLING: [i64; 12] = [1, 2, 3, 4, 5, 6, 7, 8, 9, 10, 11, 41];
 const CHECK: [i64; 6] = [31, 32, 33, 34, 35, 36];
 const ROOTS: [i64; 4] = [21, 22, 23, 24];
+const PAGE: [i64; 8] = [31, 32, 33, 34, 35, 36, 42, 43];
+const DECIMAL: [i64; 1] = [42];
 
 /// Both answers are the same, and promised: a count up to the most, or one of the
 /// refusals.
@@ -212,12 +215,48 @@ fn finding(random: &mut Random, call: &roots::Call) -> Found {
     Ok(number)
 }
 
+/// A page; Check must refuse the sheet exactly if the answer is one of its own.
+fn laying(random: &mut Random, call: &pages::Call) -> Found {
+    let mut sheet = Lent::holding(random, &call.sheet);
+    let mut work = Lent::rubbish(random, call.work);
+    let mut text = Lent::rubbish(random, call.text);
+    let before = (sheet.clone(), work.clone(), text.clone());
+    let number = linked::page::text(sheet.slice(), call.page, work.slice(), text.slice());
+    demand(sheet.same(&before.0), "the sheet was written to")?;
+    cleared(&work, before.1)?;
+    let mut oracle = before.2.clone();
+    let places = &mut vec![0.5; call.work];
+    let expected = page_text(&call.sheet, call.page, places, oracle.slice());
+    answers(number, expected, call.text, &PAGE)?;
+    let size = usize::try_from(number).unwrap_or(0);
+    written(&mut text, &oracle, before.2, size)?;
+    let accepted = linked::sheet::check(&call.sheet, work.slice()) >= 0;
+    let right = accepted == matches!(number, 0..|-42| -43);
+    demand(right, "Check says otherwise of the sheet")?;
+    Ok(number)
+}
+
+/// Decimals.
+fn showing(random: &mut Random, call: &decimals::Call) -> Found {
+    let mut text = Lent::rubbish(random, call.text);
+    let before = text.clone();
+    let number = linked::page::decimal(call.x, text.slice());
+    let mut oracle = before.clone();
+    let expected = decimal_text(call.x, oracle.slice());
+    answers(number, expected, call.text, &DECIMAL)?;
+    let size = usize::try_from(number).unwrap_or(0);
+    written(&mut text, &oracle, before, size)?;
+    Ok(number)
+}
+
 /// One call; a panic of the oracle is a fault.
 fn run(random: &mut Random, case: &Case) -> Found {
     let call = AssertUnwindSafe(|| match case {
         Case::Sample(call) => sampling(random, call),
         Case::Check(call) => checking(random, call),
         Case::Roots(call) => finding(random, call),
+        Case::Page(call) => laying(random, call),
+        Case::Decimal(call) => showing(random, call),
         Case::Floats(_) => unreachable!("no hostile call is of floats"),
     });
     catch_unwind(call).unwrap_or(Err("a panic".to_string()))

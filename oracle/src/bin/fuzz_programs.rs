@@ -1,5 +1,5 @@
-//! Hostile standard input for the two programs, after `rt check make_sheet
-//! check_sheet`: `fuzz_programs COUNT [SEED] [--valgrind]`. What a program
+//! Hostile standard input for the three programs, after `rt check make_sheet
+//! check_sheet show_pages`: `fuzz_programs COUNT [SEED] [--valgrind]`. What a program
 //! writes must be what the oracle says, and its exit status 0. With
 //! `--valgrind` programs are linked anew by the system's compiler and run under
 //! memcheck. Prints the answers by number; at the first fault, the input in
@@ -8,6 +8,7 @@
 use lemongully_oracle::corpus::hex;
 use lemongully_oracle::generate::{Random, hostile};
 use lemongully_oracle::operations::{maker_output, program_output};
+use lemongully_oracle::page::pages_output;
 use std::collections::BTreeMap;
 use std::error::Error;
 use std::io::{ErrorKind, Result, Write};
@@ -15,7 +16,7 @@ use std::path::{Path, PathBuf};
 use std::process::{ChildStdin, Command, ExitCode, ExitStatus, Stdio};
 use std::time::Duration;
 
-const NAMES: [&str; 2] = ["check_sheet", "make_sheet"];
+const NAMES: [&str; 3] = ["check_sheet", "make_sheet", "show_pages"];
 
 /// A result, or a fault.
 type Outcome<T> = std::result::Result<T, Box<dyn Error>>;
@@ -46,7 +47,7 @@ fn drawn(seed: u64, index: u64) -> Run {
     let name = random.pick(&NAMES);
     let kinds = &[1, 2, 3];
     let mut input = match random.below(8) {
-        // Sometimes what the other program takes.
+        // Sometimes what another program takes.
         0 => hostile::request(random, kinds),
         _ if name == "make_sheet" => hostile::request(random, kinds),
         _ => hostile::sheet(random, kinds).0,
@@ -70,14 +71,17 @@ fn expected(run: &Run) -> Written {
     if run.feed == Feed::Closed {
         return (Vec::new(), b"not read\n".to_vec());
     }
-    if run.name == "make_sheet" {
-        let (sheet, refusal) = maker_output(&run.input);
-        return (sheet, refusal.into_bytes());
+    match run.name {
+        "make_sheet" => {
+            let (sheet, refusal) = maker_output(&run.input);
+            (sheet, refusal.into_bytes())
+        }
+        "show_pages" => (pages_output(&run.input), Vec::new()),
+        _ => (program_output(&run.input).into_bytes(), Vec::new()),
     }
-    (program_output(&run.input).into_bytes(), Vec::new())
 }
 
-/// The answer without its numbers of angles.
+/// The answer without its angles.
 fn answer((output, error): &Written) -> String {
     let text = if error.is_empty() { output } else { error };
     let line = text.split(|&byte| byte == b'\n').next().unwrap_or_default();

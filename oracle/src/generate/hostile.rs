@@ -1,10 +1,11 @@
 //! Hostile calls: any bytes, right requests and sheets that were changed, and
 //! lent slices of any length.
 
-use super::{Random, floats, names, power, requests, roots, sheets};
+use super::{Random, decimals, floats, names, pages, power, requests, roots, sheets};
 use crate::corpus::Case;
 use crate::edition::{CORE, Edition, NAME, TRAILER};
 use crate::operations::{self, PROGRAM_INPUT, PROGRAM_WORK};
+use crate::page::{self, COLUMNS, LINE};
 use crate::request::SIZE;
 
 /// Lengths at which an answer changes, or changed in an earlier edition.
@@ -15,14 +16,16 @@ const BORDERS: [usize; 15] = [
 /// The longest run of random bytes.
 const MOST: usize = 4096;
 
-/// One call of Sampling, Check or Roots.
+/// One call of an operation.
 pub fn case(seed: u64, index: u64) -> Case {
     let random = &mut Random::new(seed, index);
     // Kind 3 takes a thousand times as long.
     let kinds: &[u8] = if random.once_in(100) { &[3] } else { &[1, 2] };
-    match random.below(5) {
+    match random.below(8) {
         0 | 1 => Case::Sample(sampling(random, kinds)),
         2 | 3 => Case::Check(check(random, kinds)),
+        4 | 5 => Case::Page(page(random, kinds)),
+        6 => Case::Decimal(decimal(random)),
         _ => Case::Roots(roots(random)),
     }
 }
@@ -47,6 +50,32 @@ fn check(random: &mut Random, kinds: &[u8]) -> sheets::Call {
     let (sheet, cuts) = sheet(random, kinds);
     let work = length(random, cuts);
     sheets::Call { sheet, work }
+}
+
+/// A call for a page: a sheet that was changed, or a call of the differential runs;
+/// and any number.
+fn page(random: &mut Random, kinds: &[u8]) -> pages::Call {
+    let mut call = pages::call(random.bits(), 0, kinds);
+    if random.once_in(2) {
+        let (sheet, cuts) = sheet(random, kinds);
+        call.sheet = sheet;
+        call.work = length(random, cuts);
+    }
+    let count = pages::count(&call.sheet);
+    call.page = match random.below(4) {
+        0 => random.bits() >> random.below(64),
+        _ => pages::number(random, count),
+    };
+    let size = page::size(count, call.page).unwrap_or(LINE);
+    call.text = length(random, size);
+    call
+}
+
+/// A call for decimals.
+fn decimal(random: &mut Random) -> decimals::Call {
+    let x = decimals::float(random);
+    let text = length(random, COLUMNS);
+    decimals::Call { x, text }
 }
 
 /// A call of Roots: floats of any sort, or a call of the differential runs with
