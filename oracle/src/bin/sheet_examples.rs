@@ -3,11 +3,13 @@
 //! is examples/edition_1.sheet, as edition 1 lays it out; with a name and in
 //! edition 2 it is examples/one_angle, which make_sheet reads and writes, and
 //! examples/by_hand, which docs/FORMAT.md explains. check_sheet reads joint_2 in
-//! edition 1.
+//! edition 1, show_pages joints_1_2, which has two pages; examples/joint_2.page is
+//! the one page of joint_2.
 
 use lemongully_oracle::edition::{CORE, Edition};
 use lemongully_oracle::generate::{names, requests::Draft, sheets};
 use lemongully_oracle::operations::program_output;
+use lemongully_oracle::page::pages_output;
 use lemongully_oracle::request::{ARM, FROM, OFFSETS, REFERENCES, ROTATION, SIGNS, SIZE, TO};
 use std::fs;
 use std::io::Result;
@@ -26,6 +28,13 @@ const LIMITS: [[f64; 2]; 6] = [
 /// The rotation of the target (x, y, z, w), and the six references.
 const TILTED: [f64; 4] = [0.5, -0.1, 0.7, 0.4];
 const NEAR: [f64; 6] = [0.3, -0.4, 0.9, 0.1, -0.6, 0.2];
+
+/// The weights' names.
+const NAMES: [&str; 3] = [
+    "Gully Antiqua Book",
+    "Gully Grotesk Semibold Condensed",
+    "Gully Text Light Italic",
+];
 
 /// A request for such an arm: kind, whether the sixth joint is fixed, q1 to q3,
 /// and the weight's name.
@@ -63,29 +72,28 @@ fn hexadecimal(bytes: &[u8]) -> String {
     bytes.chunks(16).map(line).collect()
 }
 
+/// Writes the stored input and output of a program.
+fn stored(name: &str, input: &[u8], output: &[u8]) -> Result<()> {
+    let crates = Path::new(env!("CARGO_MANIFEST_DIR")).join("../crates");
+    let folder = crates.join(name);
+    fs::create_dir_all(&folder)?;
+    fs::write(folder.join("stdin"), input)?;
+    fs::write(folder.join("stdout"), output)
+}
+
 fn main() -> Result<()> {
-    let root = Path::new(env!("CARGO_MANIFEST_DIR")).join("..");
-    let antiqua = "Gully Antiqua Book";
+    let examples = Path::new(env!("CARGO_MANIFEST_DIR")).join("../examples");
+    let [antiqua, grotesk, text] = NAMES;
+    let joint_1 = job(1, false, [0.0, 0.6, -0.9], grotesk);
     let joint_2 = job(2, true, [0.2, 0.0, -0.9], antiqua);
+    let joints_1_2 = job(3, true, [0.0, 0.0, -0.9], text);
     let one_angle = sheets::one_angle_named(antiqua);
     let jobs = [
-        (
-            "joint_1",
-            job(
-                1,
-                false,
-                [0.0, 0.6, -0.9],
-                "Gully Grotesk Semibold Condensed",
-            ),
-        ),
+        ("joint_1", joint_1),
         ("joint_2", joint_2),
-        (
-            "joints_1_2",
-            job(3, true, [0.0, 0.0, -0.9], "Gully Text Light Italic"),
-        ),
+        ("joints_1_2", joints_1_2),
         ("one_angle", one_angle),
     ];
-    let examples = root.join("examples");
     for (name, request) in jobs {
         let sheet = sheet_of(Edition::Two, &request);
         let count = sheets::count_at(Edition::Two, sheet.len());
@@ -97,10 +105,12 @@ fn main() -> Result<()> {
     fs::write(examples.join("by_hand.hex"), hexadecimal(&one_angle))?;
     let earlier = sheet_of(Edition::One, &one_angle);
     fs::write(examples.join("edition_1.sheet"), earlier)?;
-    let [make, check] = ["make_sheet", "check_sheet"].map(|name| root.join("crates").join(name));
-    fs::write(make.join("stdin"), one_angle)?;
-    fs::write(make.join("stdout"), sheet_of(Edition::Two, &one_angle))?;
+    let page = pages_output(&sheet_of(Edition::Two, &joint_2));
+    fs::write(examples.join("joint_2.page"), page)?;
+    let sheet = sheet_of(Edition::Two, &one_angle);
+    stored("make_sheet", &one_angle, &sheet)?;
     let earlier = sheet_of(Edition::One, &joint_2);
-    fs::write(check.join("stdin"), &earlier)?;
-    fs::write(check.join("stdout"), program_output(&earlier))
+    stored("check_sheet", &earlier, program_output(&earlier).as_bytes())?;
+    let sheet = sheet_of(Edition::Two, &joints_1_2);
+    stored("show_pages", &sheet, &pages_output(&sheet))
 }
