@@ -1,9 +1,11 @@
-//! Document 01, 'Slips to rule out', and slips of change requests 1 to 3: each is
+//! Document 01, 'Slips to rule out', and slips of change requests 1 to 4: each is
 //! built into a copy of the package, which must then answer the corpus otherwise
 //! than the package itself.
 //!
 //! The cases are generated once, by the package; a copy only answers them. To
 //! see which parts of the corpus catch a slip, add `-- --nocapture`.
+
+mod pages;
 
 use lemongully_oracle::corpus;
 use std::collections::{BTreeMap, BTreeSet};
@@ -26,7 +28,7 @@ struct Slip {
 fn cases() -> &'static (PathBuf, Digests) {
     static CASES: OnceLock<(PathBuf, Digests)> = OnceLock::new();
     CASES.get_or_init(|| {
-        let kept = include_str!("cases/kept.txt");
+        let kept = include_str!("../cases/kept.txt");
         let text = kept.to_string() + &corpus::text(&corpus::generated(1, 400));
         let file = Path::new(env!("CARGO_TARGET_TMPDIR")).join("cases.txt");
         std::fs::write(&file, &text).expect("cases are written");
