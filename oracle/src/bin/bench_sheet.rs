@@ -1,15 +1,22 @@
-//! Times the operations Sampling and Roots of the linked library beside the
-//! oracle's, on the same accepted calls, and prints the tables of docs/SPEED.md:
-//! Sampling by kind, for ordinary requests and for those that the differential
-//! runs aim at hard cases; Roots by number of coefficients. Times are the
-//! processor's, so that other programs count little: library and Rust in turn,
-//! call by call, and the least of three for each.
+//! Times the operations of the linked library beside the oracle's, on the same
+//! accepted calls, and prints the tables of docs/SPEED.md: Sampling by kind, for
+//! ordinary requests and for those that the differential runs aim at hard cases;
+//! Roots by number of coefficients; the first page of ordinary sheets by kind, with
+//! Check alone beside it, which a page begins with; decimals beside Rust's formatter.
+//! `bench_sheet page` prints the last two alone. Times are the processor's, so that
+//! other programs count little: library and Rust in turn, call by call, and the
+//! least of three for each.
 
-use lemongully_oracle::generate::{Random, limits, requests, roots};
+use lemongully_oracle::edition::Edition;
+use lemongully_oracle::generate::{Random, decimals, limits, requests, roots};
 use lemongully_oracle::linked;
-use lemongully_oracle::operations::{PROGRAM_INPUT, PROGRAM_WORK, root_values, sample};
+use lemongully_oracle::operations::{
+    self, PROGRAM_INPUT, PROGRAM_WORK, Sampled, check, laid_out, root_values, sample,
+};
+use lemongully_oracle::page::page_text;
 use lemongully_oracle::request::{FROM, OFFSETS, REFERENCES, SIGNS, TO};
 use std::hint::black_box;
+use std::io::Write;
 
 const REPETITIONS: usize = 3;
 
@@ -57,6 +64,26 @@ const ROOTS: Sides<roots::Call> = Sides {
             room.places[..roots.len()].copy_from_slice(&roots);
             roots.len() as i64
         }
+    },
+};
+
+/// The first page of a sheet.
+const PAGE: Sides<Vec<u8>> = Sides {
+    library: |sheet, room| linked::page::text(sheet, 1, &mut room.places, &mut room.bytes),
+    rust: |sheet, room| page_text(sheet, 1, &mut room.places, &mut room.bytes),
+};
+
+const CHECK: Sides<Vec<u8>> = Sides {
+    library: |sheet, room| linked::sheet::check(sheet, &mut room.places),
+    rust: |sheet, room| check(sheet, &mut room.places),
+};
+
+/// The columns of a float, in Rust without the asterisks.
+const DECIMAL: Sides<u64> = Sides {
+    library: |&x, room| linked::page::decimal(x, &mut room.bytes),
+    rust: |&x, room| {
+        let written = write!(&mut room.bytes[..], "{:16.9}", f64::from_bits(x));
+        i64::from(written.is_ok())
     },
 };
 
@@ -181,7 +208,8 @@ fn row(names: &[&str], times: &Times) {
     println!("| {names} | {} | {} | {all:.2} |", at(0.5), at(0.99));
 }
 
-fn main() {
+/// The table of Sampling.
+fn sampling() {
     head(&["kind", "requests"]);
     for (kind, count) in [(1, 2_000), (2, 2_000), (3, 200)] {
         for (sort, request) in SORTS {
@@ -190,7 +218,10 @@ fn main() {
             row(&[&kind.to_string(), sort], &SAMPLING.times(&requests));
         }
     }
-    println!();
+}
+
+/// The table of Roots.
+fn finding() {
     head(&["coefficients"]);
     for coefficients in 2..=9 {
         let calls = (0..).map(|index| roots::call(1, index));
@@ -198,4 +229,40 @@ fn main() {
         let calls = ROOTS.accepted(calls, 1_000);
         row(&[&coefficients.to_string()], &ROOTS.times(&calls));
     }
+}
+
+/// The sheet of a request, or no byte.
+fn sheet(request: &[u8]) -> Vec<u8> {
+    let sampled = operations::sampled(Edition::NEWEST, request);
+    let sheet = |sampled: Sampled| laid_out(Edition::NEWEST, request, &sampled.angles);
+    sampled.map_or(Vec::new(), sheet)
+}
+
+/// The tables of pages and decimals.
+fn showing() {
+    head(&["kind", "of ordinary sheets"]);
+    for (kind, count) in [(1, 2_000), (2, 2_000), (3, 200)] {
+        let sheets = (0..).map(|index| sheet(&ordinary(kind, index)));
+        let sheets = CHECK.accepted(sheets, count);
+        let kind = kind.to_string();
+        row(&[&kind, "check"], &CHECK.times(&sheets));
+        row(&[&kind, "check and page 1"], &PAGE.times(&sheets));
+    }
+    println!();
+    head(&["decimals"]);
+    let random = &mut Random::new(7, 0);
+    let angles: Vec<u64> = (0..2_000).map(|_| random.within(7.0).to_bits()).collect();
+    row(&["angles"], &DECIMAL.times(&angles));
+    let hard: Vec<u64> = (0..2_000).map(|_| decimals::float(random)).collect();
+    row(&["of the differential runs"], &DECIMAL.times(&hard));
+}
+
+fn main() {
+    if std::env::args().nth(1).as_deref() != Some("page") {
+        sampling();
+        println!();
+        finding();
+        println!();
+    }
+    showing();
 }

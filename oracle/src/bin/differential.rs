@@ -325,7 +325,8 @@ fn decimal_runs(count: u64, seed: u64) -> Vec<Run> {
             differences += 1;
             first.get_or_insert_with(|| {
                 let [expected, found] = [&expected, &found].map(|text| text.escape_ascii());
-                format!("{call:X?}: {answer} {expected}, linked {linked} {found}")
+                let (x, room) = (call.x, call.text);
+                format!("{x:016X} {room}: {answer} {expected}, linked {linked} {found}")
             });
         }
     }
