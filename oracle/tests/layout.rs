@@ -11,10 +11,12 @@ use std::path::{Path, PathBuf};
 const BESIDE: [&str; 3] = ["Promises", "Examples", "Laws"];
 
 /// The operations: crate, file and function.
-const OPERATIONS: [(&str, &str, &str); 3] = [
+const OPERATIONS: [(&str, &str, &str); 5] = [
     ("polynomial", "operation", "roots"),
     ("sheet", "sample", "sample"),
     ("sheet", "check", "check"),
+    ("page", "page", "page_text"),
+    ("page", "decimal", "decimal_text"),
 ];
 
 fn root() -> PathBuf {
@@ -161,7 +163,7 @@ fn rows() -> Vec<String> {
 #[test]
 fn trust_lists_what_the_contracts_reach() {
     let rows = rows();
-    assert!(rows.len() == 4, "{} crates", rows.len());
+    assert!(rows.len() == 6, "{} crates", rows.len());
     let trust = text(&root().join("docs/TRUST.md"));
     let missing: Vec<_> = rows
         .iter()

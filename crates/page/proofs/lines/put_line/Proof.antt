@@ -72,7 +72,7 @@ returns c =
       w .before .before .before .before .fill .ensures,
       p .put-signed .ensures,
     )
-    (line-stores _ (s .args .at) (s .args .place) (s .args .angle) (s .pre .1))
+    (line-stores (s .args .out .now) (s .args .at) (s .args .place) (s .args .angle) (s .pre .1))
 
 pub put-line-spec : {M : Type 1} → statement M
 put-line-spec =
