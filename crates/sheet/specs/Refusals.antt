@@ -7,7 +7,7 @@ use Rattle.sheet.specs.declared.refusals.Fault.{Fault}
 use Rattle.sheet.specs.declared.refusals.Refusal.the-variants as refusal
 use Rattle.sheet.specs.declared.refusals.Fault.the-variants as fault
 
--- accepted with n angles, or refused with a number
+-- accepted with a count, of angles or of bytes, or refused with a number
 pub data Answer : Type 0 where
   accepted : ℕ → Answer
   refused : ℕ → Answer
