@@ -10,6 +10,8 @@ ghost use Rattle.listing.specs.Listing as Listing;
 ghost use Rattle.listing.specs.Pages as Pages;
 use crate::printed::Printed;
 use crate::printed::print;
+use page::lines::LINE;
+use page::page::PER_PAGE;
 use page::page::pages;
 use page::page::put_page;
 use sheet::check::Checked;
@@ -18,8 +20,10 @@ use sheet::refusals::Fault;
 use sheet::refusals::fault_number;
 use text::decimal::put_number;
 
-// A full page and the form feed behind it.
-const FULL: usize = 3966;
+// A full page, and the same with the form feed behind it.
+const FULL: usize = LINE * (PER_PAGE + 1);
+
+const NEXT: usize = FULL + 1;
 
 // The pages of a sheet with n angles, of which there are `last`, written from the start on.
 fn put_pages(text: &mut [u8], sheet: &[u8], n: usize, last: usize)
@@ -29,12 +33,12 @@ fn put_pages(text: &mut [u8], sheet: &[u8], n: usize, last: usize)
 {
     let mut k = 1usize;
     while k < last {
-        let at = FULL * (k - 1);
+        let at = NEXT * (k - 1);
         put_page(text, at, sheet, n, k);
-        text[at + 3965] = 12;
+        text[at + FULL] = 12;
         k += 1;
     }
-    put_page(text, FULL * (last - 1), sheet, n, last);
+    put_page(text, NEXT * (last - 1), sheet, n, last);
 }
 
 // All pages of a checked sheet with n angles, where they have room.
@@ -44,7 +48,7 @@ fn print_pages(text: &mut [u8], sheet: &[u8], n: usize) -> Printed
     ensures { λ _. ⌜ now (text .exit) ≡ Listing.after (Pages.all-pages (now (sheet .entry))) (now (text .entry)) ⌝ }
 {
     let last = pages(n);
-    let size = 65 * (n + last) + (last - 1);
+    let size = LINE * (n + last) + (last - 1);
     if text.len() < size {
         return Printed::Short;
     }

@@ -48,4 +48,4 @@ page name angles k = name-line name ++ lines (suc (before-page k)) (on-page k an
 
 -- how many pages n angles take; without angles there is one
 abbrev pub pages : ℕ → ℕ
-pages n = max 1 ((n + 59) / per-page)
+pages n = max 1 ((n + (per-page - 1)) / per-page)

@@ -13,6 +13,9 @@ use digits::runs::fill;
 use float::number::of_bits;
 use sheet::bytes::word;
 
+// The bytes of a line: 64 characters and a line feed.
+pub const LINE: usize = 65;
+
 // The line of an angle, by its bits.
 fn put_line(out: &mut [u8], at: usize, place: u64, angle: u64)
     requires { ⌜ (at + 65 ≤ length (now out)) × (place < 1000000) ⌝ }
@@ -44,7 +47,7 @@ pub(crate) fn put_lines(
     while i < n {
         put_line(
             out,
-            at + 65 * i,
+            at + LINE * i,
             (first + i + 1) as u64,
             word(sheet, 8 * (first + i)),
         );

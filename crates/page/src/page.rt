@@ -10,12 +10,16 @@ ghost use Rattle.page.specs.Page as Page;
 ghost use Rattle.page.specs.Operation as Operation;
 ghost use Rattle.page.specs.Promises.Sheets as Sheets;
 use crate::laid::Laid;
+use crate::lines::LINE;
 use crate::lines::put_head;
 use crate::lines::put_lines;
 use sheet::check::Checked;
 use sheet::check::check;
 use sheet::request::NAME;
 use sheet::trailer::TRAILER;
+
+// The angles of a page; on the last stand those that remain.
+pub const PER_PAGE: usize = 60;
 
 // How many pages n angles take.
 pub fn pages(n: usize) -> usize
@@ -25,7 +29,7 @@ pub fn pages(n: usize) -> usize
     if n == 0 {
         return 1;
     }
-    (n + 59) / 60
+    (n - 1) / PER_PAGE + 1
 }
 
 // How many of n angles stand on page k.
@@ -33,11 +37,11 @@ pub fn angles_on(n: usize, k: usize) -> usize
     requires { ⌜ (1 ≤ k) × (k ≤ Page.pages n) × (n < 1000000) ⌝ }
     ensures { λ r. ⌜ r ≡ Sheets.angles-on n k ⌝ }
 {
-    let left = n - 60 * (k - 1);
-    if left < 60 {
+    let left = n - PER_PAGE * (k - 1);
+    if left < PER_PAGE {
         return left;
     }
-    60
+    PER_PAGE
 }
 
 // Page k of a checked sheet with n angles, written from `at` on.
@@ -49,7 +53,14 @@ pub fn put_page(text: &mut [u8], at: usize, sheet: &[u8], n: usize, k: usize)
     let start = 8 * n + NAME;
     let end = sheet.len() - TRAILER;
     put_head(text, at, &sheet[start..end]);
-    put_lines(text, at + 65, sheet, n, 60 * (k - 1), angles_on(n, k));
+    put_lines(
+        text,
+        at + LINE,
+        sheet,
+        n,
+        PER_PAGE * (k - 1),
+        angles_on(n, k),
+    );
 }
 
 // Whether n angles have a page of this number.
@@ -70,7 +81,7 @@ fn lay(text: &mut [u8], sheet: &[u8], n: usize, page: u64) -> Laid
         return Laid::NoPage;
     }
     let k = page as usize;
-    let size = 65 + 65 * angles_on(n, k);
+    let size = LINE + LINE * angles_on(n, k);
     if text.len() < size {
         return Laid::Short;
     }
