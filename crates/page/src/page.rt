@@ -33,7 +33,7 @@ pub fn pages(n: usize) -> usize
 }
 
 // How many of n angles stand on page k.
-pub fn angles_on(n: usize, k: usize) -> usize
+fn angles_on(n: usize, k: usize) -> usize
     requires { ⌜ (1 ≤ k) × (k ≤ Page.pages n) × (n < 1000000) ⌝ }
     ensures { λ r. ⌜ r ≡ Sheets.angles-on n k ⌝ }
 {
