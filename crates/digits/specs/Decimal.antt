@@ -14,7 +14,7 @@ unfoldable pub digits : ℕ → ℕ → List ℕ
 digits zero n = []
 digits (suc k) n = digits k (n / 10) ++ (figure (n % 10) ∷ [])
 
--- the digits of a number, the highest first, no zero in front; a number has at most as many as `most` and one more if it is at most `most`
+-- the digits of a number, the highest first, no zero in front; `most` is how often the lowest is split off at most, and n times is enough for n
 unfoldable pub figures : ℕ → ℕ → List ℕ
 figures zero n = figure n ∷ []
 figures (suc most) n = let more = figures most (n / 10) ++ (figure (n % 10) ∷ []) in cond (ltb n 10) (figure n ∷ []) more

@@ -1,3 +1,3 @@
--- What the proofs of the two numbers for C use.
+-- `Room`: an accepted answer is at most the bytes that were lent.
 
 mod Room

@@ -1,15 +1,14 @@
 -- Lines stored one after the other are those of the definition; a text stored in the first bytes fills them.
 use Prim.Native.Nat.{ℕ, suc, _+_, _*_, _-_, _≤_, _<_}
 use native.Mathlib.Omega.{arith}
-use mathlib.Core.Path.{_≡_, refl, sym, _∙_}
-use mathlib.Core.List.{List, [], _∷_, _++_, append-assoc, append-nil}
-use lib.ListN.{length, set, take, drop, length-append, length-drop, drop-of-length-le}
-use lib.Seq.{sets, sets-eq, drop-drop, take-all, take-at}
-use borrow.Rule.Slice.PartMut.{putMid, midOf}
+use mathlib.Core.Path.{_≡_, refl, _∙_}
+use mathlib.Core.List.{List, [], _∷_, _++_}
+use lib.ListN.{length, set, take, drop, length-append}
+use lib.Seq.{sets, take-at}
 use borrow.Author.Tests.{le-leb, lt-leb}
 use Rattle.digits.specs.Hex.{spelled}
 use Rattle.digits.specs.Laws.Lengths.{length-spelled}
-use Rattle.digits.specs.Laws.Stores.{joined}
+use Rattle.digits.specs.Laws.Stores.{joined, stored}
 use Rattle.listing.specs.Listing.{item, lines, filled, after, printed}
 use Rattle.listing.specs.declared.printed.Printed.the-variants.{Length, Short}
 
@@ -43,9 +42,7 @@ lines-done out s at i n h =
 
 -- ---- a text in the first bytes
 pub sets-filled : (t lent : List ℕ) → length t ≤ length lent → sets lent 0 t ≡ filled t lent
-sets-filled t lent h =
-    let e : 0 + length t ≡ length t = omega arith in
-    sets-eq t lent 0 (omega arith) ∙ rw e
+sets-filled t lent h = stored t lent (length t) refl h
 
 pub front : (t lent : List ℕ) (k : ℕ) → k ≡ length t → k ≤ length lent → take k (sets lent 0 t) ≡ t
 front t lent k e h = rw (sets-filled t lent (omega arith), e) (take-at t (drop (length t) lent) (length t) refl)

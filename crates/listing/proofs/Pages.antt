@@ -1,7 +1,7 @@
 -- Pages stored one after the other, a form feed between, are those of the definition; what each way through `pages_text` gives is the definition's text.
 use Prim.Native.Nat.{ℕ, suc, _+_, _*_, _-_, _≤_, _<_, min}
 use native.Mathlib.Omega.{arith}
-use mathlib.Core.Path.{_≡_, refl, sym, ap, _∙_}
+use mathlib.Core.Path.{_≡_, sym, ap, _∙_}
 use mathlib.Core.List.{List, _∷_, _++_, append-nil}
 use lib.ListN.{length, set}
 use lib.Seq.{sets}
@@ -9,7 +9,6 @@ use borrow.Author.Tests.{lt-ltb, le-ltb}
 use Rattle.digits.specs.Laws.Stores.{joined}
 use Rattle.sheet.specs.Edition.{newest}
 use Rattle.sheet.specs.Refusals.{accepted, refused}
-use Rattle.sheet.specs.Check.{listed}
 use Rattle.sheet.specs.Check as Check
 use Rattle.page.specs.Page.{per-page, before-page, pages}
 use Rattle.page.specs.Operation.{text}

@@ -1,22 +1,14 @@
--- What the operation answers at each return, and what it leaves.
-use Prim.Native.Nat.{ℕ, _+_, _≤_, _<_}
-use native.Mathlib.Nat.{zero-add}
-use mathlib.Core.Path.{_≡_, refl, sym, ap, _∙_}
+-- What the operation answers at each return.
+use Prim.Native.Nat.{ℕ, _≤_, _<_}
+use mathlib.Core.Path.{_≡_}
 use mathlib.Core.Bool.{true, false}
-use mathlib.Core.List.{List, _++_}
-use lib.ListN.{length, drop}
-use lib.Seq.{sets, sets-eq}
+use mathlib.Core.List.{List}
+use lib.ListN.{length}
 use borrow.Author.Tests.{le-leb, lt-leb}
 use Rattle.sheet.specs.Edition.{newest}
-use Rattle.sheet.specs.Refusals.{Answer, accepted, refused, need}
+use Rattle.sheet.specs.Refusals.{accepted, refused, need}
 use Rattle.sheet.specs.Check as Check
 use Rattle.page.specs.Operation.{text, is-page, laid, answer}
-
--- a text stored at the start of what is lent
-pub stored : (t lent : List ℕ) (n : ℕ) → length t ≡ n → n ≤ length lent → sets lent 0 t ≡ t ++ drop n lent
-stored t lent n e h =
-    let f : 0 + n ≡ n = zero-add n in
-    sets-eq t lent 0 (rw (e, f) h) ∙ rw (e, f)
 
 module _ (s : List ℕ) (k room : ℕ) where
   pub laid-none : is-page s k ≡ false → refused 43 ≡ laid s k room

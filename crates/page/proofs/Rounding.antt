@@ -35,7 +35,7 @@ cut n s h =
     sym (closest-jam n d 1 (zero-lt-suc 0)) ∙ ap (λ (u : ℕ). closest n u) (sym p ∙ ap (λ (k : ℕ). 2 ^ k) e)
 
 -- what is left fits a word
-pub cut-below : (n s : ℕ) → n < 2 ^ 83 → 33 ≤ s → jam n (s - 2) < 2 ^ 53
+cut-below : (n s : ℕ) → n < 2 ^ 83 → 33 ≤ s → jam n (s - 2) < 2 ^ 53
 cut-below n s h l =
     let d = s - 2 in
     let r : n / 2 ^ suc d < 2 ^ 51 = shr-lt 51 (suc d) (lt-of-lt-of-le h (pow-mono (wide d (omega arith)))) in

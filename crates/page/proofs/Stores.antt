@@ -5,7 +5,7 @@ use mathlib.Core.Path.{_≡_, refl, sym, ap, _∙_}
 use mathlib.Core.Bool.{Bool, true, false}
 use mathlib.Core.List.{List, [], _∷_, _++_, map}
 use lib.Dec.{leb}
-use lib.ListN.{length, set, take, drop, getD, length-append, length-replicate, length-drop, length-map}
+use lib.ListN.{length, set, take, drop, getD, length-append, length-drop, length-map}
 use lib.Seq.{sets, drop-cons, take-all}
 use lib.Ieee.{binary64, ofBits}
 use borrow.Author.Tests.{leb-true, leb-false}
@@ -16,13 +16,12 @@ use Rattle.digits.specs.Laws.Lengths.{length-spelled}
 use Rattle.digits.specs.Laws.Columns.{length-columns}
 use Rattle.digits.specs.Laws.Stores.{joined}
 use Rattle.sheet.specs.Bytes.{words}
-use Rattle.sheet.specs.Check.{listed}
 use Rattle.sheet.specs.Laws.Listed.{length-words}
 use Rattle.page.specs.Decimal.{decimal}
 use Rattle.page.specs.Page.{line, letter, name-line, lines, per-page, before-page, on-page, page}
 use Rattle.page.specs.Promises.Sheets.{angles-on}
 use Rattle.page.specs.Laws.Decimal.{length-decimal}
-use Rattle.page.specs.Laws.Lines.{place-is, length-line, length-name-line}
+use Rattle.page.specs.Laws.Lines.{place-is, length-line, length-named, length-name-line}
 
 -- ---- a line
 
@@ -83,9 +82,9 @@ head-stores out name at h =
     let a = map letter name in
     let b = blanks (64 - length name) in
     let l : length a ≡ length name = length-map name letter in
-    let m : length (a ++ b) ≡ 64 = simp (length-append, length-map, length-replicate) (omega arith) in
+    let s : length name ≤ 64 = omega arith in
     rw (joined a b out at (at + length name) (rw l))
-    (joined (a ++ b) (10 ∷ []) out at (at + 64) (rw m))
+    (joined (a ++ b) (10 ∷ []) out at (at + 64) (rw (length-named name s)))
 
 -- ---- a page
 

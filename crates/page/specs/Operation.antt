@@ -4,7 +4,6 @@ use mathlib.Core.Bool.{Bool, _&&_}
 use mathlib.Core.List.{List, [], _++_}
 use lib.Dec.{leb}
 use lib.ListN.{length, drop}
-use lib.Ieee.{Float}
 use Rattle.sheet.specs.Edition.{newest, known}
 use Rattle.sheet.specs.Request.{name-at}
 use Rattle.sheet.specs.Refusals.{Answer, accepted, refused, need, fault-number}
@@ -12,7 +11,6 @@ use Rattle.sheet.specs.Check.{edition-of, request-of, listed}
 use Rattle.sheet.specs.Check as Check
 use Rattle.sheet.specs.declared.edition.Said.{Said}
 use Rattle.sheet.specs.declared.edition.Said.the-variants.{Known, Unknown}
-use Rattle.page.specs.Decimal.{decimal}
 use Rattle.page.specs.Page.{page, pages}
 use Rattle.page.specs.declared.laid.Laid.{Laid}
 use Rattle.page.specs.declared.laid.Laid.the-variants as laid-case

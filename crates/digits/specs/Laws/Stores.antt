@@ -1,12 +1,12 @@
 -- Runs of stores one after the other are one.
 use Prim.Native.Nat.{ℕ, suc, _+_, _≤_}
 use native.Mathlib.Omega.{arith}
-use native.Mathlib.Nat.{add-zero}
-use mathlib.Core.Path.{_≡_, refl, sym}
+use native.Mathlib.Nat.{add-zero, zero-add}
+use mathlib.Core.Path.{_≡_, refl, sym, _∙_}
 use mathlib.Core.Logic.{_≢_}
 use mathlib.Core.List.{List, [], _∷_, _++_}
-use lib.ListN.{length, set}
-use lib.Seq.{sets, set-comm}
+use lib.ListN.{length, set, drop}
+use lib.Seq.{sets, sets-eq, set-comm}
 
 module _ {A : Type 0} where
   sets-append : (a b l : List A) (i : ℕ) → sets l i (a ++ b) ≡ sets (sets l i a) (i + length a) b
@@ -18,6 +18,12 @@ module _ {A : Type 0} where
   -- two runs that touch
   pub joined : (a b l : List A) (i j : ℕ) → j ≡ i + length a → sets (sets l i a) j b ≡ sets l i (a ++ b)
   joined a b l i j e = rw e (sym (sets-append a b l i))
+
+  -- a run stored at the start of what is lent
+  pub stored : (t lent : List A) (n : ℕ) → length t ≡ n → n ≤ length lent → sets lent 0 t ≡ t ++ drop n lent
+  stored t lent n e h =
+      let f : 0 + n ≡ n = zero-add n in
+      sets-eq t lent 0 (rw (e, f) h) ∙ rw (e, f)
 
   -- a store past a run, before or after it
   sets-past : (a l : List A) (i j : ℕ) (v : A) → i + length a ≤ j → sets (set l j v) i a ≡ set (sets l i a) j v

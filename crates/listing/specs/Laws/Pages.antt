@@ -4,7 +4,7 @@ use native.Mathlib.Omega.{arith}
 use native.Mathlib.Nat.{add-zero}
 use mathlib.Core.Path.{_≡_, refl, sym, ap, _∙_}
 use mathlib.Core.Bool.{Bool, true, false, cond}
-use mathlib.Core.List.{List, _∷_, _++_}
+use mathlib.Core.List.{List}
 use lib.Dec.{ltb, lit≤}
 use lib.ListN.{length, length-append}
 use borrow.Author.Tests.{ltb-false}
@@ -18,7 +18,7 @@ use Rattle.page.specs.Page.{pages}
 use Rattle.page.specs.Operation.{text}
 use Rattle.page.specs.Promises.Sheets.{Paged}
 use Rattle.page.specs.Laws.Sheets.{listed-count, length-text, paged}
-use Rattle.listing.specs.Listing.{places, most, too-long, head}
+use Rattle.listing.specs.Listing.{places, most, too-long}
 use Rattle.listing.specs.Pages.{pages-from, all-pages, shown, pages-text}
 use Rattle.listing.specs.Laws.Room.{length-refusal}
 

@@ -1,9 +1,9 @@
 -- What `check_sheet` prints has at most 147,456 bytes, which the program lends.
-use Prim.Native.Nat.{ℕ, zero, suc, _+_, _*_, _/_, _≤_}
+use Prim.Native.Nat.{ℕ, zero, suc, _+_, _*_, _≤_}
 use native.Mathlib.Omega.{arith}
 use mathlib.Core.Path.{_≡_, refl, sym}
 use mathlib.Core.Bool.{Bool, true, false, cond}
-use mathlib.Core.List.{List, []}
+use mathlib.Core.List.{List}
 use lib.Dec.{T, leb, ltb, lit≤}
 use lib.ListN.{length, length-append}
 use lib.Ieee.Bits.{is-true}

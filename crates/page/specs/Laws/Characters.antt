@@ -1,12 +1,12 @@
 -- Each line of a page is 64 characters, 32 to 126, and a line feed.
 use Prim.Native.Nat.{ℕ, zero, suc, _+_, _-_, _/_, _%_, _≤_, _<_}
 use native.Mathlib.Omega.{arith}
-use mathlib.Core.Path.{_≡_, refl, sym, ap, _∙_}
+use mathlib.Core.Path.{_≡_, refl, sym}
 use mathlib.Core.Bool.{Bool, true, false, cond}
 use mathlib.Core.List.{List, [], _∷_, _++_, map, append-assoc}
 use lib.Dec.{leb, ltb, lit≤}
 use lib.Ieee.{Float, nan, inf, fin, binary64, ofBits}
-use lib.ListN.{length, replicate, length-append, length-map, length-replicate}
+use lib.ListN.{length, replicate, length-append}
 use borrow.Author.Tests.{ltb-true, ltb-false}
 use Rattle.polynomial.specs.Promises.Lists.{All}
 use Rattle.polynomial.specs.Laws.Lists.{all-append}
@@ -18,6 +18,7 @@ use Rattle.digits.specs.Laws.Columns.{length-columns}
 use Rattle.page.specs.Decimal.{billion, pointed, billionths, decimal}
 use Rattle.page.specs.Page.{line, letter, name-line, lines, before-page, on-page, page}
 use Rattle.page.specs.Laws.Decimal.{length-decimal}
+use Rattle.page.specs.Laws.Lines.{length-named}
 
 -- a character, blanks among them
 pub record Printed (b : ℕ) : Type 0 where
@@ -139,7 +140,7 @@ module _ (place angle : ℕ) where
   unfolding line
   line-then t h = rw (append-assoc c64 (10 ∷ []) t) (more c64 t length-c64 (all-append Printed c42 (blanks 22) c42-printed (run 22 blank)) h)
 
-pub lines-in : (place : ℕ) (angles : List ℕ) → InLines (length angles) (lines place angles)
+lines-in : (place : ℕ) (angles : List ℕ) → InLines (length angles) (lines place angles)
 unfolding lines
 lines-in place [] = none
 lines-in place (x ∷ xs) = line-then place x (lines (suc place) xs) (lines-in (suc place) xs)
@@ -148,14 +149,11 @@ module _ (name : List ℕ) (short : length name ≤ 64) (right : All Printed (ma
   abbrev first : List ℕ
   first = map letter name ++ blanks (64 - length name)
 
-  length-first : length first ≡ 64
-  length-first = simp (length-append, length-map, length-replicate) (omega arith)
-
   -- THEOREM: a page is its name's line and one for each of its angles, each of 64 characters and a line feed.
   pub page-in : (angles : List ℕ) (k : ℕ) → InLines (suc (length (on-page k angles))) (page name angles k)
   unfolding page name-line
   page-in angles k =
       let t = lines (suc (before-page k)) (on-page k angles) in
       rw (append-assoc first (10 ∷ []) t)
-      (more first t length-first (all-append Printed (map letter name) (blanks (64 - length name)) right (run (64 - length name) blank))
+      (more first t (length-named name short) (all-append Printed (map letter name) (blanks (64 - length name)) right (run (64 - length name) blank))
       (lines-in (suc (before-page k)) (on-page k angles)))

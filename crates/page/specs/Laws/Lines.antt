@@ -7,7 +7,7 @@ use mathlib.Core.List.{List, [], _∷_, _++_, map}
 use lib.ListN.{length, drop, length-append, length-replicate, length-take, length-drop, length-map}
 use lib.Ieee.{binary64, ofBits}
 use borrow.Author.Tests.{le-leb}
-use Rattle.digits.specs.Decimal.{whole, columns}
+use Rattle.digits.specs.Decimal.{whole, blanks, columns}
 use Rattle.digits.specs.Promises.Columns.{number}
 use Rattle.digits.specs.Laws.Lengths.{length-spelled, whole-short}
 use Rattle.digits.specs.Laws.Columns.{number-is, length-columns}
@@ -28,9 +28,13 @@ pub length-line : (place angle : ℕ) → length (line place angle) ≡ 65
 unfolding line
 length-line place angle = simp (length-append, length-columns 6 (whole place), length-spelled 16 angle, length-decimal (ofBits binary64 angle))
 
+-- the columns of a name and the blanks behind it
+pub length-named : (name : List ℕ) → length name ≤ 64 → length (map letter name ++ blanks (64 - length name)) ≡ 64
+length-named name h = simp (length-append, length-map, length-replicate) (omega arith)
+
 pub length-name-line : (name : List ℕ) → length name ≤ 64 → length (name-line name) ≡ 65
 unfolding name-line
-length-name-line name h = simp (length-append, length-map, length-replicate) (omega arith)
+length-name-line name h = rw (length-append, length-named name h)
 
 -- ---- lines and pages
 
@@ -39,7 +43,7 @@ unfolding lines
 length-lines place [] = refl
 length-lines place (x ∷ xs) = rw (length-append, length-line place x, length-lines (suc place) xs) (omega arith)
 
-pub length-on-page : (k : ℕ) (angles : List ℕ) → length (on-page k angles) ≡ angles-on (length angles) k
+length-on-page : (k : ℕ) (angles : List ℕ) → length (on-page k angles) ≡ angles-on (length angles) k
 unfolding on-page
 length-on-page k angles = length-take per-page (drop (before-page k) angles) ∙ rw (length-drop (before-page k) angles)
 

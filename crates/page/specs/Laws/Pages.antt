@@ -1,12 +1,12 @@
 -- The pages of a list, one after the other, list each angle once, in order, numbered from 1.
-use Prim.Native.Nat.{ℕ, zero, suc, _+_, _*_, _-_, _≤_, _<_}
+use Prim.Native.Nat.{ℕ, zero, suc, _+_, _*_, _-_, _≤_}
 use native.Mathlib.Omega.{arith}
 use native.Mathlib.Nat.{add-zero}
 use mathlib.Core.Path.{_≡_, refl, sym, ap, _∙_}
 use mathlib.Core.Bool.{Bool, true, false}
-use mathlib.Core.List.{List, [], _∷_, _++_, append-assoc, append-nil}
+use mathlib.Core.List.{List, [], _∷_, _++_, append-assoc}
 use lib.Dec.{leb}
-use lib.ListN.{length, take, drop, length-drop, drop-of-length-le}
+use lib.ListN.{length, take, drop, drop-of-length-le}
 use lib.Seq.{take-add, take-all, take-nil, drop-drop, length-take-le}
 use borrow.Author.Tests.{leb-true, leb-false}
 use Rattle.page.specs.Page.{line, lines, per-page, before-page, on-page, pages}
@@ -16,7 +16,7 @@ unfoldable pub lines-on : ℕ → ℕ → List ℕ → List ℕ
 lines-on k zero angles = []
 lines-on k (suc n) angles = lines (suc (before-page k)) (on-page k angles) ++ lines-on (suc k) n angles
 
-pub lines-append : (place : ℕ) (a b : List ℕ) → lines place (a ++ b) ≡ lines place a ++ lines (place + length a) b
+lines-append : (place : ℕ) (a b : List ℕ) → lines place (a ++ b) ≡ lines place a ++ lines (place + length a) b
 unfolding lines
 lines-append place [] b = rw add-zero
 lines-append place (x ∷ a) b =

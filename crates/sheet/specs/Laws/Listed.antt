@@ -30,10 +30,6 @@ use Rattle.sheet.specs.Laws.Demands.{few-items}
 
 -- ---- words
 
-pub words-suc : (n : ℕ) (s : List ℕ) → words (suc n) s ≡ little-endian (take 8 s) ∷ words n (drop 8 s)
-unfolding words
-words-suc n s = refl
-
 pub length-words : (n : ℕ) (s : List ℕ) → length (words n s) ≡ n
 unfolding words
 length-words zero s = refl

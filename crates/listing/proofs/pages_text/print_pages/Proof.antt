@@ -1,6 +1,5 @@
 -- `listing::pages_text::print_pages` meets its contract: the size is that of all pages.
 use Prim.Native.Nat.{ℕ, _+_, _*_, _-_}
-use native.Mathlib.Omega.{arith}
 use mathlib.Core.Path.{_≡_, sym, ap, _∙_}
 use lib.ListN.{length}
 use borrow.Author.Needs.{needs}

@@ -5,7 +5,7 @@ use borrow.Author.Needs.{needs}
 use Rattle.sheet.specs.Refusals.{need}
 use Rattle.page.specs.Decimal.{decimal}
 use Rattle.page.specs.Laws.Decimal.{length-decimal}
-use Rattle.page.proofs.Answers.{stored}
+use Rattle.digits.specs.Laws.Stores.{stored}
 use Rattle.page.proofs.decimal.decimal_text.Statement.{statement}
 use Rattle.page.proofs.decimal.decimal_text.Tie as tie
 

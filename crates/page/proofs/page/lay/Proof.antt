@@ -12,7 +12,8 @@ use Rattle.float.specs.Laws.Tests.{and-left, and-right}
 use Rattle.page.specs.Page.{pages}
 use Rattle.page.specs.Operation.{text, is-page}
 use Rattle.page.specs.Laws.Sheets.{listed-count, length-text}
-use Rattle.page.proofs.Answers.{stored, laid-none, laid-short, laid-text}
+use Rattle.digits.specs.Laws.Stores.{stored}
+use Rattle.page.proofs.Answers.{laid-none, laid-short, laid-text}
 use Rattle.page.proofs.page.lay.Statement.{statement}
 use Rattle.page.proofs.page.lay.Tie as tie
 
