@@ -76,7 +76,7 @@ grid-off f a c h C H l =
 
 -- ---- the error of a rounded difference
 -- nothing overflows
-abbrev Low : Format → ℕ → Type 0
+abbrev pub Low : Format → ℕ → Type 0
 Low f h = suc (2 ^ prec f) * h < overflow f
 
 under-top : (f : Format) (n c g h : ℕ) → 0 < c → Low f h → n ≤ 2 ^ prec f * h * c → g * c ≤ n + h * c → g < overflow f
@@ -87,14 +87,14 @@ under-top f n c g h C r l k =
     lt-of-le-of-lt (le-of-mul-le-mul-right d C) (lt-of-le-of-lt (le-of-eq (sym a)) r)
 
 -- x is r - s units, and (r - s) * v is at most h * v away from p - n
-record Off (f : Format) (x : Float) (p n v h : ℕ) : Type 0 where
-  r : ℕ
-  s : ℕ
-  is : Is f x r s 0
-  over : r * v + n ≤ p + s * v + h * v
-  under : p + s * v ≤ r * v + n + h * v
+pub record Off (f : Format) (x : Float) (p n v h : ℕ) : Type 0 where
+  pub r : ℕ
+  pub s : ℕ
+  pub is : Is f x r s 0
+  pub over : r * v + n ≤ p + s * v + h * v
+  pub under : p + s * v ≤ r * v + n + h * v
 
-off-alike : (f : Format) (x y : Float) (p n v h : ℕ) → Alike x y → Off f x p n v h → Off f y p n v h
+pub off-alike : (f : Format) (x y : Float) (p n v h : ℕ) → Alike x y → Off f x p n v h → Off f y p n v h
 off-alike f x y p n v h e k = record { r = k .r; s = k .s; is = Is-alike f x y (k .r) (k .s) 0 e (k .is); over = k .over; under = k .under }
 
 minus-mul : (a b u : ℕ) → b ≤ a → (a - b) * u + b * u ≡ a * u
@@ -165,7 +165,7 @@ narrow A B c p n v h r s C e l =
     let g : (r * v + n) * c ≤ (p + s * v + h * v) * c = omega arith in
     le-of-mul-le-mul-right g C
 
-rounded : (f : Format) (a b c p n v w h : ℕ) → 0 < c → 0 < v → 0 < h → Low f h → 2 ^ low f * v ≡ w → p ≤ n + 2 ^ prec f * h * v
+pub rounded : (f : Format) (a b c p n v w h : ℕ) → 0 < c → 0 < v → 0 < h → Low f h → 2 ^ low f * v ≡ w → p ≤ n + 2 ^ prec f * h * v
     → n ≤ p + 2 ^ prec f * h * v → a * w + n * c ≡ p * c + b * w → Off f (srnd f a b c) p n v h
 rounded f a b c p n v w h C O H r g x y e =
     let u = 2 ^ low f in
@@ -201,7 +201,7 @@ pub record Close (x : Float) (p n e : ℕ) : Type 0 where
 abbrev pub Room : ℕ → Type 0
 Room h = (0 < h) × (h ≤ 2 ^ 2000)
 
-room-low : (h : ℕ) → h ≤ 2 ^ 2000 → Low binary64 h
+pub room-low : (h : ℕ) → h ≤ 2 ^ 2000 → Low binary64 h
 room-low h l = lt-of-le-of-lt (mul-le-mul-left (suc (2 ^ 53)) l) (ltb→lt (suc (2 ^ 53) * 2 ^ 2000) (2 ^ 2098) tt)
 
 -- exactly its own units

@@ -29,7 +29,7 @@ pub step-within : (B : Float) {P C p z c : Float} → T (mulTest binary64 P one-
     → Within C c → Within B (p ⊗ z ⊕ c)
 step-within B {P} s t h k l = add-within binary64 B t (mul-within binary64 P s h k) l
 
-sine-series-within : (z : Float) → Within one-float z → Within (per 3 4) (sine-series z)
+pub sine-series-within : (z : Float) → Within one-float z → Within (per 3 4) (sine-series z)
 unfolding sine-series
 sine-series-within z h =
     let p0 = over-within (per 1 40) false (factorial 17) tt in
@@ -41,7 +41,7 @@ sine-series-within z h =
     let p6 = step-within (per 3 8) tt tt p5 h (over-within (per 9 10) false (factorial 5) tt) in
     step-within (per 3 4) tt tt p6 h (over-within (per 11 6) true (factorial 3) tt)
 
-cosine-series-within : (z : Float) → Within one-float z → Within (per 9 4) (cosine-series z)
+pub cosine-series-within : (z : Float) → Within one-float z → Within (per 9 4) (cosine-series z)
 unfolding cosine-series
 cosine-series-within z h =
     let u0 = over-within (per 1 44) false (factorial 16) tt in

@@ -62,31 +62,31 @@ abbrev pub tan-widest : Float
 tan-widest = per 101 7
 
 -- y·I + 0.5 lies between -1/32 and 33/32, so k is −1, 0 or 1
-quad-near : (y : Float) → Within tan-widest y → In (fin true 1 (negsuc 4)) (fin false 33 (negsuc 4)) (quad y)
+pub quad-near : (y : Float) → Within tan-widest y → In (fin true 1 (negsuc 4)) (fin false 33 (negsuc 4)) (quad y)
 unfolding neg add mul le
 quad-near y h = in-wider (fin true 1 (negsuc 4)) (fin false 33 (negsuc 4)) tt
     (add-in binary64 tt (mul-in-by binary64 I tt tt (within-in tt tt h)) (in-self half tt))
 
-near-above : (n : ℕ) (y : Float) → Le (int (pos n)) y → Le y (fin false 33 (negsuc 4)) → n ≤ 1
+pub near-above : (n : ℕ) (y : Float) → Le (int (pos n)) y → Le y (fin false 33 (negsuc 4)) → n ≤ 1
 near-above n y h k = let l = Le-trans h k .cross in omega arith
 
-near-below : (n : ℕ) (y : Float) → (Le (int (negsuc n)) y → ⊥) → Le (fin true 1 (negsuc 4)) y → ⊥
+pub near-below : (n : ℕ) (y : Float) → (Le (int (negsuc n)) y → ⊥) → Le (fin true 1 (negsuc 4)) y → ⊥
 near-below n y h k = h (Le-trans (record { first = tt; second = tt; cross = omega arith }) k)
 
 -- r at 1 is at most −3/4, and at −1 at least 3/4
-at-one : (y : Float) → Within tan-widest y → Le (reduced (pos 1) y) (neg (per 3 2))
+pub at-one : (y : Float) → Within tan-widest y → Le (reduced (pos 1) y) (neg (per 3 2))
 unfolding neg sub mul le ofInt
 at-one y h = in-wider (fin true 3 (pos 0)) (fin true 3 (negsuc 1)) tt
     (sub-in binary64 tt (sub-in binary64 tt (within-in tt tt h) (in-self (ofInt binary64 (pos 1) ⊗ H) tt))
     (in-self (ofInt binary64 (pos 1) ⊗ L) tt)) .upper
 
-at-minus : (y : Float) → Within tan-widest y → Le (per 3 2) (reduced (negsuc 0) y)
+pub at-minus : (y : Float) → Within tan-widest y → Le (per 3 2) (reduced (negsuc 0) y)
 unfolding neg sub mul le ofInt
 at-minus y h = in-wider (fin false 3 (negsuc 1)) (fin false 3 (pos 0)) tt
     (sub-in binary64 tt (sub-in binary64 tt (within-in tt tt h) (in-self (ofInt binary64 (negsuc 0) ⊗ H) tt))
     (in-self (ofInt binary64 (negsuc 0) ⊗ L) tt)) .lower
 
-abbrev at : ℤ → Float → SinCos
+abbrev pub at : ℤ → Float → SinCos
 at k y = by-quadrant (quadrant k) (sine (reduced k y)) (cosine (reduced k y))
 
 -- for each k the divisor stays away from zero: cosine at 0, sine at −1 and 1

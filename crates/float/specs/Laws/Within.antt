@@ -239,7 +239,8 @@ numeral-beyond B x t = record {
 abbrev pub addTest : Format → Float → Float → Float → Bool
 addTest f X Y B = held f B && leb ((num X * den Y + num Y * den X) * den B) (num B * (den X * den Y))
 
-sum-within : (f : Format) (s : Bool) (a : ℕ) (t : Bool) (b c : ℕ) (B : Float) → 0 < c → T (held f B) → (a + b) * den B ≤ num B * c → Within B (sum f s a t b c)
+pub sum-within : (f : Format) (s : Bool) (a : ℕ) (t : Bool) (b c : ℕ) (B : Float) → 0 < c → T (held f B) → (a + b) * den B ≤ num B * c
+    → Within B (sum f s a t b c)
 unfolding sum
 sum-within f s a t b c B C h k = pick (Bool·beq s t) (ltb a b)
   where
@@ -255,7 +256,8 @@ sum-within f s a t b c B C h k = pick (Bool·beq s t) (ltb a b)
     pick false false = round-within f (s && ltb b a) (a - b) c B C h (le-trans (mul-le-mul-right (den B) two) k)
 
 -- x ≤ X / p', y ≤ Y / q' and X + Y ≤ B, as fractions
-add-bound : (x p y q X P Y Q B D : ℕ) → 0 < P → 0 < Q → x * P ≤ X * p → y * Q ≤ Y * q → (X * Q + Y * P) * D ≤ B * (P * Q) → (x * q + y * p) * D ≤ B * (p * q)
+pub add-bound : (x p y q X P Y Q B D : ℕ) → 0 < P → 0 < Q → x * P ≤ X * p → y * Q ≤ Y * q → (X * Q + Y * P) * D ≤ B * (P * Q)
+    → (x * q + y * p) * D ≤ B * (p * q)
 add-bound x p y q X P Y Q B D pp qq h k l =
     le-of-mul-le-mul-right
     (le-trans (le-of-eq e1) (le-trans (mul-le-mul-right D (add-le-add h1 k1))
