@@ -1,8 +1,5 @@
 -- Curves A(q1) cos(t) + B(q1) sin(t) + C(q1) = 0 and the roots of a squared norm (01, module 3), named as in the Rust. Definitions only.
-use mathlib.Core.Bool.{Bool, true, _&&_}
 use mathlib.Core.List.{List, [], _∷_, _++_}
-use lib.Dec.{leb}
-use lib.ListN.{length}
 use lib.Ieee.{Float, neg}
 use Rattle.float.specs.Number.{_⊕_, _⊗_, middle, zero-float, one-float, two-float}
 use Rattle.float.specs.Trig.{P, sin, cos, atan}
@@ -11,7 +8,6 @@ use Rattle.polynomial.specs.Compensated.{from, plus, times}
 use Rattle.polynomial.specs.Cuts.{cuts}
 use Rattle.polynomial.specs.Polynomial.{add, multiply}
 use Rattle.polynomial.specs.Roots.{roots}
-use Rattle.polynomial.specs.Operation.{bounds-hold, part-holds}
 use Rattle.polynomial.specs.declared.compensated.Compensated.{Compensated}
 use Rattle.polynomial.specs.declared.curve.Harmonic.{Harmonic}
 use Rattle.polynomial.specs.declared.curve.Curve.{Curve}
@@ -34,15 +30,6 @@ harmonic-b k = record { constant = k .b0; cosine = k .b1; sine = k .b2 }
 
 abbrev pub harmonic-c : Curve → Harmonic
 harmonic-c k = record { constant = k .c0; cosine = k .c1; sine = k .c2 }
-
--- ---- an inner call of the root finder, always lent 509 places: where it is not refused (21 cannot be)
-
-unfoldable pub all-hold : List Compensated → Bool
-all-hold [] = true
-all-hold (c ∷ cs) = part-holds (c .high) && part-holds (c .low) && all-hold cs
-
-unfoldable pub inner-holds : List Compensated → Float → Float → Bool
-inner-holds p lower upper = bounds-hold lower upper && all-hold p && leb (length (roots p lower upper)) 509
 
 -- ---- roots of x(angle)^2 + y(angle)^2 = norm^2
 
@@ -74,12 +61,6 @@ chart-angles origin (u ∷ us) = wrapped-angle (origin ⊕ two-float ⊗ atan u)
 unfoldable pub half-roots : Harmonic → Harmonic → Float → Float → Float → List Float
 half-roots x y norm lower upper = let origin = middle lower upper in chart-angles origin (roots (norm-polynomial x y norm origin) (neg one-float) one-float)
 
-unfoldable pub half-holds : Harmonic → Harmonic → Float → Float → Float → Bool
-half-holds x y norm lower upper = inner-holds (norm-polynomial x y norm (middle lower upper)) (neg one-float) one-float
-
--- both halves, sorted, each once; and whether no inner call is refused
+-- both halves, sorted, each once
 unfoldable pub squared-norm-roots : Harmonic → Harmonic → Float → List Float
 squared-norm-roots x y norm = cuts (half-roots x y norm (neg P) zero-float ++ half-roots x y norm zero-float P)
-
-unfoldable pub squared-norm-holds : Harmonic → Harmonic → Float → Bool
-squared-norm-holds x y norm = half-holds x y norm (neg P) zero-float && half-holds x y norm zero-float P

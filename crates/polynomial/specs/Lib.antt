@@ -2,6 +2,7 @@
 -- definitions beside this file, each with its sentence of 01 or its function of the Rust:
 -- `Compensated`, `Cuts` (sorted lists without duplicates), `Polynomial` (sums, products, evaluation),
 -- `Roots` (the root finder), `Kinds` (how a root arose), `Operation` (Roots with its refusals), `Angle`, `Curve`.
+-- `InnerCalls` states what is proved of inner calls.
 -- `Promises`: what inner functions promise one another.
 -- `Laws`: theorems that upper crates cite.
 pub mod Compensated
@@ -12,5 +13,6 @@ pub mod Kinds
 pub mod Operation
 pub mod Angle
 pub mod Curve
+pub mod InnerCalls
 pub mod Laws
 pub mod Promises

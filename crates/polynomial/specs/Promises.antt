@@ -1,9 +1,8 @@
 -- What inner functions promise one another: `Lists` (words about lists), `Insert` and `Held` (cuts in a lent slice), `Inside` (bisection),
--- `Plain` (signs by plain arithmetic), `Inner` (inner calls of the root finder), `Norm` (the roots of a squared norm).
+-- `Plain` (signs by plain arithmetic), `Norm` (the roots of a squared norm).
 pub mod Lists
 pub mod Insert
 pub mod Held
 pub mod Inside
 pub mod Plain
-pub mod Inner
 pub mod Norm

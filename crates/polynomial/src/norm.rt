@@ -4,12 +4,10 @@ ghost use mathlib.Core.List.{_++_};
 ghost use Prim.Native.Nat.{_+_, _≤_};
 ghost use lib.ListN.{length, take, drop};
 ghost use Rattle.polynomial.specs.Curve as Of;
-ghost use Rattle.polynomial.specs.Promises.Inner.{size, listed};
-ghost use Rattle.polynomial.specs.Promises.Norm.{squared-norm-answer, put-all};
+ghost use Rattle.polynomial.specs.Promises.Norm.{put-all};
 use crate::angle::wrapped_angle;
 use crate::curve::Harmonic;
 use crate::curve::norm_polynomial;
-use crate::inner::Inner;
 use crate::inner::inner_roots;
 use crate::roots::keep;
 use float::arc::atan;
@@ -34,41 +32,35 @@ fn chart(found: &[f64], count: usize, origin: f64, out: &mut [f64], k: usize) ->
     n
 }
 
-// The roots, sorted, each once, in the first places of out. What stands behind them is left, and all
-// of it where an inner call is refused: both calls come before the first angle. How a root arose does
-// not matter here.
-pub fn squared_norm_roots(x: Harmonic, y: Harmonic, norm: f64, out: &mut [f64]) -> Inner
-    requires { ⌜ 58 ≤ length (now out) ⌝ }
-    ensures { λ r. ⌜ r ≡ squared-norm-answer x y norm ⌝ }
-    ensures { λ r. ⌜ now (out .exit) ≡ listed r (Of.squared-norm-roots x y norm) ++ drop (size r) (now (out .entry)) ⌝ }
+// The roots in one half of the turn, put into the cuts in the first k places of out. How a root arose
+// does not matter here.
+fn half_roots(
+    x: Harmonic,
+    y: Harmonic,
+    norm: f64,
+    lower: f64,
+    upper: f64,
+    out: &mut [f64],
+    k: usize,
+) -> usize
+    requires { ⌜ k + 29 ≤ length (now out) ⌝ }
+    ensures { λ r. ⌜ r ≡ length (put-all (Of.half-roots x y norm lower upper) (take k (now (out .entry)))) ⌝ }
+    ensures { λ r. ⌜ now (out .exit) ≡ put-all (Of.half-roots x y norm lower upper) (take k (now (out .entry))) ++ drop r (now (out .entry)) ⌝ }
 {
-    let mut kinds = [0; 32];
     let mut found = [0.0; 32];
-    let left = middle(-P, 0.0);
-    let first = inner_roots(
-        norm_polynomial(x, y, norm, left),
-        5,
-        -1.0,
-        1.0,
-        &mut found,
-        &mut kinds,
-    );
-    let Inner::Count(n) = first else {
-        return Inner::Refused;
-    };
-    let mut other = [0.0; 32];
-    let right = middle(0.0, P);
-    let second = inner_roots(
-        norm_polynomial(x, y, norm, right),
-        5,
-        -1.0,
-        1.0,
-        &mut other,
-        &mut kinds,
-    );
-    let Inner::Count(m) = second else {
-        return Inner::Refused;
-    };
-    let k = chart(&found, n, left, out, 0);
-    Inner::Count(chart(&other, m, right, out, k))
+    let mut kinds = [0; 32];
+    let origin = middle(lower, upper);
+    let p = norm_polynomial(x, y, norm, origin);
+    let n = inner_roots(p, 5, -1.0, 1.0, &mut found, &mut kinds);
+    chart(&found, n, origin, out, k)
+}
+
+// The roots, sorted, each once, in the first places of out. What stands behind them is left.
+pub fn squared_norm_roots(x: Harmonic, y: Harmonic, norm: f64, out: &mut [f64]) -> usize
+    requires { ⌜ 58 ≤ length (now out) ⌝ }
+    ensures { λ r. ⌜ r ≡ length (Of.squared-norm-roots x y norm) ⌝ }
+    ensures { λ r. ⌜ now (out .exit) ≡ Of.squared-norm-roots x y norm ++ drop r (now (out .entry)) ⌝ }
+{
+    let k = half_roots(x, y, norm, -P, 0.0, out, 0);
+    half_roots(x, y, norm, 0.0, P, out, k)
 }

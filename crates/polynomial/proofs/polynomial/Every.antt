@@ -17,19 +17,6 @@ pub record Every (passes : Float → Bool) (all : List Compensated → Bool) : T
 
 module _ {passes : Float → Bool} {all : List Compensated → Bool} (e : Every passes all) where
   module _ (p : List Compensated) (n i : ℕ) (d : Compensated) (I : i < n) (h : n ≤ length p) where
-    parts : (a b : Bool) → passes (getD p i d .high) ≡ a → passes (getD p i d .low) ≡ b → all (slice i n p) ≡ (a && b && all (slice (suc i) n p))
-    parts a b ea eb = ap all (slice-cons i n p d I h) ∙ e .more (getD p i d) (slice (suc i) n p) ∙ ap₂ (λ (x y : Bool). x && y && all (slice (suc i) n p)) ea eb
-
-    pub every-on : passes (getD p i d .high) ≡ true → passes (getD p i d .low) ≡ true → all (slice i n p) ≡ all (slice (i + 1) n p)
-    every-on a b = parts true true a b ∙ ap (λ (j : ℕ). all (slice j n p)) (sym (add-one i))
-
-    pub bad-high : passes (getD p i d .high) ≡ false → all (slice i n p) ≡ false
-    bad-high a = parts false (passes (getD p i d .low)) a refl
-
-    pub bad-low : passes (getD p i d .high) ≡ true → passes (getD p i d .low) ≡ false → all (slice i n p) ≡ false
-    bad-low a b = parts true false a b
-
-    -- both parts by one test
     module _ (b : Bool) (t : (passes (getD p i d .high) && passes (getD p i d .low)) ≡ b) where
       pair : all (slice i n p) ≡ (b && all (slice (suc i) n p))
       pair = ap all (slice-cons i n p d I h) ∙ e .more (getD p i d) (slice (suc i) n p) ∙ ap (λ (x : Bool). x && all (slice (suc i) n p)) t

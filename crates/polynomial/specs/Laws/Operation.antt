@@ -1,20 +1,17 @@
 -- What 01 says of the operation Roots.
-use Prim.Native.Nat.{ℕ, _+_, _-_, _%_, _^_, _≤_}
-use native.Mathlib.Omega.{arith}
-use mathlib.Core.Path.{_≡_, refl, sym, ap, ap₂, _∙_}
+use Prim.Native.Nat.{ℕ, _+_, _-_, _^_, _≤_}
+use mathlib.Core.Path.{_≡_, refl, sym}
 use mathlib.Core.Logic.{_⊎_, inl, inr}
-use mathlib.Core.Bool.{Bool, true, false, _&&_, _||_, cond}
+use mathlib.Core.Bool.{true}
 use mathlib.Core.List.{List, [], _∷_}
 use lib.IntN.{ℤ, pos, negℤ}
-use lib.Dec.{T, leb}
+use lib.Dec.{T}
 use lib.ListN.{length}
 use lib.Ieee.{Float, binary64, le, fits}
-use borrow.Author.Tests.{le-ltb, ne-eqb}
 use Rattle.float.specs.Laws.Le.{Le→le}
 use Rattle.polynomial.specs.Polynomial.{trim}
 use Rattle.polynomial.specs.Roots.{roots}
-use Rattle.polynomial.specs.Operation.{pairs, bad-length, bounds-hold, part-holds, parts-hold, answer, number}
-use Rattle.polynomial.specs.Curve.{all-hold, inner-holds}
+use Rattle.polynomial.specs.Operation.{bounds-hold, answer, number}
 use Rattle.polynomial.specs.Promises.Lists.{All}
 use Rattle.polynomial.specs.Laws.Bounds.{bounds-span}
 use Rattle.polynomial.specs.Laws.Bisection.{Between}
@@ -22,61 +19,6 @@ use Rattle.polynomial.specs.Laws.Enclosed.{Rising, all-few, all-in, all-
 use Rattle.polynomial.specs.declared.compensated.Compensated.{Compensated}
 use Rattle.polynomial.specs.declared.operation.Answer.{Answer}
 use Rattle.polynomial.specs.declared.operation.Answer.the-variants.{Count, BadLength, BadBounds, BadPart, ShortResult}
-
--- ---- an inner call
-
--- coefficients as the operation takes them: the high part of each, then its low part
-unfoldable pub parts : List Compensated → List Float
-parts [] = []
-parts (c ∷ cs) = c .high ∷ c .low ∷ parts cs
-
-pub pairs-parts : (p : List Compensated) → pairs (parts p) ≡ p
-unfolding pairs parts
-pairs-parts [] = refl
-pairs-parts (c ∷ cs) = ap (λ (l : List Compensated). c ∷ l) (pairs-parts cs)
-
-twice : (p : List Compensated) → length (parts p) ≡ length p + length p
-unfolding parts
-twice [] = refl
-twice (c ∷ cs) = let e = twice cs in omega arith
-
-good-length : (p : List Compensated) → length p ≤ 9 → bad-length (parts p) ≡ false
-good-length p h =
-    let e = twice p in
-    ap₂ _||_ (ne-eqb (length (parts p) % 2) 1 (λ o. odd (length p) (length (parts p)) e o)) (le-ltb 18 (length (parts p)) (omega arith))
-  where
-    odd : (n m : ℕ) → m ≡ n + n → m % 2 ≡ 1 → ⊥
-    odd n m e o = omega arith
-
-same-hold : (p : List Compensated) → parts-hold (parts p) ≡ all-hold p
-unfolding parts-hold parts all-hold
-same-hold [] = refl
-same-hold (c ∷ cs) = by-both (part-holds (c .high)) (part-holds (c .low)) ∙ ap (λ (b : Bool). part-holds (c .high) && part-holds (c .low) && b) (same-hold cs)
-  where
-    by-both : (x y : Bool) → (x && (y && parts-hold (parts cs))) ≡ (x && y && parts-hold (parts cs))
-    by-both true y = refl
-    by-both false y = refl
-
--- whether an answer is a count
-abbrev pub counts : Answer → Bool
-counts (Count n) = true
-counts BadLength = false
-counts BadBounds = false
-counts BadPart = false
-counts ShortResult = false
-
-by-tests : (a b c : Bool) (n : ℕ) → (a && b && c) ≡ counts (cond a (cond b (cond (c && c) (Count n) ShortResult) BadPart) BadBounds)
-by-tests true true true n = refl
-by-tests true true false n = refl
-by-tests true false c n = refl
-by-tests false b c n = refl
-
--- An inner call holds exactly if Roots, given its parts and lent 509 places of each slice, answers a count: 01's refusal 9 is that it does not.
-pub inner-is-roots : (p : List Compensated) (lower upper : Float) → length p ≤ 9 → inner-holds p lower upper ≡ counts (answer (parts p) lower upper 509 509)
-unfolding inner-holds answer
-inner-is-roots p lower upper h =
-    by-tests (bounds-hold lower upper) (all-hold p) (leb (length (roots p lower upper)) 509) (length (roots p lower upper))
-    ∙ sym (simp (good-length p h, same-hold p, pairs-parts p))
 
 -- ---- the list
 
