@@ -46,7 +46,6 @@ enum {
     SHEET_ARM = 6,        /* a read angle of the arm is not within 8 */
     SHEET_REFERENCE = 7,  /* a read reference is infinite or a NaN */
     SHEET_OFFSET = 8,     /* a read offset is not within a whole turn */
-    SHEET_ROOTS = 9,      /* the root finder refuses; no request is known that does this */
     SHEET_WORK = 10,      /* too few work places */
     SHEET_OUTPUT = 11     /* the output has fewer than SHEET_SIZE(n) bytes */
 };
@@ -55,7 +54,7 @@ enum {
 enum {
     SHEET_CHECK_LENGTH = 31,  /* fewer than 280 bytes */
     SHEET_CHECK_TRAILER = 32, /* the edition, the length or the trailer */
-    SHEET_CHECK_REQUEST = 33, /* the request inside meets one of 2 to 9 or 41 */
+    SHEET_CHECK_REQUEST = 33, /* the request inside meets one of 2 to 8 or 41 */
     SHEET_CHECK_UNREAD = 34,  /* an unread field is not zero */
     SHEET_CHECK_WORK = 35,    /* too few work places */
     SHEET_CHECK_ANGLES = 36   /* the angles or their number are others */

@@ -22,7 +22,6 @@ number-small refusal.Zero = omega arith
 number-small refusal.Arm = omega arith
 number-small refusal.Reference = omega arith
 number-small refusal.Offset = omega arith
-number-small refusal.Roots = omega arith
 number-small refusal.Work = omega arith
 number-small refusal.Output = omega arith
 

@@ -4,7 +4,6 @@ use native.Mathlib.Nat.{not-suc-le-zero, le-of-suc-le-suc}
 use native.Mathlib.Omega.{arith}
 use native.Mathlib.Numerals.{add-one}
 use mathlib.Core.Path.{_≡_, refl, sym, ap, subst, _∙_}
-use mathlib.Core.Bool.{Bool, _&&_, and-true}
 use mathlib.Core.List.{List, [], _∷_, _++_, map, flatMap, map-append, append-nil}
 use lib.ListN.{length, take, getD, set, replicate, length-append, length-map, length-replicate}
 use lib.Seq.{slice, slice-cons, slice-empty, take-suc, take-suc-set, length-take-le, getD-take}
@@ -21,9 +20,8 @@ use Rattle.polynomial.specs.declared.curve.Curve.{Curve}
 use Rattle.polynomial.specs.declared.cuts.Put.{Put}
 use Rattle.polynomial.specs.declared.curve.Harmonic.{Harmonic}
 use Rattle.polynomial.specs.declared.curve.Numerators.{Numerators}
-use Rattle.sampling.specs.CriticalSlices.{angles, chart-roots, chart-holds, charts-hold, critical, critical-holds, Polynomials, polynomials}
-use Rattle.sampling.specs.CriticalSlices.{all-polynomials, squares, tangency, intersection}
-use Rattle.sampling.specs.Laws.CriticalSlices.{roots-append, hold-append, critical-more, critical-holds-more}
+use Rattle.sampling.specs.CriticalSlices.{angles, chart-roots, critical, Polynomials, polynomials, all-polynomials, squares, tangency, intersection}
+use Rattle.sampling.specs.Laws.CriticalSlices.{roots-append, critical-more}
 use Rattle.sampling.specs.Promises.Grown.{Grown}
 use Rattle.sampling.specs.Promises.Numerators.{first-three, first-threes, Threes, meetings}
 use Rattle.sampling.specs.declared.critical_slices.Chart.{Chart}
@@ -149,10 +147,6 @@ module _ (c : Chart) (l : List Numerators) (i n : ℕ) (d k : Numerators) (h : i
       let y = map-append (λ (z : Polynomials). intersection z (first-three k)) (first-threes (take i l)) (first-three e ∷ []) in
       rw (add-one, take-suc l i d (omega arith), x, front-met) y
 
-  pub met-hold : (x y : Bool) → x ≡ charts-hold c (met i) → y ≡ chart-holds c (take 9 p) → (x && y) ≡ charts-hold c (met (i + 1))
-  unfolding charts-hold
-  met-hold x y e g = rw (e, g, met-more, hold-append c (met i) (take 9 p ∷ []), and-true (chart-holds c (take 9 p)))
-
   pub met-grown : {w w′ w″ : List Float} {s s′ s″ : Put} → Grown (flatMap (chart-roots c) (met i)) w s w′ s′ → Grown (chart-roots c (take 9 p)) w′ s′ w″ s″
       → Grown (flatMap (chart-roots c) (met (i + 1))) w s w″ s″
   unfolding flatMap
@@ -173,10 +167,6 @@ module _ (c : Chart) (l : List Curve) (r : List Numerators) (j : ℕ) (d : Curve
 
   met-own : meetings (first-threes (take j r)) (first-three k) ≡ meetings (all-polynomials (c .origin) (take j l)) own
   met-own = λ i. meetings (known .are i) (numerators-are k (getD l j d) (c .origin) e i)
-
-  pub critical-hold : (x y z : Bool) → x ≡ critical-holds c (take j l) → y ≡ chart-holds c (take 5 p)
-      → z ≡ charts-hold c (meetings (first-threes (take j r)) (first-three k)) → (x && (y && z)) ≡ critical-holds c (take (j + 1) l)
-  critical-hold x y z a b g = rw (add-one, take-suc l j d h, a, b, g, front-own, met-own) (sym (critical-holds-more c (take j l) (getD l j d)))
 
   pub critical-grown : {w w′ w″ w‴ : List Float} {s s′ s″ s‴ : Put} → Grown (critical c (take j l)) w s w′ s′ → Grown (chart-roots c (take 5 p)) w′ s′ w″ s″
       → Grown (flatMap (chart-roots c) (meetings (first-threes (take j r)) (first-three k))) w″ s″ w‴ s‴ → Grown (critical c (take (j + 1) l)) w s w‴ s‴

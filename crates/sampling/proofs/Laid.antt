@@ -1,11 +1,9 @@
 -- Lists of cuts that stand one after the other in a lent slice, and what is answered of three.
 use mathlib.Core.Path.{_≡_, sym, ap, ap₂, _∙_}
-use mathlib.Core.Bool.{true}
 use mathlib.Core.List.{List, _++_, append-assoc}
 use Prim.Native.Nat.{ℕ, _+_, _-_, _≤_, _<_}
 use native.Mathlib.Omega.{arith}
 use borrow.Author.Tests.{le-leb, lt-leb}
-use lib.Dec.{leb}
 use lib.ListN.{length, take, drop, length-append, length-drop}
 use lib.Seq.{take-at, drop-at, drop-drop}
 use lib.Ieee.{Float}
@@ -70,20 +68,20 @@ module _ (a b c : List Float) where
   count = length a + length b + length c
 
   module _ (places : ℕ) where
-    short : places < count → Short ≡ granted true count (lists-of a b c) places
+    short : places < count → Short ≡ granted count (lists-of a b c) places
     short h = rw (lt-leb count places h)
 
-    pub short-first : places < length a → Short ≡ granted true count (lists-of a b c) places
+    pub short-first : places < length a → Short ≡ granted count (lists-of a b c) places
     short-first h = short (omega (arith, h))
 
-    pub short-second : places < length a + length b → Short ≡ granted true count (lists-of a b c) places
+    pub short-second : places < length a + length b → Short ≡ granted count (lists-of a b c) places
     short-second h = short (omega (arith, h))
 
-    pub short-third : places < length (a ++ b) + length c → Short ≡ granted true count (lists-of a b c) places
+    pub short-third : places < length (a ++ b) + length c → Short ≡ granted count (lists-of a b c) places
     short-third h = short (omega (arith, h, length-append a b))
 
     pub all-three : (m n k : ℕ) → m ≡ length a → n ≡ length b → k ≡ length c → m + n + k ≤ places
-        → Lists (record { first = m; second = n; third = k }) ≡ granted true count (lists-of a b c) places
+        → Lists (record { first = m; second = n; third = k }) ≡ granted count (lists-of a b c) places
     all-three m n k e f g h = let t : count ≤ places = omega (arith, e, f, g, h) in rw (le-leb count places t, e, f, g)
 
   pub laid-three : (w r : List Float) (m : ℕ) → Laid ((a ++ b) ++ c) w r m → r ≡ ((a ++ b) ++ c) ++ drop count w

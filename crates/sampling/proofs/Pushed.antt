@@ -1,11 +1,12 @@
 -- Laws of lists that grow: nothing, one value, one list after another, a list that a callee puts into the rest of the slice.
 use mathlib.Core.Path.{_≡_, refl, sym, ap, _∙_, subst}
 use mathlib.Core.List.{List, [], _∷_, _++_, append-assoc, append-nil}
-use Prim.Native.Nat.{ℕ, _+_, _≤_, _<_}
+use Prim.Native.Nat.{ℕ, _+_, _-_, _≤_, _<_}
 use native.Mathlib.Omega.{arith}
 use native.Mathlib.Numerals.{add-one}
 use lib.ListN.{length, take, drop, set, length-append}
 use lib.Seq.{length-take-le, take-at, drop-at, take-suc-set, drop-set-lt, drop-drop}
+use Rattle.polynomial.specs.Laws.Lists.{tail-part, tail-post}
 use Rattle.sampling.specs.Promises.Pushed.{Pushed}
 
 pub none : {A : Type 0} (k n : ℕ) (a : List A) → Pushed k [] n a n a
@@ -34,15 +35,17 @@ same {A} {k} {n} {r} {x} {y} {a} {b} e p = subst (λ (z : List A). Pushed k z n 
 pub wider : {A : Type 0} {j k n r : ℕ} {x a b : List A} → j ≤ k → Pushed j x n a r b → Pushed k x n a r b
 wider h p = record { count = p .count; front = p .front; rest = p .rest; most = omega (arith, h, p .most) }
 
--- a callee that is lent what stands behind the first n values puts x in the front of it
-pub behind : {A : Type 0} (k n : ℕ) (a x : List A) → n ≤ length a → length x ≤ k → Pushed k x n a (n + length x) (take n a ++ (x ++ drop (length x) (drop n a)))
-behind {A} k n a x h s =
-    let d = drop (length x) (drop n a) in
-    let l : length (take n a ++ x) ≡ n + length x = length-append (take n a) x ∙ ap (λ (i : ℕ). i + length x) (length-take-le n a h) in
-    let e : take n a ++ (x ++ d) ≡ (take n a ++ x) ++ d = sym (append-assoc (take n a) x d) in
+-- a callee that is lent what stands behind the first n values puts x in the front of it and leaves last
+pub behind : {A : Type 0} (k n : ℕ) {a x last : List A} {r : ℕ} → n ≤ length a → length x ≤ k → r ≡ length x
+    → last ≡ x ++ drop r (take (length a - n) (drop n a)) → Pushed k x n a (n + r) (take n a ++ (last ++ drop (length a - n) (drop n a)))
+behind {A} k n {a} {x} {last} {r} h s f g =
+    let d = drop r (drop n a) in
+    let l : length (take n a ++ x) ≡ n + r = length-append (take n a) x ∙ omega (arith, length-take-le n a h, f) in
+    let e = ap (λ (z : List A). take n a ++ z) (tail-post n a last ∙ g ∙ ap (λ (z : List A). x ++ drop r z) (tail-part n a))
+    ∙ sym (append-assoc (take n a) x d) in
     record {
-      count = refl;
-      front = ap (take (n + length x)) e ∙ take-at (take n a ++ x) d (n + length x) l;
-      rest = ap (drop (n + length x)) e ∙ drop-at (take n a ++ x) d (n + length x) l ∙ drop-drop (length x) n a;
-      most = omega arith;
+      count = ap (λ (i : ℕ). n + i) f;
+      front = ap (take (n + r)) e ∙ take-at (take n a ++ x) d (n + r) l;
+      rest = ap (drop (n + r)) e ∙ drop-at (take n a ++ x) d (n + r) l ∙ drop-drop r n a;
+      most = omega (arith, f, s);
     }

@@ -1,7 +1,6 @@
 -- A job's angles: kind 1's those of free joint 1, kind 2's those of free joint 2, kind 3's the slices of joint 1 where joints
 -- 1 and 2 are free (01, modules 5 and 6). Every field of the job is taken as given. Definitions only.
 use Prim.Native.Nat.{ℕ}
-use mathlib.Core.Bool.{Bool}
 use mathlib.Core.List.{List}
 use lib.Ieee.{Float}
 use Rattle.sampling.specs.J1free as J1free
@@ -41,11 +40,3 @@ cut-count job =
     (SampleAngles.cut-count (first-free job))
     (SampleAngles.cut-count (second-free job))
     (J1j2free.cut-count (J1j2free.folded job))
-
--- whether no inner call of the root finder is refused
-unfoldable pub hold : Job → Bool
-hold job =
-    by-kind (job .kind)
-    (SampleAngles.hold (first-free job))
-    (SampleAngles.hold (second-free job))
-    (J1j2free.hold (J1j2free.folded job))

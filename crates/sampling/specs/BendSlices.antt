@@ -1,18 +1,16 @@
--- The slices of narrow bends: `bend_slices` of j1j2free.rs (01, module 6). Beside the list stands whether no inner
--- call of the root finder on the way is refused; a refused call gives no angle. Definitions only.
+-- The slices of narrow bends: `bend_slices` of j1j2free.rs (01, module 6). Definitions only.
 -- Near a pole the cosine of joint 5 differs from ±1 by less than the rounding of the matrix, so its curve loses the bend. The slices are found again
 -- from sines, across the arm: where joint 5's end meets an end of joint 4, 6 or 2, and where the component across is largest.
-use mathlib.Core.Bool.{Bool, true, _&&_, cond}
+use mathlib.Core.Bool.{_&&_, cond}
 use mathlib.Core.List.{List, [], _∷_, _++_}
 use lib.Ieee.{Float, neg, lt, le}
 use Rattle.float.specs.Number.{_⊕_, _⊖_, _⊗_, _⊘_, abs, clamp, zero-float, one-float}
 use Rattle.float.specs.Trig.{P, sin-cos, hypot, atan2, asin}
 use Rattle.float.specs.declared.trig.SinCos.{SinCos}
 use Rattle.polynomial.specs.Angle.{wrapped-angle}
-use Rattle.polynomial.specs.Curve.{squared-norm-holds}
+use Rattle.polynomial.specs.Curve.{squared-norm-roots}
 use Rattle.polynomial.specs.declared.curve.Harmonic.{Harmonic}
 use Rattle.sampling.specs.Continuum.{root-roundoff}
-use Rattle.sampling.specs.Bends.{norm-roots}
 use Rattle.sampling.specs.Boundaries.{across}
 use Rattle.sampling.specs.declared.intervals.Range.{Range}
 use Rattle.sampling.specs.declared.intervals.Range.the-variants.{Nothing, Between}
@@ -64,18 +62,11 @@ fold z angle = record { constant = neg (z .z) ⊗ sin-cos angle .sine; cosine = 
 
 -- joint 2 at an angle: where that vector is as long as joint 5's bend makes it
 unfoldable pub folds : Vector → Float → Float → Float → List Float
-folds z q3 s5 angle2 = norm-roots (fold z (angle2 ⊕ q3)) (across z) (Pose.vector-length z ⊗ abs s5)
-
-unfoldable pub folds-hold : Vector → Float → Float → Float → Bool
-folds-hold z q3 s5 angle2 = squared-norm-holds (fold z (angle2 ⊕ q3)) (across z) (Pose.vector-length z ⊗ abs s5)
+folds z q3 s5 angle2 = squared-norm-roots (fold z (angle2 ⊕ q3)) (across z) (Pose.vector-length z ⊗ abs s5)
 
 unfoldable pub folds-range : Vector → Float → Float → Range → List Float
 folds-range z q3 s5 Nothing = []
 folds-range z q3 s5 (Between lower upper) = folds z q3 s5 lower ++ folds z q3 s5 upper
-
-unfoldable pub folds-range-hold : Vector → Float → Float → Range → Bool
-folds-range-hold z q3 s5 Nothing = true
-folds-range-hold z q3 s5 (Between lower upper) = folds-hold z q3 s5 lower && folds-hold z q3 s5 upper
 
 -- one end of joint 5's limits: 128 angles at most
 unfoldable pub bend-slice : Matrix → Float → Range → Range → Range → Float → List Float
@@ -83,14 +74,7 @@ bend-slice m q3 range2 range4 range6 angle5 =
     let q5 = sin-cos angle5 in
     (transverses (m .z) (q5 .sine) range4 ++ axes-range m q5 range6) ++ folds-range (m .z) q3 (q5 .sine) range2
 
-unfoldable pub bend-slice-holds : Vector → Float → Range → Float → Bool
-bend-slice-holds z q3 range2 angle5 = folds-range-hold z q3 (sin-cos angle5 .sine) range2
-
 -- both ends of joint 5's limits
 unfoldable pub bend-slices : Matrix → Float → Range → Range → Range → Range → List Float
 bend-slices m q3 range2 range4 Nothing range6 = []
 bend-slices m q3 range2 range4 (Between lower upper) range6 = bend-slice m q3 range2 range4 range6 lower ++ bend-slice m q3 range2 range4 range6 upper
-
-unfoldable pub bend-slices-hold : Vector → Float → Range → Range → Bool
-bend-slices-hold z q3 range2 Nothing = true
-bend-slices-hold z q3 range2 (Between lower upper) = bend-slice-holds z q3 range2 lower && bend-slice-holds z q3 range2 upper

@@ -1,13 +1,12 @@
 -- The boundary angles of joint 5, and all boundary angles in the order in which the Rust finds them: `bend_roots`
--- and `sample_angles` of continuum.rs (01, module 5). Beside each list stands whether no inner call of the root
--- finder on the way is refused; a refused call gives no angle. Definitions only.
-use mathlib.Core.Bool.{Bool, true, false, _&&_, cond}
+-- and `sample_angles` of continuum.rs (01, module 5). Definitions only.
+use mathlib.Core.Bool.{Bool, false, _&&_, cond}
 use mathlib.Core.List.{List, [], _∷_, _++_}
 use lib.Ieee.{Float, binary64, round, lt}
 use lib.Ieee.Scale.{finite}
 use Rattle.float.specs.Number.{abs, zero-float}
 use Rattle.float.specs.Trig.{sin-cos}
-use Rattle.polynomial.specs.Curve.{squared-norm-roots, squared-norm-holds}
+use Rattle.polynomial.specs.Curve.{squared-norm-roots}
 use Rattle.polynomial.specs.declared.curve.Harmonic.{Harmonic}
 use Rattle.sampling.specs.Continuum.{roots}
 use Rattle.sampling.specs.Rays.{poles, ray-marks, sixth-roots}
@@ -18,10 +17,6 @@ use Rattle.sampling.specs.declared.marks.Marks.{Marks}
 use Rattle.sampling.specs.declared.marks.Sixth.{Sixth}
 use Rattle.sampling.specs.declared.intervals.Range.{Range}
 use Rattle.sampling.specs.declared.intervals.Range.the-variants.{Nothing, Between}
-
--- roots of x(angle)^2 + y(angle)^2 = norm^2, where the root finder takes both halves
-unfoldable pub norm-roots : Harmonic → Harmonic → Float → List Float
-norm-roots x y norm = cond (squared-norm-holds x y norm) (squared-norm-roots x y norm) []
 
 unfoldable pub harmonic : Trig → Harmonic
 harmonic t = record { constant = t .constant; cosine = t .cosine; sine = t .sine }
@@ -35,39 +30,21 @@ narrow sine = lt zero-float sine && lt sine (round binary64 false 1 10000)
 unfoldable pub bend-roots : Trig → Ray → Float → List Float
 bend-roots cos5 q4 angle =
     let sine = abs (sin-cos angle .sine) in
-    roots cos5 (sin-cos angle .cosine) ++ cond (narrow sine) (norm-roots (harmonic (q4 .x)) (harmonic (q4 .y)) sine) []
-
-unfoldable pub bend-roots-hold : Ray → Float → Bool
-bend-roots-hold q4 angle =
-    let sine = abs (sin-cos angle .sine) in
-    cond (narrow sine) (squared-norm-holds (harmonic (q4 .x)) (harmonic (q4 .y)) sine) true
+    roots cos5 (sin-cos angle .cosine) ++ cond (narrow sine) (squared-norm-roots (harmonic (q4 .x)) (harmonic (q4 .y)) sine) []
 
 -- limits that admit no angle have a centre that is not finite
 unfoldable pub bend-at : Trig → Ray → Float → List Float
 bend-at cos5 q4 angle = cond (finite angle) (bend-roots cos5 q4 angle) []
 
-unfoldable pub bend-at-holds : Ray → Float → Bool
-bend-at-holds q4 angle = cond (finite angle) (bend-roots-hold q4 angle) true
-
 unfoldable pub bend-range : Trig → Ray → Range → List Float
 bend-range cos5 q4 Nothing = []
 bend-range cos5 q4 (Between lower upper) = bend-at cos5 q4 lower ++ bend-at cos5 q4 upper
-
-unfoldable pub bend-range-holds : Ray → Range → Bool
-bend-range-holds q4 Nothing = true
-bend-range-holds q4 (Between lower upper) = bend-at-holds q4 lower && bend-at-holds q4 upper
 
 -- with limits, their centre and ends after the reference
 unfoldable pub bend-marks : Trig → Ray → Marks → List Float
 bend-marks cos5 q4 m = bend-at cos5 q4 (m .reference) ++ cond (m .limited) (bend-at cos5 q4 (m .center) ++ bend-range cos5 q4 (m .range)) []
 
-unfoldable pub bend-marks-hold : Ray → Marks → Bool
-bend-marks-hold q4 m = bend-at-holds q4 (m .reference) && cond (m .limited) (bend-at-holds q4 (m .center) && bend-range-holds q4 (m .range)) true
-
 -- All of them: the free joint's reference, the poles, joints 4, 5 and 6, the centre of the free joint's limits. Only joint 5 asks the root finder.
 unfoldable pub all-roots : Wrist → Float → Marks → Marks → Sixth → Float → List Float
 all-roots w near m4 m5 m6 center =
     ((((near ∷ [] ++ poles (w .cos5)) ++ ray-marks (w .q4) m4) ++ bend-marks (w .cos5) (w .q4) m5) ++ sixth-roots w m4 m6) ++ center ∷ []
-
-unfoldable pub all-roots-hold : Wrist → Marks → Bool
-all-roots-hold w m5 = bend-marks-hold (w .q4) m5

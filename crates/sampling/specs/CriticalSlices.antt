@@ -1,9 +1,8 @@
 -- The cuts of joint 1 at the intersections and the vertical tangencies of curves: `critical_slices` of j1j2free.rs (01, module 6), with the
--- curves taken in the order of `Pairs` (02, change 3). Beside each list stands whether no inner call of the root finder on the way is refused; a
--- refused call gives no angle. Definitions only.
+-- curves taken in the order of `Pairs` (02, change 3). Definitions only.
 -- Between two neighbouring cuts the curves keep their order, so what joint 2 may do does not change: one value of joint 1 stands for all of them.
 use Prim.Native.Nat.{ℕ}
-use mathlib.Core.Bool.{Bool, true, _&&_, cond}
+use mathlib.Core.Bool.{cond}
 use mathlib.Core.List.{List, [], _∷_, map, flatMap}
 use lib.Dec.{eqb}
 use lib.ListN.{length, getD}
@@ -12,7 +11,7 @@ use Rattle.float.specs.Number.{_⊕_, _⊖_, _⊗_, _⊘_, middle, one-float, t
 use Rattle.float.specs.Trig.{tan, atan}
 use Rattle.polynomial.specs.Polynomial.{add, multiply, determinant}
 use Rattle.polynomial.specs.Roots.{roots}
-use Rattle.polynomial.specs.Curve.{numerator, harmonic-a, harmonic-b, harmonic-c, inner-holds}
+use Rattle.polynomial.specs.Curve.{numerator, harmonic-a, harmonic-b, harmonic-c}
 use Rattle.polynomial.specs.declared.compensated.Compensated.{Compensated}
 use Rattle.polynomial.specs.declared.curve.Curve.{Curve}
 use Rattle.sampling.specs.Pairs.{order}
@@ -32,10 +31,7 @@ angles origin (u ∷ us) = (origin ⊕ two-float ⊗ atan u) ∷ angles origin u
 
 -- an inner call of the root finder
 unfoldable pub chart-roots : Chart → List Compensated → List Float
-chart-roots c p = cond (inner-holds p (c .lower) (c .upper)) (angles (c .origin) (roots p (c .lower) (c .upper))) []
-
-unfoldable pub chart-holds : Chart → List Compensated → Bool
-chart-holds c p = inner-holds p (c .lower) (c .upper)
+chart-roots c p = angles (c .origin) (roots p (c .lower) (c .upper))
 
 -- a curve's three harmonics as polynomial numerators
 pub record Polynomials : Type 0 where
@@ -84,11 +80,3 @@ all-polynomials origin curves = map (λ k. polynomials k origin) curves
 -- the angles of all calls
 unfoldable pub critical : Chart → List Curve → List Float
 critical c curves = flatMap (chart-roots c) (calls (all-polynomials (c .origin) curves))
-
--- whether no call is refused
-unfoldable pub charts-hold : Chart → List (List Compensated) → Bool
-charts-hold c [] = true
-charts-hold c (p ∷ ps) = chart-holds c p && charts-hold c ps
-
-unfoldable pub critical-holds : Chart → List Curve → Bool
-critical-holds c curves = charts-hold c (calls (all-polynomials (c .origin) curves))

@@ -1,6 +1,6 @@
 -- Two free joints: `search` of j1j2free.rs up to its last dedup, whose list is kind 3 (01, module 6). Definitions only.
 use Prim.Native.Nat.{ℕ, _+_}
-use mathlib.Core.Bool.{Bool, true, _&&_, cond}
+use mathlib.Core.Bool.{Bool, cond}
 use mathlib.Core.List.{List, [], _∷_, _++_}
 use lib.ListN.{length}
 use lib.Ieee.{Float}
@@ -11,8 +11,8 @@ use Rattle.polynomial.specs.declared.curve.Curve.{Curve}
 use Rattle.sampling.specs.Limits.{limits}
 use Rattle.sampling.specs.Samples.{all-copies}
 use Rattle.sampling.specs.Boundaries.{wrist-limits, boundaries}
-use Rattle.sampling.specs.BendSlices.{bend-slices, bend-slices-hold}
-use Rattle.sampling.specs.CriticalSlices.{chart, critical, critical-holds}
+use Rattle.sampling.specs.BendSlices.{bend-slices}
+use Rattle.sampling.specs.CriticalSlices.{chart, critical}
 use Rattle.sampling.specs.Slices.{slices}
 use Rattle.sampling.specs.declared.intervals.Range.{Range}
 use Rattle.sampling.specs.declared.intervals.Range.the-variants.{Nothing, Between}
@@ -71,15 +71,6 @@ on-interval (Between lower upper) none some = some lower upper
 -- both halves' lists, lengths added
 unfoldable pub cut-count : Folded → ℕ
 cut-count t = on-interval (t .range1) 0 (λ lower upper. length (first-half t lower upper) + length (second-half t lower upper))
-
--- whether no inner call of the root finder is refused
-unfoldable pub halves-hold : Folded → Float → Float → Bool
-halves-hold t lower upper =
-    bend-slices-hold (t .matrix .z) (t .q3) (t .range2) (t .range5)
-    && (critical-holds (chart lower (middle lower upper)) (curves t) && critical-holds (chart (middle lower upper) upper) (curves t))
-
-unfoldable pub hold : Folded → Bool
-hold t = on-interval (t .range1) true (halves-hold t)
 
 -- The list after the last dedup, of both halves' cuts and the middles of neighbours; none where joint 1 has no interval, not even the reference.
 unfoldable pub all-slices : Folded → List Float

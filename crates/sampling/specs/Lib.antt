@@ -6,6 +6,7 @@
 -- `Pairs` and `CriticalSlices` (in which order curves are taken, and where they meet), `Slices` and `J1j2free` (the values at which joint 1 is tried);
 -- of both, `Angles` (a job's angles by its kind) and `Reads` (which fields of a job each kind reads).
 -- `RustOrder`: the order of pairs before 02's change 3 and what went by it, to compare with; nothing is promised by it.
+-- `InnerCalls`: the inner calls of the root finder that a job makes, to say what is proved of each.
 -- `Promises`: what functions promise one another, and `plan_of` its callers. `Laws`: theorems that upper crates cite.
 pub mod Constraints
 pub mod Intervals
@@ -29,5 +30,6 @@ pub mod J1j2free
 pub mod Angles
 pub mod Reads
 pub mod RustOrder
+pub mod InnerCalls
 pub mod Laws
 pub mod Promises

@@ -1,7 +1,6 @@
 -- The pairs of curves in the Rust's order, by the earlier curve first, and all that was defined by it before 02's change 3: to compare with.
 -- `Laws.RustOrder` has the equations. No function promises any of it. Definitions only.
 use Prim.Native.Nat.{ℕ, zero, suc, _+_}
-use mathlib.Core.Bool.{Bool, true, _&&_}
 use mathlib.Core.List.{List, [], _∷_, _++_, map, flatMap}
 use lib.ListN.{length}
 use lib.Ieee.{Float}
@@ -10,8 +9,7 @@ use Rattle.polynomial.specs.Cuts.{cuts}
 use Rattle.polynomial.specs.declared.compensated.Compensated.{Compensated}
 use Rattle.polynomial.specs.declared.curve.Curve.{Curve}
 use Rattle.sampling.specs.Samples.{all-copies}
-use Rattle.sampling.specs.BendSlices.{bend-slices-hold}
-use Rattle.sampling.specs.CriticalSlices.{chart, chart-roots, charts-hold, polynomials, tangency, intersection}
+use Rattle.sampling.specs.CriticalSlices.{chart, chart-roots, polynomials, tangency, intersection}
 use Rattle.sampling.specs.Slices.{slices}
 use Rattle.sampling.specs.J1j2free.{folded, curves, bends, on-interval}
 use Rattle.sampling.specs.Angles.{first-free, second-free, by-kind}
@@ -45,9 +43,6 @@ calls origin (k ∷ later) =
 unfoldable pub critical : Chart → List Curve → List Float
 critical c curves = flatMap (chart-roots c) (calls (c .origin) curves)
 
-unfoldable pub critical-holds : Chart → List Curve → Bool
-critical-holds c curves = charts-hold c (calls (c .origin) curves)
-
 unfoldable pub critical-slices : List Curve → Float → Float → List Float
 critical-slices l lower upper = cuts ((lower ∷ [] ++ upper ∷ []) ++ critical (chart lower upper) l)
 
@@ -63,18 +58,10 @@ second-half t lower upper = half-cuts t (middle lower upper) upper
 unfoldable pub slices-count : Folded → ℕ
 slices-count t = on-interval (t .range1) 0 (λ lower upper. length (first-half t lower upper) + length (second-half t lower upper))
 
-unfoldable pub halves-hold : Folded → Float → Float → Bool
-halves-hold t lower upper =
-    bend-slices-hold (t .matrix .z) (t .q3) (t .range2) (t .range5)
-    && (critical-holds (chart lower (middle lower upper)) (curves t) && critical-holds (chart (middle lower upper) upper) (curves t))
-
-unfoldable pub slices-hold : Folded → Bool
-slices-hold t = on-interval (t .range1) true (halves-hold t)
-
 unfoldable pub all-slices : Folded → List Float
 all-slices t = on-interval (t .range1) [] (λ lower upper. slices (t .reference) lower upper (first-half t lower upper) (second-half t lower upper))
 
--- ---- a job's angles, number of cuts, and whether no inner call of the root finder is refused
+-- ---- a job's angles and number of cuts
 
 unfoldable pub angles : Job → List Float
 angles job =
@@ -85,6 +72,3 @@ angles job =
 
 unfoldable pub cut-count : Job → ℕ
 cut-count job = by-kind (job .kind) (SampleAngles.cut-count (first-free job)) (SampleAngles.cut-count (second-free job)) (slices-count (folded job))
-
-unfoldable pub hold : Job → Bool
-hold job = by-kind (job .kind) (SampleAngles.hold (first-free job)) (SampleAngles.hold (second-free job)) (slices-hold (folded job))

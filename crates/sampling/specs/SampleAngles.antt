@@ -1,6 +1,6 @@
 -- One free joint: `sample_angles` of continuum.rs (01, module 5). Kind 1's angles are those of joint 1, kind 2's those of joint 2. Definitions only.
 use Prim.Native.Nat.{ℕ, _+_}
-use mathlib.Core.Bool.{Bool, true, cond}
+use mathlib.Core.Bool.{Bool, cond}
 use mathlib.Core.List.{List, []}
 use lib.ListN.{length}
 use lib.Ieee.{Float}
@@ -11,7 +11,7 @@ use Rattle.sampling.specs.Constraints.{compute-center}
 use Rattle.sampling.specs.Intervals.{wrist-limit-intervals}
 use Rattle.sampling.specs.Marks.{model-angle, marks}
 use Rattle.sampling.specs.Wrist.{wrist}
-use Rattle.sampling.specs.Bends.{all-roots, all-roots-hold}
+use Rattle.sampling.specs.Bends.{all-roots}
 use Rattle.sampling.specs.Samples.{interval-cuts, three-samples}
 use Rattle.sampling.specs.declared.constraints.Center.{Center}
 use Rattle.sampling.specs.declared.continuum.Axes.{Axes}
@@ -66,10 +66,6 @@ third-cuts f = cond (finite (f .near)) (interval-cuts (f .near) (roots f) (inter
 -- the number of cuts: the three lists' lengths, added
 unfoldable pub cut-count : Free → ℕ
 cut-count f = length (first-cuts f) + length (second-cuts f) + length (third-cuts f)
-
--- whether no inner call of the root finder is refused
-unfoldable pub hold : Free → Bool
-hold f = cond (finite (f .near)) (all-roots-hold (f .wrist) (f .fifth)) true
 
 -- The angles: each interval's samples, one interval after the other.
 unfoldable pub sample-angles : Free → List Float

@@ -5,7 +5,6 @@ ghost use Prim.Native.Nat.{_+_, _≤_};
 ghost use lib.ListN.{length};
 ghost use Rattle.sampling.specs.Promises.Pushed.{Pushed};
 ghost use Rattle.sampling.specs.BendSlices as Of;
-use crate::bends::Counted;
 use crate::bends::norm_roots;
 use crate::boundaries::across;
 use crate::continuum::ROOT_ROUNDOFF;
@@ -119,9 +118,9 @@ fn fold(z: Vector, angle: f64) -> Harmonic
 }
 
 // Joint 2 at an angle: where that vector is as long as joint 5's bend makes it.
-fn folds(z: Vector, q3: f64, s5: f64, angle2: f64, out: &mut [f64], n: usize) -> Counted
+fn folds(z: Vector, q3: f64, s5: f64, angle2: f64, out: &mut [f64], n: usize) -> usize
     requires { ⌜ n + 58 ≤ length (now out) ⌝ }
-    ensures { λ r. ⌜ (r .holds ≡ Of.folds-hold z q3 s5 angle2) × Pushed 58 (Of.folds z q3 s5 angle2) n (now (out .entry)) (r .count) (now (out .exit)) ⌝ }
+    ensures { λ r. ⌜ Pushed 58 (Of.folds z q3 s5 angle2) n (now (out .entry)) r (now (out .exit)) ⌝ }
 {
     let x = fold(z, angle2 + q3);
     let y = across(z);
@@ -129,23 +128,15 @@ fn folds(z: Vector, q3: f64, s5: f64, angle2: f64, out: &mut [f64], n: usize) ->
     norm_roots(x, y, norm, out, n)
 }
 
-fn folds_range(z: Vector, q3: f64, s5: f64, range: Range, out: &mut [f64], n: usize) -> Counted
+fn folds_range(z: Vector, q3: f64, s5: f64, range: Range, out: &mut [f64], n: usize) -> usize
     requires { ⌜ n + 116 ≤ length (now out) ⌝ }
-    ensures { λ r. ⌜ (r .holds ≡ Of.folds-range-hold z q3 s5 range) ×
-        Pushed 116 (Of.folds-range z q3 s5 range) n (now (out .entry)) (r .count) (now (out .exit)) ⌝ }
+    ensures { λ r. ⌜ Pushed 116 (Of.folds-range z q3 s5 range) n (now (out .entry)) r (now (out .exit)) ⌝ }
 {
     match range {
-        Range::Nothing => Counted {
-            count: n,
-            holds: true,
-        },
+        Range::Nothing => n,
         Range::Between(lower, upper) => {
-            let first = folds(z, q3, s5, lower, out, n);
-            let second = folds(z, q3, s5, upper, out, first.count);
-            Counted {
-                count: second.count,
-                holds: first.holds & second.holds,
-            }
+            let m = folds(z, q3, s5, lower, out, n);
+            folds(z, q3, s5, upper, out, m)
         }
     }
 }
@@ -160,10 +151,9 @@ fn bend_slice(
     angle5: f64,
     out: &mut [f64],
     n: usize,
-) -> Counted
+) -> usize
     requires { ⌜ n + 128 ≤ length (now out) ⌝ }
-    ensures { λ r. ⌜ (r .holds ≡ Of.bend-slice-holds (m .z) q3 range2 angle5) ×
-        Pushed 128 (Of.bend-slice m q3 range2 range4 range6 angle5) n (now (out .entry)) (r .count) (now (out .exit)) ⌝ }
+    ensures { λ r. ⌜ Pushed 128 (Of.bend-slice m q3 range2 range4 range6 angle5) n (now (out .entry)) r (now (out .exit)) ⌝ }
 {
     let q5 = sin_cos(angle5);
     let n1 = transverses(m.z, q5.sine, range4, out, n);
@@ -182,23 +172,15 @@ pub(crate) fn bend_slices(
     range6: Range,
     out: &mut [f64],
     n: usize,
-) -> Counted
+) -> usize
     requires { ⌜ n + 256 ≤ length (now out) ⌝ }
-    ensures { λ r. ⌜ (r .holds ≡ Of.bend-slices-hold (m .z) q3 range2 range5) ×
-        Pushed 256 (Of.bend-slices m q3 range2 range4 range5 range6) n (now (out .entry)) (r .count) (now (out .exit)) ⌝ }
+    ensures { λ r. ⌜ Pushed 256 (Of.bend-slices m q3 range2 range4 range5 range6) n (now (out .entry)) r (now (out .exit)) ⌝ }
 {
     match range5 {
-        Range::Nothing => Counted {
-            count: n,
-            holds: true,
-        },
+        Range::Nothing => n,
         Range::Between(lower, upper) => {
-            let first = bend_slice(m, q3, range2, range4, range6, lower, out, n);
-            let second = bend_slice(m, q3, range2, range4, range6, upper, out, first.count);
-            Counted {
-                count: second.count,
-                holds: first.holds & second.holds,
-            }
+            let k = bend_slice(m, q3, range2, range4, range6, lower, out, n);
+            bend_slice(m, q3, range2, range4, range6, upper, out, k)
         }
     }
 }

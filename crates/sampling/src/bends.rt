@@ -3,7 +3,7 @@
 ghost use mathlib.Core.Path.{_≡_};
 ghost use Prim.Native.Nat.{_+_, _≤_};
 ghost use lib.ListN.{length};
-ghost use Rattle.polynomial.specs.Curve.{squared-norm-holds};
+ghost use Rattle.polynomial.specs.Curve.{squared-norm-roots};
 ghost use Rattle.sampling.specs.Promises.Pushed.{Pushed};
 ghost use Rattle.sampling.specs.Promises.Polar as By;
 ghost use Rattle.sampling.specs.Bends as Of;
@@ -23,31 +23,14 @@ use float::number::abs;
 use float::number::is_finite;
 use float::trig::sin_cos;
 use polynomial::curve::Harmonic;
-use polynomial::inner::Inner;
 use polynomial::norm::squared_norm_roots;
 
-// How many numbers stand in the slice now, and whether no inner call of the root finder was refused.
-pub struct Counted {
-    pub count: usize,
-    pub holds: bool,
-}
-
-// Roots of x(angle)^2 + y(angle)^2 = norm^2; none where the root finder refuses.
-pub(crate) fn norm_roots(x: Harmonic, y: Harmonic, norm: f64, out: &mut [f64], n: usize) -> Counted
+// Roots of x(angle)^2 + y(angle)^2 = norm^2.
+pub(crate) fn norm_roots(x: Harmonic, y: Harmonic, norm: f64, out: &mut [f64], n: usize) -> usize
     requires { ⌜ n + 58 ≤ length (now out) ⌝ }
-    ensures { λ r. ⌜ (r .holds ≡ squared-norm-holds x y norm) × Pushed 58 (Of.norm-roots x y norm) n (now (out .entry)) (r .count) (now (out .exit)) ⌝ }
+    ensures { λ r. ⌜ Pushed 58 (squared-norm-roots x y norm) n (now (out .entry)) r (now (out .exit)) ⌝ }
 {
-    let answer = squared_norm_roots(x, y, norm, &mut out[n..]);
-    match answer {
-        Inner::Count(m) => Counted {
-            count: n + m,
-            holds: true,
-        },
-        Inner::Refused => Counted {
-            count: n,
-            holds: false,
-        },
-    }
+    n + squared_norm_roots(x, y, norm, &mut out[n..])
 }
 
 fn harmonic(t: Trig) -> Harmonic
@@ -68,10 +51,10 @@ fn narrow(sine: f64) -> bool
 }
 
 // Where joint 5 is bent by an angle; narrow ranges near the poles are kept.
-fn bend_roots(cos5: Trig, polar: Polar, q4: Ray, angle: f64, out: &mut [f64], n: usize) -> Counted
+fn bend_roots(cos5: Trig, polar: Polar, q4: Ray, angle: f64, out: &mut [f64], n: usize) -> usize
     requires { ⌜ n + 60 ≤ length (now out) ⌝ }
     requires { ⌜ polar ≡ By.polar cos5 ⌝ }
-    ensures { λ r. ⌜ (r .holds ≡ Of.bend-roots-hold q4 angle) × Pushed 60 (Of.bend-roots cos5 q4 angle) n (now (out .entry)) (r .count) (now (out .exit)) ⌝ }
+    ensures { λ r. ⌜ Pushed 60 (Of.bend-roots cos5 q4 angle) n (now (out .entry)) r (now (out .exit)) ⌝ }
 {
     let a = sin_cos(angle);
     let m = roots_by(cos5, polar, a.cosine, out, n);
@@ -79,65 +62,48 @@ fn bend_roots(cos5: Trig, polar: Polar, q4: Ray, angle: f64, out: &mut [f64], n:
     if narrow(sine) {
         return norm_roots(harmonic(q4.x), harmonic(q4.y), sine, out, m);
     }
-    Counted {
-        count: m,
-        holds: true,
-    }
+    m
 }
 
 // An angle counts if it is finite.
-fn bend_at(cos5: Trig, polar: Polar, q4: Ray, angle: f64, out: &mut [f64], n: usize) -> Counted
+fn bend_at(cos5: Trig, polar: Polar, q4: Ray, angle: f64, out: &mut [f64], n: usize) -> usize
     requires { ⌜ n + 60 ≤ length (now out) ⌝ }
     requires { ⌜ polar ≡ By.polar cos5 ⌝ }
-    ensures { λ r. ⌜ (r .holds ≡ Of.bend-at-holds q4 angle) × Pushed 60 (Of.bend-at cos5 q4 angle) n (now (out .entry)) (r .count) (now (out .exit)) ⌝ }
+    ensures { λ r. ⌜ Pushed 60 (Of.bend-at cos5 q4 angle) n (now (out .entry)) r (now (out .exit)) ⌝ }
 {
     if is_finite(angle) {
         return bend_roots(cos5, polar, q4, angle, out, n);
     }
-    Counted {
-        count: n,
-        holds: true,
-    }
+    n
 }
 
-fn bend_range(cos5: Trig, polar: Polar, q4: Ray, range: Range, out: &mut [f64], n: usize) -> Counted
+fn bend_range(cos5: Trig, polar: Polar, q4: Ray, range: Range, out: &mut [f64], n: usize) -> usize
     requires { ⌜ n + 120 ≤ length (now out) ⌝ }
     requires { ⌜ polar ≡ By.polar cos5 ⌝ }
-    ensures { λ r. ⌜ (r .holds ≡ Of.bend-range-holds q4 range) × Pushed 120 (Of.bend-range cos5 q4 range) n (now (out .entry)) (r .count) (now (out .exit)) ⌝ }
+    ensures { λ r. ⌜ Pushed 120 (Of.bend-range cos5 q4 range) n (now (out .entry)) r (now (out .exit)) ⌝ }
 {
     match range {
-        Range::Nothing => Counted {
-            count: n,
-            holds: true,
-        },
+        Range::Nothing => n,
         Range::Between(a, b) => {
-            let first = bend_at(cos5, polar, q4, a, out, n);
-            let second = bend_at(cos5, polar, q4, b, out, first.count);
-            Counted {
-                count: second.count,
-                holds: first.holds & second.holds,
-            }
+            let m = bend_at(cos5, polar, q4, a, out, n);
+            bend_at(cos5, polar, q4, b, out, m)
         }
     }
 }
 
 // The reference and, with limits, their centre and ends.
-fn bend_marks(cos5: Trig, polar: Polar, q4: Ray, marks: Marks, out: &mut [f64], n: usize) -> Counted
+fn bend_marks(cos5: Trig, polar: Polar, q4: Ray, marks: Marks, out: &mut [f64], n: usize) -> usize
     requires { ⌜ n + 240 ≤ length (now out) ⌝ }
     requires { ⌜ polar ≡ By.polar cos5 ⌝ }
-    ensures { λ r. ⌜ (r .holds ≡ Of.bend-marks-hold q4 marks) × Pushed 240 (Of.bend-marks cos5 q4 marks) n (now (out .entry)) (r .count) (now (out .exit)) ⌝ }
+    ensures { λ r. ⌜ Pushed 240 (Of.bend-marks cos5 q4 marks) n (now (out .entry)) r (now (out .exit)) ⌝ }
 {
-    let first = bend_at(cos5, polar, q4, marks.reference, out, n);
+    let n1 = bend_at(cos5, polar, q4, marks.reference, out, n);
     if marks.limited {
-        let second = bend_at(cos5, polar, q4, marks.center, out, first.count);
+        let n2 = bend_at(cos5, polar, q4, marks.center, out, n1);
         let range = marks.range;
-        let ends = bend_range(cos5, polar, q4, range, out, second.count);
-        return Counted {
-            count: ends.count,
-            holds: first.holds & (second.holds & ends.holds),
-        };
+        return bend_range(cos5, polar, q4, range, out, n2);
     }
-    first
+    n1
 }
 
 // All boundary angles of a free joint whose reference is near, in the front of out.
@@ -149,21 +115,16 @@ pub(crate) fn all_roots(
     sixth: Sixth,
     center: f64,
     out: &mut [f64],
-) -> Counted
+) -> usize
     requires { ⌜ 300 ≤ length (now out) ⌝ }
-    ensures { λ r. ⌜ (r .holds ≡ Of.all-roots-hold w fifth) ×
-        Pushed 300 (Of.all-roots w near fourth fifth sixth center) 0 (now (out .entry)) (r .count) (now (out .exit)) ⌝ }
+    ensures { λ r. ⌜ Pushed 300 (Of.all-roots w near fourth fifth sixth center) 0 (now (out .entry)) r (now (out .exit)) ⌝ }
 {
     let cos5 = w.cos5;
     let polar = cos5.polar();
     let n1 = push(near, out, 0);
     let n2 = poles(cos5, polar, out, n1);
     let n3 = ray_angles(w.q4, fourth, out, n2);
-    let bends = bend_marks(cos5, polar, w.q4, fifth, out, n3);
-    let n4 = sixth_angles(w, fourth, sixth, out, bends.count);
-    let n5 = push(center, out, n4);
-    Counted {
-        count: n5,
-        holds: bends.holds,
-    }
+    let n4 = bend_marks(cos5, polar, w.q4, fifth, out, n3);
+    let n5 = sixth_angles(w, fourth, sixth, out, n4);
+    push(center, out, n5)
 }

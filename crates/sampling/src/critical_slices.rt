@@ -7,6 +7,7 @@ ghost use lib.ListN.{length, take};
 ghost use Rattle.polynomial.specs.Polynomial.{nine};
 ghost use Rattle.polynomial.specs.Promises.Lists.{All};
 ghost use Rattle.sampling.specs.Promises.Curves.{most-curves};
+ghost use Rattle.sampling.specs.Promises.Charts.{Bounded};
 ghost use Rattle.sampling.specs.Promises.Grown.{Grown};
 ghost use Rattle.sampling.specs.CriticalSlices as Of;
 ghost use Rattle.sampling.specs.Promises.Numerators.{first-three, first-threes, Threes, meetings};
@@ -22,7 +23,6 @@ use polynomial::compensated::Compensated;
 use polynomial::curve::Curve;
 use polynomial::curve::Numerators;
 use polynomial::cuts::Put;
-use polynomial::inner::Inner;
 use polynomial::inner::inner_roots;
 
 // The chart u = tan((q1 - origin) / 2): its origin and its bounds.
@@ -30,12 +30,6 @@ pub struct Chart {
     pub origin: f64,
     pub lower: f64,
     pub upper: f64,
-}
-
-// The cuts in the slice, and whether no inner call of the root finder was refused.
-pub struct Grew {
-    pub cuts: Put,
-    pub holds: bool,
 }
 
 // The chart of a part of joint 1's interval.
@@ -66,23 +60,14 @@ fn angles(work: &mut [f64], cuts: Put, origin: f64, roots: &[f64], n: usize) -> 
 }
 
 // An inner call of the root finder, for the first n coefficients. A cut is the same however it arose.
-fn chart_roots(work: &mut [f64], cuts: Put, c: Chart, p: [Compensated; 9], n: usize) -> Grew
-    requires { ⌜ n ≤ 9 ⌝ }
-    ensures { λ r. ⌜ (r .holds ≡ Of.chart-holds c (take n p)) × Grown (Of.chart-roots c (take n p)) (now (work .entry)) cuts (now (work .exit)) (r .cuts) ⌝ }
+fn chart_roots(work: &mut [f64], cuts: Put, c: Chart, p: [Compensated; 9], n: usize) -> Put
+    requires { ⌜ (n ≤ 9) × Bounded c ⌝ }
+    ensures { λ r. ⌜ Grown (Of.chart-roots c (take n p)) (now (work .entry)) cuts (now (work .exit)) r ⌝ }
 {
     let mut found = [0.0; 512];
     let mut kinds = [0; 512];
-    let answer = inner_roots(p, n, c.lower, c.upper, &mut found, &mut kinds);
-    match answer {
-        Inner::Count(m) => {
-            let state = angles(work, cuts, c.origin, &found, m);
-            Grew {
-                cuts: state,
-                holds: true,
-            }
-        }
-        Inner::Refused => Grew { cuts, holds: false },
-    }
+    let m = inner_roots(p, n, c.lower, c.upper, &mut found, &mut kinds);
+    angles(work, cuts, c.origin, &found, m)
 }
 
 // p * p + q * q - r * r, of n coefficients each.
@@ -135,28 +120,25 @@ fn meetings(
     at: [Numerators; CURVES],
     later: usize,
     k: Numerators,
-) -> Grew
-    requires { ⌜ (later ≤ most-curves) × All Threes (take later at) ⌝ }
-    ensures { λ r. ⌜ (r .holds ≡ Of.charts-hold c (meetings (first-threes (take later at)) (first-three k))) ×
-        Grown (flatMap (Of.chart-roots c) (meetings (first-threes (take later at)) (first-three k))) (now (work .entry)) cuts (now (work .exit)) (r .cuts) ⌝ }
+) -> Put
+    requires { ⌜ (later ≤ most-curves) × All Threes (take later at) × Bounded c ⌝ }
+    ensures { λ r. ⌜ Grown (flatMap (Of.chart-roots c) (meetings (first-threes (take later at)) (first-three k))) (now (work .entry)) cuts
+        (now (work .exit)) r ⌝ }
 {
     let mut state = cuts;
-    let mut holds = true;
     let mut earlier = 0;
     while earlier < later {
         let e = at[earlier];
         earlier += 1;
-        let grew = chart_roots(work, state, c, intersection(e, k), 9);
-        state = grew.cuts;
-        holds = holds & grew.holds;
+        state = chart_roots(work, state, c, intersection(e, k), 9);
     }
-    Grew { cuts: state, holds }
+    state
 }
 
 // Each of the first n curves alone, then with each earlier one, whose polynomials are kept.
-pub(crate) fn critical(work: &mut [f64], cuts: Put, c: Chart, at: [Curve; CURVES], n: usize) -> Grew
-    requires { ⌜ n ≤ most-curves ⌝ }
-    ensures { λ r. ⌜ (r .holds ≡ Of.critical-holds c (take n at)) × Grown (Of.critical c (take n at)) (now (work .entry)) cuts (now (work .exit)) (r .cuts) ⌝ }
+pub(crate) fn critical(work: &mut [f64], cuts: Put, c: Chart, at: [Curve; CURVES], n: usize) -> Put
+    requires { ⌜ (n ≤ most-curves) × Bounded c ⌝ }
+    ensures { λ r. ⌜ Grown (Of.critical c (take n at)) (now (work .entry)) cuts (now (work .exit)) r ⌝ }
 {
     let zero = [Compensated {
         high: 0.0,
@@ -169,18 +151,14 @@ pub(crate) fn critical(work: &mut [f64], cuts: Put, c: Chart, at: [Curve; CURVES
     };
     let mut known = [none; CURVES];
     let mut state = cuts;
-    let mut holds = true;
     let mut j = 0;
     while j < n {
         let curve = at[j];
         let k = curve.polynomials(c.origin);
         let alone = chart_roots(work, state, c, tangency(k), 5);
-        let before = alone.cuts;
-        let met = meetings(work, before, c, known, j, k);
+        state = meetings(work, alone, c, known, j, k);
         known[j] = k;
         j += 1;
-        state = met.cuts;
-        holds = holds & (alone.holds & met.holds);
     }
-    Grew { cuts: state, holds }
+    state
 }

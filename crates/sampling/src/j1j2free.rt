@@ -5,16 +5,17 @@ ghost use mathlib.Core.List.{[], _++_};
 ghost use Prim.Native.Nat.{_+_, _≤_};
 ghost use lib.ListN.{length, take, drop};
 ghost use Rattle.polynomial.specs.Promises.Held.{Kept};
-ghost use Rattle.sampling.specs.CriticalSlices.{chart, critical-holds};
+ghost use Rattle.sampling.specs.CriticalSlices.{chart};
+ghost use Rattle.sampling.specs.Promises.Charts.{Bounded, Charted};
 ghost use Rattle.sampling.specs.Promises.Curves.{most-curves};
 ghost use Rattle.sampling.specs.Promises.Halves.{half-values, start, both};
 ghost use Rattle.sampling.specs.Promises.Plan.{halves-of, folded-plan, folded-cuts, granted, where-laid};
 ghost use Rattle.sampling.specs.J1j2free as Of;
+ghost use Rattle.sampling.specs.declared.intervals.Range.the-variants.{Between};
 use crate::bend_slices::bend_slices;
 use crate::boundaries::Curves;
 use crate::boundaries::boundaries;
 use crate::boundaries::wrist_limits;
-use crate::critical_slices::Grew;
 use crate::critical_slices::chart_of;
 use crate::critical_slices::critical;
 use crate::intervals::Range;
@@ -90,24 +91,17 @@ fn half_cuts(
     n: usize,
     lower: f64,
     upper: f64,
-) -> Grew
-    requires { ⌜ (curves .count ≤ most-curves) × (n ≤ length (now bends)) ⌝ }
-    ensures { λ r. ⌜ (r .holds ≡ critical-holds (chart lower upper) (take (curves .count) (curves .at))) ×
-        Kept (half-values (take (curves .count) (curves .at)) (take n (now (bends .entry))) lower upper) (now (work .entry))
-        (now (work .exit)) (r .cuts) ⌝ }
+) -> Put
+    requires { ⌜ (curves .count ≤ most-curves) × (n ≤ length (now bends)) × Bounded (chart lower upper) ⌝ }
+    ensures { λ r. ⌜ Kept (half-values (take (curves .count) (curves .at)) (take n (now (bends .entry))) lower upper) (now (work .entry)) (now (work .exit)) r ⌝ }
 {
     let c = chart_of(lower, upper);
     let first = push(work, Put::Count(0), lower);
     let ends = push(work, first, upper);
     let count = curves.count;
     let at = curves.at;
-    let grew = critical(work, ends, c, at, count);
-    let cuts = grew.cuts;
-    let all = all_copies(work, cuts, lower, upper, bends, n);
-    Grew {
-        cuts: all,
-        holds: grew.holds,
-    }
+    let cuts = critical(work, ends, c, at, count);
+    all_copies(work, cuts, lower, upper, bends, n)
 }
 
 // Where the second half's list starts: behind the first, or, where that has too few places, at the
@@ -138,11 +132,10 @@ fn halves_of(reference: f64, first: Put, second: Put) -> Plan
     }
 }
 
-// The cuts of both halves, one list after the other in the front of work. Every inner call of the
-// root finder is made, whether or not there are places.
+// The cuts of both halves, one list after the other in the front of work.
 fn cut_halves(work: &mut [f64], t: Folded, lower: f64, upper: f64) -> Plan
-    ensures { λ r. ⌜ r ≡ granted (Of.halves-hold t lower upper)
-        (length (Of.first-half t lower upper) + length (Of.second-half t lower upper))
+    requires { ⌜ Charted (Between lower upper) ⌝ }
+    ensures { λ r. ⌜ r ≡ granted (length (Of.first-half t lower upper) + length (Of.second-half t lower upper))
         (halves-of (t .reference) (Of.first-half t lower upper) (Of.second-half t lower upper)) (length (now (work .entry))) ⌝ }
     ensures { λ r. ⌜ where-laid r (now (work .exit)) [] ≡
         where-laid r ((Of.first-half t lower upper ++ Of.second-half t lower upper)
@@ -153,7 +146,7 @@ fn cut_halves(work: &mut [f64], t: Folded, lower: f64, upper: f64) -> Plan
     let range5 = t.range5;
     let range6 = t.range6;
     let mut bends = [0.0; 256];
-    let found = bend_slices(
+    let n = bend_slices(
         t.matrix,
         t.q3,
         range2,
@@ -165,20 +158,16 @@ fn cut_halves(work: &mut [f64], t: Folded, lower: f64, upper: f64) -> Plan
     );
     let curves = boundaries(t.matrix, t.q3, range2, range4, range5, range6);
     let m = middle(lower, upper);
-    let first = half_cuts(work, curves, &bends, found.count, lower, m);
-    let cuts1 = first.cuts;
-    let start = start_of(cuts1, work.len());
-    let second = half_cuts(&mut work[start..], curves, &bends, found.count, m, upper);
-    if found.holds & (first.holds & second.holds) {
-        let cuts2 = second.cuts;
-        return halves_of(t.reference, cuts1, cuts2);
-    }
-    Plan::Refused
+    let first = half_cuts(work, curves, &bends, n, lower, m);
+    let start = start_of(first, work.len());
+    let second = half_cuts(&mut work[start..], curves, &bends, n, m, upper);
+    halves_of(t.reference, first, second)
 }
 
 // The cuts of both halves of joint 1's interval; where it has none there is no cut and no angle.
 pub(crate) fn cut(work: &mut [f64], t: Folded) -> Plan
-    ensures { λ r. ⌜ r ≡ granted (Of.hold t) (Of.cut-count t) (folded-plan t) (length (now (work .entry))) ⌝ }
+    requires { ⌜ Charted (t .range1) ⌝ }
+    ensures { λ r. ⌜ r ≡ granted (Of.cut-count t) (folded-plan t) (length (now (work .entry))) ⌝ }
     ensures { λ r. ⌜ where-laid r (now (work .exit)) [] ≡ where-laid r (folded-cuts t ++ drop (Of.cut-count t) (now (work .entry))) [] ⌝ }
 {
     let range1 = t.range1;

@@ -21,10 +21,9 @@ pub struct Halves {
     pub second: usize,
 }
 
-// What came of a job's cuts: an inner call of the root finder was refused, there are too few places,
-// or the cuts of one free joint or of two are in work.
+// What came of a job's cuts: there are too few places, or the cuts of one free joint or of two are in
+// work.
 pub enum Plan {
-    Refused,
     Short,
     Lists(Lists),
     Halves(Halves),

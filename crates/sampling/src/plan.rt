@@ -4,7 +4,7 @@ ghost use mathlib.Core.List.{[], _++_};
 ghost use Prim.Native.Nat.{_+_, _≤_};
 ghost use lib.ListN.{length, drop, take};
 ghost use Rattle.sampling.specs.Angles.{first-free, second-free, cut-count};
-ghost use Rattle.sampling.specs.Promises.Plan.{to-come, Streamable, Ready, all-cuts, where-laid, zeros};
+ghost use Rattle.sampling.specs.Promises.Plan.{Drawable, to-come, Streamable, Ready, all-cuts, where-laid, zeros};
 ghost use Rattle.sampling.specs.Promises.Plan as Of;
 ghost use Rattle.sampling.specs.Promises.Stream.{distinct, next, start};
 use crate::j1free;
@@ -72,7 +72,6 @@ pub fn next(work: &[f64], plan: Plan, c: Cursor) -> Step
     ensures { λ s. ⌜ s ≡ Of.step plan (now (work .entry)) c ⌝ }
 {
     match plan {
-        Plan::Refused => Step::Done,
         Plan::Short => Step::Done,
         Plan::Lists(n) => next_sample(work, n, c),
         Plan::Halves(h) => next_slice(work, h, c),
@@ -85,7 +84,6 @@ pub fn count(work: &[f64], plan: Plan) -> usize
     ensures { λ r. ⌜ r ≡ length (to-come plan (now (work .entry)) start) ⌝ }
 {
     match plan {
-        Plan::Refused => 0,
         Plan::Short => 0,
         Plan::Lists(n) => angle_count(n),
         Plan::Halves(h) => count_slices(work, h),
@@ -108,6 +106,7 @@ fn second_free(job: Job) -> Free
 
 // Puts a job's cuts into work, whatever it held.
 fn cut(work: &mut [f64], job: Job) -> Plan
+    requires { ⌜ Drawable job ⌝ }
     ensures { λ r. ⌜ r ≡ Of.plan job (length (now (work .entry))) ⌝ }
     ensures { λ r. ⌜ where-laid r (now (work .exit)) [] ≡ where-laid r (all-cuts job ++ drop (cut-count job) (now (work .entry))) [] ⌝ }
 {
@@ -124,7 +123,6 @@ fn clear_unlaid(work: &mut [f64], plan: Plan)
     ensures { λ _. ⌜ now (work .exit) ≡ where-laid plan (now (work .entry)) (zeros (length (now (work .entry)))) ⌝ }
 {
     match plan {
-        Plan::Refused => clear(work),
         Plan::Short => clear(work),
         Plan::Lists(_) => {}
         Plan::Halves(_) => {}
@@ -133,6 +131,7 @@ fn clear_unlaid(work: &mut [f64], plan: Plan)
 
 // The plan of a job, whatever work held: its cuts in front, or +0.0 in every place.
 pub fn plan_of(work: &mut [f64], job: Job) -> Plan
+    requires { ⌜ Drawable job ⌝ }
     ensures { λ r. ⌜ r ≡ Of.plan job (length (now (work .entry))) ⌝ }
     ensures { λ r. ⌜ now (work .exit) ≡ Of.work-after job (now (work .entry)) ⌝ }
 {

@@ -113,16 +113,15 @@ fn cut_intervals(work: &mut [f64], near: f64, three: Intervals, roots: &[f64], n
     })
 }
 
-// The cuts of a free joint, in the front of work. Every inner call of the root finder is made before
-// a place of work is asked for.
+// The cuts of a free joint, in the front of work.
 pub(crate) fn cut(work: &mut [f64], f: Free) -> Plan
-    ensures { λ r. ⌜ r ≡ granted (Of.hold f) (Of.cut-count f) (free-plan f) (length (now (work .entry))) ⌝ }
+    ensures { λ r. ⌜ r ≡ granted (Of.cut-count f) (free-plan f) (length (now (work .entry))) ⌝ }
     ensures { λ r. ⌜ where-laid r (now (work .exit)) [] ≡ where-laid r (free-cuts f ++ drop (Of.cut-count f) (now (work .entry))) [] ⌝ }
 {
     if is_finite(f.near) {
         let mut roots = [0.0; 300];
         let sixth = f.sixth;
-        let found = all_roots(
+        let n = all_roots(
             f.wrist,
             f.near,
             f.fourth,
@@ -131,11 +130,8 @@ pub(crate) fn cut(work: &mut [f64], f: Free) -> Plan
             f.limits.center,
             &mut roots,
         );
-        if found.holds {
-            let three = wrist_limit_intervals(f.limits, f.near, 1.0);
-            return cut_intervals(work, f.near, three, &roots, found.count);
-        }
-        return Plan::Refused;
+        let three = wrist_limit_intervals(f.limits, f.near, 1.0);
+        return cut_intervals(work, f.near, three, &roots, n);
     }
     Plan::Lists(Lists {
         first: 0,

@@ -1,4 +1,4 @@
--- The operation Check (01; 02, change 2): refusals 31 to 36 in their order, for a sheet of any edition that is known. Definitions only.
+-- The operation Check (01; 02, changes 2 and 5): refusals 31 to 36 in their order, for a sheet of any edition that is known. Definitions only.
 use Prim.Native.Nat.{ℕ, _+_, _-_}
 use mathlib.Core.List.{List}
 use mathlib.Core.Bool.{Bool, true, false, _&&_}
@@ -8,8 +8,9 @@ use Rattle.sheet.specs.Bytes.{little-endian, part, words-bytes, words, s
 use Rattle.sheet.specs.Edition.{known}
 use Rattle.sheet.specs.Request.{core-size, request-size, blank}
 use Rattle.sheet.specs.Refusals.{Answer, accepted, refused, need, fault-number}
+use Rattle.sheet.specs.Validate.{validate}
 use Rattle.sheet.specs.Sheet.{trailer, trailer-size, frame-size, items-bound, sheet-size}
-use Rattle.sheet.specs.Sampling.{items, cut-count, by-request}
+use Rattle.sheet.specs.Sampling.{items, cut-count}
 use Rattle.sheet.specs.declared.edition.Edition.{Edition}
 use Rattle.sheet.specs.declared.edition.Said.{Said}
 use Rattle.sheet.specs.declared.edition.Said.the-variants.{Known, Unknown}
@@ -46,13 +47,13 @@ listed s = words (count-of s) s
 unfoldable pub formed : Edition → List ℕ → Bool
 formed e s = eqb (length s) (sheet-size e (count-of s)) && (ltb (count-of s) items-bound && same-bytes (trailer-of s) (trailer e (count-of s)))
 
--- 33: the request meets none of 1 to 9 and 41
+-- 33: the request meets none of 1 to 8 and 41
 abbrev pub is-accepted : Answer → Bool
 is-accepted (accepted n) = true
 is-accepted (refused k) = false
 
 unfoldable pub meets-none : Edition → List ℕ → Bool
-meets-none e r = is-accepted (by-request e r (accepted 0))
+meets-none e r = is-accepted (validate e r (accepted 0))
 
 -- 34: every unread field is zero
 abbrev pub clean : List ℕ → Bool

@@ -1,6 +1,6 @@
--- The three demands, what the editions promise, and that the order of pairs changed no answer, as statements about the definitions that the contracts of
--- Sampling and Check cite; `Laws.Demands`, `Laws.Editions` and `Laws.RustOrder` prove each. What stays with the contracts: that the code's
--- answer, output and work are these definitions' (`sample::sample`, `check::check`).
+-- The three demands, what the editions promise, that the order of pairs changed no answer and that refusal 9 never came, as statements about the definitions
+-- that the contracts of Sampling and Check cite; `Laws.Demands`, `Laws.Editions`, `Laws.RustOrder` and `Laws.InnerCalls` prove each. What stays with the
+-- contracts: that the code's answer, output and work are these definitions' (`sample::sample`, `check::check`).
 use Prim.Native.Nat.{ℕ, _+_, _*_, _≤_, _<_}
 use mathlib.Core.Path.{_≡_}
 use mathlib.Core.List.{List}
@@ -17,16 +17,21 @@ use Rattle.sheet.specs.Validate.{head-right, name-right}
 use Rattle.sheet.specs.Refusals.{Answer, accepted, refused}
 use Rattle.sheet.specs.Sampling.{angles, before-output, answer, sheet, output-after}
 use Rattle.sheet.specs.Sheet.{trailer-size, items-bound, sheet-size}
-use Rattle.sheet.specs.Check.{request-of, edition-of}
+use Rattle.sheet.specs.Fields.{job-of}
+use Rattle.sheet.specs.Check.{request-of, edition-of, meets-none}
 use Rattle.sheet.specs.declared.edition.Edition.{Edition}
 use Rattle.sheet.specs.declared.edition.Edition.the-variants.{One}
+use Rattle.polynomial.specs.InnerCalls.{Fair}
+use Rattle.polynomial.specs.Promises.Lists.{All}
+use Rattle.sampling.specs.InnerCalls.{inner-calls}
 use Rattle.sampling.specs.Angles as Angles
 use Rattle.sheet.specs.Check as Check
 use Rattle.sheet.specs.RustOrder as RustOrder
+use Rattle.sheet.specs.WithNine as WithNine
 
--- Demand 1. Every answer is a count, or a number of the papers: Sampling's are 1 to 11 and 41, Check's 31 to 36.
+-- Demand 1. Every answer is a count, or a number of the papers: Sampling's are 1 to 8, 10, 11 and 41, Check's 31 to 36.
 abbrev pub of-sampling : ℕ → Bool
-of-sampling k = (leb 1 k && leb k 11) || eqb k 41
+of-sampling k = (leb 1 k && leb k 8) || ((leb 10 k && leb k 11) || eqb k 41)
 
 abbrev pub of-check : ℕ → Bool
 of-check k = leb 31 k && leb k 36
@@ -141,3 +146,13 @@ pub record PairsAsBefore : Type 0 where
   pub sampling : (r : List ℕ) (places room : ℕ) → RustOrder.answer r places room ≡ answer r places room
   pub output : (a : Answer) (r output : List ℕ) → RustOrder.output-after a r output ≡ output-after a r output
   pub check : (upto : Edition) (s : List ℕ) (places : ℕ) → RustOrder.check upto s places ≡ Check.answer upto s places
+
+-- Refusal 9 (02, change 5). Every inner call of the root finder for a request that meets none of 1 to 8 and 41 has bounds within ±4 in order, at most nine
+-- coefficients under 2^400, and a list that 509 places hold.
+abbrev pub InnerCallsFair : Type 0
+InnerCallsFair = (e : Edition) (r : List ℕ) → meets-none e r ≡ true → All Fair (inner-calls (job-of r))
+
+-- So every answer of Sampling and Check is what it was with 9, which none of Sampling's was.
+pub record NineAsBefore : Type 0 where
+  pub sampling : (r : List ℕ) (places room : ℕ) → WithNine.answer r places room ≡ answer r places room
+  pub check : (upto : Edition) (s : List ℕ) (places : ℕ) → WithNine.check upto s places ≡ Check.answer upto s places

@@ -28,7 +28,6 @@ number refusal.Zero = 5
 number refusal.Arm = 6
 number refusal.Reference = 7
 number refusal.Offset = 8
-number refusal.Roots = 9
 number refusal.Work = 10
 number refusal.Output = 11
 

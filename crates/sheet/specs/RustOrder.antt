@@ -1,5 +1,5 @@
 -- Sampling and Check as they were before 02's change 3, with the pairs of curves in the Rust's order: to compare with. Each definition is that of `Sampling`
--- or `Check` by the angles, the cuts and the inner calls of sampling's `RustOrder`. No function promises any of it. Definitions only.
+-- or `Check` by the angles and the cuts of sampling's `RustOrder`; 9, which never came, is left out. No function promises any of it. Definitions only.
 use Prim.Native.Nat.{ℕ, _+_}
 use mathlib.Core.List.{List, map, _++_}
 use lib.ListN.{length, drop}
@@ -12,7 +12,7 @@ use Rattle.sheet.specs.Fields.{job-of}
 use Rattle.sheet.specs.Refusals.{Answer, accepted, refused, need}
 use Rattle.sheet.specs.Validate.{validate}
 use Rattle.sheet.specs.Sheet.{trailer, trailer-size, sheet-size}
-use Rattle.sheet.specs.Check.{count-of, edition-of, request-of, items-of, formed, is-accepted, clean}
+use Rattle.sheet.specs.Check.{count-of, edition-of, request-of, items-of, formed, meets-none, clean}
 use Rattle.sheet.specs.declared.edition.Edition.{Edition}
 use Rattle.sheet.specs.declared.edition.Said.{Said}
 use Rattle.sheet.specs.declared.edition.Said.the-variants.{Known, Unknown}
@@ -26,12 +26,9 @@ items r = map (toBits binary64) (RustOrder.angles (job-of r))
 unfoldable pub sheet : Edition → List ℕ → List ℕ
 sheet e r = words-bytes (items r) ++ (blank r ++ trailer e (length (items r)))
 
-unfoldable pub by-request : Edition → List ℕ → Answer → Answer
-by-request e r v = validate e r (need (RustOrder.hold (job-of r)) 9 v)
-
 unfoldable pub answer : List ℕ → ℕ → ℕ → Answer
 answer r places room =
-    by-request newest r
+    validate newest r
     (need (leb (RustOrder.cut-count (job-of r)) places) 10
     (need (leb (sheet-size newest (length (items r))) room) 11
     (accepted (length (items r)))))
@@ -45,7 +42,7 @@ output-after (refused k) r output = output
 unfoldable pub check-edition : Edition → List ℕ → ℕ → Answer
 check-edition e s places =
     need (formed e s) 32
-    (need (is-accepted (by-request e (request-of e s) (accepted 0))) 33
+    (need (meets-none e (request-of e s)) 33
     (need (clean (request-of e s)) 34
     (need (leb (RustOrder.cut-count (job-of (request-of e s))) places) 35
     (need (same-bytes (items-of e s) (words-bytes (items (request-of e s)))) 36

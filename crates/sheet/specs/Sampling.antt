@@ -1,8 +1,8 @@
--- The operation Sampling (01; 02, change 2): refusals 1 to 11 and 41 in their order, the sheet of each edition, and what the output holds afterwards.
+-- The operation Sampling (01; 02, changes 2 and 5): refusals 1 to 8, 41, 10 and 11 in their order, the sheet of each edition, and what the output holds
+-- afterwards.
 -- Definitions only.
 use Prim.Native.Nat.{ℕ}
 use mathlib.Core.List.{List, map, _++_}
-use mathlib.Core.Bool.{Bool}
 use lib.ListN.{length, drop}
 use lib.Dec.{leb}
 use lib.Ieee.{Float, binary64, toBits}
@@ -27,12 +27,9 @@ answer-of (sampled.Refused k) = refused (number k)
 unfoldable pub angles : List ℕ → List Float
 angles r = Angles.angles (job-of r)
 
--- the cuts counted, and whether no inner call of the root finder is refused
+-- the cuts counted
 unfoldable pub cut-count : List ℕ → ℕ
 cut-count r = Angles.cut-count (job-of r)
-
-unfoldable pub holds : List ℕ → Bool
-holds r = Angles.hold (job-of r)
 
 -- what a sheet lists, 64 bits each: the angles; the NaN is 7FF8000000000000
 unfoldable pub items : List ℕ → List ℕ
@@ -42,19 +39,15 @@ items r = map (toBits binary64) (angles r)
 unfoldable pub sheet : Edition → List ℕ → List ℕ
 sheet e r = words-bytes (items r) ++ (blank r ++ trailer e (length (items r)))
 
--- 1 to 9 and 41, which the request alone decides, and then v
-unfoldable pub by-request : Edition → List ℕ → Answer → Answer
-by-request e r v = validate e r (need (holds r) 9 v)
-
--- 1 to 10 and 41, with so many work places, and then v
+-- 1 to 8 and 41, which the request alone decides, 10, with so many work places, and then v
 unfoldable pub by-work : Edition → List ℕ → ℕ → Answer → Answer
-by-work e r places v = by-request e r (need (leb (cut-count r) places) 10 v)
+by-work e r places v = validate e r (need (leb (cut-count r) places) 10 v)
 
 -- the same with success, which returns n: what does not depend on an output
 abbrev pub before-output : Edition → List ℕ → ℕ → Answer
 before-output e r places = by-work e r places (accepted (length (items r)))
 
--- Sampling, which writes the newest edition: 1 to 11 and 41, with an output of so many bytes; success returns n
+-- Sampling, which writes the newest edition: all of these and 11, with an output of so many bytes; success returns n
 unfoldable pub answer : List ℕ → ℕ → ℕ → Answer
 answer r places room = by-work newest r places (need (leb (sheet-size newest (length (items r))) room) 11 (accepted (length (items r))))
 

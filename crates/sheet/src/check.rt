@@ -1,7 +1,6 @@
 // The operation Check: whether a sheet is the one that its edition lays out for the request inside
 // it.
 ghost use mathlib.Core.Path.{_≡_};
-ghost use mathlib.Core.Bool.{false};
 ghost use Prim.Native.Nat.{_+_, _^_, _<_, _≤_};
 ghost use lib.ListN.{length};
 ghost use Rattle.sampling.specs.Promises.Stream.{start};
@@ -20,7 +19,6 @@ use crate::bytes::same_float;
 use crate::edition::Edition;
 use crate::edition::Said;
 use crate::edition::known;
-use crate::plan::is_refused;
 use crate::plan::is_short;
 use crate::plan::plan_request;
 use crate::refusals::Fault;
@@ -108,11 +106,10 @@ fn formed(e: Edition, sheet: &[u8], n: usize) -> bool
     same_at(sheet, sheet.len() - TRAILER, &t)
 }
 
-// 34 to 36, for a plan that no inner call refused.
+// 34 to 36.
 fn compare(s: &[u8], request: &[u8], work: &[f64], plan: Plan, n: usize) -> Checked
     requires { ⌜ Request.core-size ≤ length (now request) ⌝ }
     requires { ⌜ Promise.PlannedFor (now request) plan (now work) ⌝ }
-    requires { ⌜ Promise.is-refused plan ≡ false ⌝ }
     ensures { λ r. ⌜ Check.answer-of r ≡ Promise.compared (now (request .entry)) (now (s .entry)) n (length (now (work .entry))) ⌝ }
 {
     if !unread_zero(request) {
@@ -136,9 +133,6 @@ fn check_request(e: Edition, s: &[u8], request: &[u8], work: &mut [f64], n: usiz
     match t {
         Tested::Passed(q) => {
             let plan = plan_request(work, request, q);
-            if is_refused(plan) {
-                return Checked::Refused(Fault::Request);
-            }
             compare(s, request, work, plan, n)
         }
         Tested::Refused(_) => Checked::Refused(Fault::Request),

@@ -1,4 +1,4 @@
-// The plan of a request: its cuts in work, or what refuses them.
+// The plan of a request: its cuts in work, or that there are too few places.
 ghost use mathlib.Core.Path.{_≡_};
 ghost use Prim.Native.Nat.{_≤_};
 ghost use lib.ListN.{length};
@@ -14,24 +14,11 @@ use sampling::plan::plan_of;
 use sampling::pose::Quaternion;
 use sampling::pose::from_quat;
 
-// Whether an inner call of the root finder was refused.
-pub(crate) fn is_refused(plan: Plan) -> bool
-    ensures { λ r. ⌜ r ≡ Promise.is-refused plan ⌝ }
-{
-    match plan {
-        Plan::Refused => true,
-        Plan::Short => false,
-        Plan::Lists(_) => false,
-        Plan::Halves(_) => false,
-    }
-}
-
 // Whether there are too few work places.
 pub(crate) fn is_short(plan: Plan) -> bool
     ensures { λ r. ⌜ r ≡ Promise.is-short plan ⌝ }
 {
     match plan {
-        Plan::Refused => false,
         Plan::Short => true,
         Plan::Lists(_) => false,
         Plan::Halves(_) => false,
@@ -42,6 +29,7 @@ pub(crate) fn is_short(plan: Plan) -> bool
 pub(crate) fn plan_request(work: &mut [f64], request: &[u8], q: Quaternion) -> Plan
     requires { ⌜ Request.core-size ≤ length (now request) ⌝ }
     requires { ⌜ try-normalize (Fields.rotation-of (now request)) ≡ Unit q ⌝ }
+    requires { ⌜ Plans.Drawable (Fields.job-of (now request)) ⌝ }
     ensures { λ p. ⌜ p ≡ Plans.plan (Fields.job-of (now (request .entry))) (length (now (work .entry))) ⌝ }
     ensures { λ _. ⌜ now (work .exit) ≡ Plans.work-after (Fields.job-of (now (request .entry))) (now (work .entry)) ⌝ }
 {

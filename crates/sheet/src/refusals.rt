@@ -13,7 +13,6 @@ pub enum Refusal {
     Arm,
     Reference,
     Offset,
-    Roots,
     Work,
     Output,
 }
@@ -31,7 +30,6 @@ pub fn refusal_number(r: Refusal) -> u64
         Refusal::Arm => 6,
         Refusal::Reference => 7,
         Refusal::Offset => 8,
-        Refusal::Roots => 9,
         Refusal::Work => 10,
         Refusal::Output => 11,
     }

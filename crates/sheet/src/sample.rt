@@ -17,7 +17,6 @@ ghost use Rattle.sheet.specs.Promises.Plan as Promise;
 use crate::angles::put_lists;
 use crate::bytes::put_float;
 use crate::edition::newest;
-use crate::plan::is_refused;
 use crate::plan::is_short;
 use crate::plan::plan_request;
 use crate::refusals::Refusal;
@@ -104,16 +103,13 @@ fn has_room(n: usize, room: usize) -> bool
     false
 }
 
-// 9, 10 and 11, and else the sheet.
+// 10 and 11, and else the sheet.
 fn finish(output: &mut [u8], request: &[u8], work: &[f64], plan: Plan) -> Sampled
     requires { ⌜ length (now request) ≡ Request.request-size newest ⌝ }
     requires { ⌜ Promise.PlannedFor (now request) plan (now work) ⌝ }
     ensures { λ a. ⌜ Sampling.answer-of a ≡ Promise.planned-answer (now (request .entry)) (length (now (work .entry))) (length (now (output .entry))) ⌝ }
     ensures { λ a. ⌜ now (output .exit) ≡ Sampling.output-after (Sampling.answer-of a) (now (request .entry)) (now (output .entry)) ⌝ }
 {
-    if is_refused(plan) {
-        return Sampled::Refused(Refusal::Roots);
-    }
     if is_short(plan) {
         return Sampled::Refused(Refusal::Work);
     }

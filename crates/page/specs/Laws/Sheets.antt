@@ -12,11 +12,6 @@ use lib.Seq.{drop-at, drop-drop, take-add, length-take-le}
 use lib.Ieee.{Float, fin, binary64, ofBits, toBits}
 use lib.Ieee.Bits.{ofBits-toBits}
 use borrow.Author.Tests.{leb-true}
-use Rattle.float.specs.Laws.Tests.{and-left, and-right}
-use Rattle.float.specs.Laws.Within.{weaken}
-use Rattle.polynomial.specs.Promises.Lists.{All, Fit}
-use Rattle.sampling.specs.Laws.Woven.{Small}
-use Rattle.sampling.specs.Laws.Fit.{angles-fit}
 use Rattle.sheet.specs.Bytes.{part}
 use Rattle.sheet.specs.Edition.{newest}
 use Rattle.sheet.specs.Request.{request-size, name-at, name-size}
@@ -26,7 +21,6 @@ use Rattle.sheet.specs.Sampling.{angles, items}
 use Rattle.sheet.specs.Sheet.{trailer-size, frame-size}
 use Rattle.sheet.specs.Validate.{is-character, all-zero, is-name, name-right}
 use Rattle.sheet.specs.Check.{request-of, listed, count-of}
-use Rattle.sheet.specs.Check as Check
 use Rattle.sheet.specs.Demands.{Written}
 use Rattle.sheet.specs.declared.edition.Edition.{Edition}
 use Rattle.sheet.specs.declared.edition.Said.{Said}
@@ -34,6 +28,12 @@ use Rattle.sheet.specs.Laws.Bounds.{passed-small}
 use Rattle.sheet.specs.Laws.Demands.{sound}
 use Rattle.sheet.specs.Laws.Listed.{length-words, written-passed, written-size, written-count, written-few, written-known, written-listed}
 use Rattle.sheet.specs.Laws.Places.{core-least, named-most}
+use Rattle.sheet.specs.Check as Check
+use Rattle.float.specs.Laws.Tests.{and-left, and-right}
+use Rattle.float.specs.Laws.Within.{weaken}
+use Rattle.polynomial.specs.Promises.Lists.{All, Fit}
+use Rattle.sampling.specs.Laws.Woven.{Small}
+use Rattle.sampling.specs.Laws.Fit.{angles-fit}
 use Rattle.page.specs.Page.{letter, on-page}
 use Rattle.page.specs.Operation.{name-by, name-of, text}
 use Rattle.page.specs.Promises.Sheets.{Paged, angles-on}
@@ -124,7 +124,7 @@ name-printed (b ∷ bs) e = go (is-character b) refl e (name-printed bs)
 
 -- ---- the angles
 
--- what is within 64 shows its digits
+-- what is within 32 shows its digits
 all-digits : (l : List Float) → Fit l → All Small l → All (λ w. Shown (ofBits binary64 w)) (map (toBits binary64) l)
 all-digits [] f h = tt
 all-digits (x ∷ l) f h =

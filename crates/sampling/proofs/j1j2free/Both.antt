@@ -2,7 +2,6 @@
 use Prim.Native.Nat.{ℕ, _+_, _-_, _≤_, _<_}
 use native.Mathlib.Omega.{arith}
 use mathlib.Core.Path.{_≡_, refl, sym, ap, subst, _∙_}
-use mathlib.Core.Bool.{Bool, true, false, _&&_, cond}
 use mathlib.Core.List.{List, [], _++_, append-assoc}
 use lib.Dec.{T}
 use lib.ListN.{length, take, drop, length-drop}
@@ -18,15 +17,12 @@ use Rattle.polynomial.specs.Laws.Lists.{tail-part, tail-post}
 use Rattle.polynomial.specs.declared.curve.Curve.{Curve}
 use Rattle.polynomial.specs.declared.cuts.Put.{Put}
 use Rattle.polynomial.specs.declared.cuts.Put.the-variants.{Count, Full}
-use Rattle.sampling.specs.CriticalSlices.{chart, critical-holds}
-use Rattle.sampling.specs.BendSlices.{bend-slices-hold}
-use Rattle.sampling.specs.J1j2free.{curves, bends, first-half, second-half, halves-hold}
+use Rattle.sampling.specs.J1j2free.{curves, bends, first-half, second-half}
 use Rattle.sampling.specs.Promises.Halves.{half-values, start, both}
 use Rattle.sampling.specs.Promises.Plan.{halves-of, granted, where-laid}
 use Rattle.sampling.specs.Laws.J1j2free.{half-cuts-are}
 use Rattle.sampling.specs.declared.j1j2free.Folded.{Folded}
 use Rattle.sampling.specs.declared.lists.Plan.{Plan}
-use Rattle.sampling.specs.declared.lists.Plan.the-variants.{Refused}
 
 -- the second list starts within the slice
 pub starts : (a w v : List Float) (s : Put) (n : ℕ) → n ≡ start s (length v) → Kept a w v s → n ≤ length v
@@ -38,7 +34,7 @@ module _ (r : Float) (a b w v u : List Float) where
   abbrev count : ℕ
   count = length (cuts a) + length (cuts b)
 
-  answers : (s t : Put) → Kept a w v s → Kept b (drop (start s (length v)) v) u t → both r s t ≡ granted true count (halves-of r (cuts a) (cuts b)) (length w)
+  answers : (s t : Put) → Kept a w v s → Kept b (drop (start s (length v)) v) u t → both r s t ≡ granted count (halves-of r (cuts a) (cuts b)) (length w)
   answers (Count n) (Count m) k l =
       let h = k .held n refl in
       let i = l .held m refl in
@@ -68,35 +64,26 @@ module _ (r : Float) (a b w v u : List Float) where
 
 module _ (t : Folded) (lower upper m : Float) (f : T (fits binary64 lower)) (g : T (fits binary64 upper)) (em : m ≡ middle lower upper)
     (cs : List Curve) (ec : cs ≡ curves t) (bs : List Float) (eb : bs ≡ bends t)
-    (x y z : Bool) (ex : x ≡ bend-slices-hold (t .matrix .z) (t .q3) (t .range2) (t .range5)) (ey : y ≡ critical-holds (chart lower m) cs)
-    (ez : z ≡ critical-holds (chart m upper) cs) where
-  hold : (x && (y && z)) ≡ halves-hold t lower upper
-  unfolding halves-hold
-  hold = rw (ex, ey, ez, ec, em)
+    (w v last : List Float) (s r : Put) (n : ℕ) (en : n ≡ start s (length v))
+    (k : Kept (half-values cs bs lower m) w v s) (l : Kept (half-values cs bs m upper) (take (length v - n) (drop n v)) last r) where
+  first : first-half t lower upper ≡ cuts (half-values cs bs lower m)
+  unfolding first-half
+  first = rw (em, ec, eb) (half-cuts-are t lower (middle lower upper) f (middle-fits lower upper))
 
-  pub refused : (x && (y && z)) ≡ false → (h : Plan) → Refused ≡ cond (halves-hold t lower upper) h Refused
-  refused e h = rw (sym hold ∙ e)
+  second : second-half t lower upper ≡ cuts (half-values cs bs m upper)
+  unfolding second-half
+  second = rw (em, ec, eb) (half-cuts-are t (middle lower upper) upper (middle-fits lower upper) g)
 
-  module _ (w v last : List Float) (s r : Put) (n : ℕ) (en : n ≡ start s (length v))
-      (k : Kept (half-values cs bs lower m) w v s) (l : Kept (half-values cs bs m upper) (take (length v - n) (drop n v)) last r) where
-    first : first-half t lower upper ≡ cuts (half-values cs bs lower m)
-    unfolding first-half
-    first = rw (em, ec, eb) (half-cuts-are t lower (middle lower upper) f (middle-fits lower upper))
+  behind : Kept (half-values cs bs m upper) (drop (start s (length v)) v) last r
+  behind = rw (← en) (subst (λ (d : List Float). Kept (half-values cs bs m upper) d last r) (tail-part n v) l)
 
-    second : second-half t lower upper ≡ cuts (half-values cs bs m upper)
-    unfolding second-half
-    second = rw (em, ec, eb) (half-cuts-are t (middle lower upper) upper (middle-fits lower upper) g)
-
-    behind : Kept (half-values cs bs m upper) (drop (start s (length v)) v) last r
-    behind = rw (← en) (subst (λ (d : List Float). Kept (half-values cs bs m upper) d last r) (tail-part n v) l)
-
-    pub holds : (x && (y && z)) ≡ true → (q : Plan) → q ≡ both (t .reference) s r
-        → (q ≡ granted (halves-hold t lower upper) (length (first-half t lower upper) + length (second-half t lower upper))
-        (halves-of (t .reference) (first-half t lower upper) (second-half t lower upper)) (length w))
-        × (where-laid q (take n v ++ (last ++ drop (length v - n) (drop n v))) []
-        ≡ where-laid q
-        ((first-half t lower upper ++ second-half t lower upper) ++ drop (length (first-half t lower upper) + length (second-half t lower upper)) w) [])
-    holds e q eq = (
-      eq ∙ rw (sym hold ∙ e, first, second) (answers (t .reference) (half-values cs bs lower m) (half-values cs bs m upper) w v last s r k behind),
-      rw (eq, tail-post n v last, en, first, second) (lists (t .reference) (half-values cs bs lower m) (half-values cs bs m upper) w v last s r k behind),
-    )
+  pub laid-halves : (q : Plan) → q ≡ both (t .reference) s r
+      → (q ≡ granted (length (first-half t lower upper) + length (second-half t lower upper))
+      (halves-of (t .reference) (first-half t lower upper) (second-half t lower upper)) (length w))
+      × (where-laid q (take n v ++ (last ++ drop (length v - n) (drop n v))) []
+      ≡ where-laid q
+      ((first-half t lower upper ++ second-half t lower upper) ++ drop (length (first-half t lower upper) + length (second-half t lower upper)) w) [])
+  laid-halves q eq = (
+    eq ∙ rw (first, second) (answers (t .reference) (half-values cs bs lower m) (half-values cs bs m upper) w v last s r k behind),
+    rw (eq, tail-post n v last, en, first, second) (lists (t .reference) (half-values cs bs lower m) (half-values cs bs m upper) w v last s r k behind),
+  )

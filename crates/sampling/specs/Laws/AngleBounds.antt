@@ -1,5 +1,5 @@
--- Every angle of a job lies within ±64. One free joint: its cuts lie within ±8, so what is tried between two of them lies within ±16.
--- Two free joints: the cuts of both halves lie within ±64, and the middle of two neighbours lies between them.
+-- Every angle of a job lies within ±32. One free joint: its cuts lie within ±8, so what is tried between two of them lies within ±16.
+-- Two free joints: the cuts of both halves lie within ±32, and the middle of two neighbours lies between them.
 use mathlib.Core.Path.{_≡_, refl}
 use mathlib.Core.Bool.{Bool, true, false, cond}
 use mathlib.Core.List.{List, [], _∷_, _++_}
@@ -9,7 +9,7 @@ use lib.Ieee.{Float, nan, inf, fin, binary64, neg, add, sub, rem, lt, isNan, fit
 use lib.Ieee.Fits.{add-fits, sub-fits}
 use lib.Ieee.Scale.{finite}
 use Rattle.float.specs.Number.{_⊕_, _⊖_, _⊗_, abs, rem-euclid, minimum, maximum, middle, one-float, two-float}
-use Rattle.float.specs.Trig.{P, four-float}
+use Rattle.float.specs.Trig.{P, widest, four-float}
 use Rattle.float.specs.Promises.Order.{Within, Span}
 use Rattle.float.specs.Laws.Le.{le→Le, add-mono}
 use Rattle.float.specs.Laws.Within.{fits→held, weaken, numeral, numeral-beyond, add-within, sub-within, mul-within, div-within}
@@ -26,17 +26,20 @@ use Rattle.sampling.specs.Angles.{first-free, second-free, by-kind, angl
 use Rattle.sampling.specs.Continuum.{root-roundoff}
 use Rattle.sampling.specs.Intervals.{interval, wrist-limit-intervals}
 use Rattle.sampling.specs.J1j2free.{folded, curves, bends, half-cuts, first-half, second-half, on-interval, all-slices}
+use Rattle.sampling.specs.CriticalSlices.{chart}
 use Rattle.sampling.specs.Marks.{model-angle}
+use Rattle.sampling.specs.Promises.Charts.{Bounded, Charted}
 use Rattle.sampling.specs.Promises.Halves.{half-values}
 use Rattle.sampling.specs.Promises.Plan.{Moderate}
 use Rattle.sampling.specs.SampleAngles.{free, roots, intervals, first-cuts, second-cuts, third-cuts, sample-angles}
 use Rattle.sampling.specs.Samples.{copies, windings, all-windings, interval-values, interval-cuts, inset, between, all-between, samples, three-samples}
 use Rattle.sampling.specs.Slices.{mids, slices}
+use Rattle.sampling.specs.Laws.Charts.{limits-charted}
 use Rattle.sampling.specs.Laws.Intervals.{Cut, interval-cut}
 use Rattle.sampling.specs.Laws.J1j2free.{half-fit, half-cuts-are}
-use Rattle.sampling.specs.Laws.Limits.{Ends, limits-ends}
+use Rattle.sampling.specs.Laws.Limits.{Ends, ends-span, limits-ends}
 use Rattle.sampling.specs.Laws.Reference.{reference-within}
-use Rattle.sampling.specs.Laws.SliceBounds.{eight, ends-span, all-small, copies-within, half-small}
+use Rattle.sampling.specs.Laws.SliceBounds.{eight, all-small, copies-within, half-small}
 use Rattle.sampling.specs.Laws.Woven.{Small, neighbours}
 use Rattle.sampling.specs.declared.constraints.Center.{Center}
 use Rattle.sampling.specs.declared.continuum.Axes.{Axes}
@@ -51,9 +54,6 @@ use Rattle.sampling.specs.declared.sample_angles.Free.{Free}
 
 abbrev sixteen : Float
 sixteen = fin false 1 (pos 4)
-
-abbrev sixty-four : Float
-sixty-four = fin false 1 (pos 6)
 
 -- ---- one free joint: the reference
 
@@ -148,11 +148,11 @@ module _ {a b : Float} (h : Within eight a) (k : Within eight b) where
 
   middle-small : Small (middle a b)
   unfolding middle
-  middle-small = add-within binary64 sixty-four tt h (div-within binary64 eight tt gap-within (numeral-beyond two-float two-float tt))
+  middle-small = add-within binary64 widest tt h (div-within binary64 eight tt gap-within (numeral-beyond two-float two-float tt))
 
   between-small : All Small (between a b)
   unfolding between
-  between-small = (add-within binary64 sixty-four tt h inset-within, (middle-small, (sub-within binary64 sixty-four tt k inset-within, tt)))
+  between-small = (add-within binary64 widest tt h inset-within, (middle-small, (sub-within binary64 widest tt k inset-within, tt)))
 
 all-between-small : (l : List Float) → All (Within eight) l → All Small (all-between l)
 unfolding all-between
@@ -205,39 +205,42 @@ cuts-mids-small l f h =
     let c = all-cuts Small l h in
     all-append Small (cuts l) (mids (cuts l)) c (mids-small (cuts l) (fit-cuts l f) c (strict-cuts l))
 
-half-all : (t : Folded) (lower upper : Float) → Span 3 lower upper → All Small (half-cuts t lower upper ++ mids (half-cuts t lower upper))
-half-all t lower upper s =
+half-all : (t : Folded) (lower upper : Float) → Span 3 lower upper → Bounded (chart lower upper)
+    → All Small (half-cuts t lower upper ++ mids (half-cuts t lower upper))
+half-all t lower upper s b =
     rw (half-cuts-are t lower upper (s .lo-fits) (s .hi-fits))
-    (cuts-mids-small (half-values (curves t) (bends t) lower upper) (half-fit t lower upper (s .lo-fits) (s .hi-fits)) (half-small lower upper s t))
+    (cuts-mids-small (half-values (curves t) (bends t) lower upper) (half-fit t lower upper (s .lo-fits) (s .hi-fits)) (half-small lower upper s t b))
 
-slices-small : (t : Folded) (lower upper : Float) → Small (t .reference) → Ends lower upper
+slices-small : (t : Folded) (lower upper : Float) → Small (t .reference) → Ends lower upper → Charted (Between lower upper)
     → All Small (slices (t .reference) lower upper (first-half t lower upper) (second-half t lower upper))
 unfolding slices first-half second-half
-slices-small t lower upper r e =
+slices-small t lower upper r e c =
     let s = ends-span e in
     let a = half-cuts t lower (middle lower upper) in
     let b = half-cuts t (middle lower upper) upper in
-    let halves = all-append Small (a ++ mids a) (b ++ mids b) (half-all t lower (middle lower upper) (left-half s))
-    (half-all t (middle lower upper) upper (right-half s)) in
+    let halves = all-append Small (a ++ mids a) (b ++ mids b) (half-all t lower (middle lower upper) (left-half s) (c .0))
+    (half-all t (middle lower upper) upper (right-half s) (c .1)) in
     all-cuts Small (t .reference ∷ lower ∷ upper ∷ ((a ++ mids a) ++ (b ++ mids b)))
-    (r, (weaken sixty-four tt (s .lo-within), (weaken sixty-four tt (s .hi-within), halves)))
+    (r, (weaken widest tt (s .lo-within), (weaken widest tt (s .hi-within), halves)))
 
-all-slices-small : (t : Folded) → Small (t .reference) → ((lower upper : Float) → t .range1 ≡ Between lower upper → Ends lower upper) → All Small (all-slices t)
+all-slices-small : (t : Folded) → Small (t .reference) → ((lower upper : Float) → t .range1 ≡ Between lower upper → Ends lower upper) → Charted (t .range1)
+    → All Small (all-slices t)
 unfolding all-slices
-all-slices-small t r e = go (t .range1) e
+all-slices-small t r e c = go (t .range1) e c
   where
-    go : (g : Range) → ((lower upper : Float) → g ≡ Between lower upper → Ends lower upper)
+    go : (g : Range) → ((lower upper : Float) → g ≡ Between lower upper → Ends lower upper) → Charted g
         → All Small (on-interval g [] (λ lower upper. slices (t .reference) lower upper (first-half t lower upper) (second-half t lower upper)))
-    go Nothing e = tt
-    go (Between lower upper) e = slices-small t lower upper r (e lower upper refl)
+    go Nothing e c = tt
+    go (Between lower upper) e c = slices-small t lower upper r (e lower upper refl) c
 
-folded-small : (job : Job) → T (fits binary64 (job .j1 .reference)) → Moderate (job .j1) → All Small (all-slices (folded job))
+pub folded-small : (job : Job) → T (fits binary64 (job .j1 .reference)) → Moderate (job .j1) → All Small (all-slices (folded job))
 unfolding folded
 folded-small job fit m =
-    all-slices-small (folded job) (weaken sixty-four tt (reference-within (job .j1) fit m))
+    all-slices-small (folded job) (weaken widest tt (reference-within (job .j1) fit m))
     (λ lower upper e. limits-ends (job .limited) (job .j1) lower upper fit (m .sign) (m .offset) e)
+    (limits-charted (job .limited) (job .j1) fit (m .sign) (m .offset))
 
--- THEOREM: Every angle of a job lies within ±64, if joint 1 of kind 3 has a fitting finite reference, a sign of 1 or -1 and an
+-- THEOREM: Every angle of a job lies within ±32, if joint 1 of kind 3 has a fitting finite reference, a sign of 1 or -1 and an
 -- offset within a turn. Kinds 1 and 2 ask nothing: where their reference is not finite they have no angle.
 pub angles-small : (job : Job) → T (fits binary64 (job .j1 .reference)) → (job .kind ≡ J1j2free → Moderate (job .j1)) → All Small (angles job)
 unfolding angles first-free second-free

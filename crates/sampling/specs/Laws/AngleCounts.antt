@@ -10,13 +10,12 @@ use lib.Ieee.Scale.{finite}
 use Rattle.float.specs.Number.{_⊕_, _⊗_, abs, zero-float, one-float}
 use Rattle.float.specs.Trig.{sin-cos}
 use Rattle.polynomial.specs.Angle.{two-pi}
-use Rattle.polynomial.specs.Curve.{squared-norm-roots, squared-norm-holds}
-use Rattle.polynomial.specs.declared.curve.Harmonic.{Harmonic}
+use Rattle.polynomial.specs.Curve.{squared-norm-roots}
 use Rattle.polynomial.specs.Laws.Enclosed.{cuts-short}
 use Rattle.polynomial.specs.Laws.Norm.{squared-norm-few}
 use Rattle.sampling.specs.Continuum.{crossings, listed, line, roots, ray-roots}
 use Rattle.sampling.specs.Rays.{poles, ray-at, ray-range, ray-marks, corner, corners, phase-roots, phases, sixth-roots}
-use Rattle.sampling.specs.Bends.{norm-roots, harmonic, narrow, bend-roots, bend-at, bend-range, bend-marks, all-roots}
+use Rattle.sampling.specs.Bends.{harmonic, narrow, bend-roots, bend-at, bend-range, bend-marks, all-roots}
 use Rattle.sampling.specs.Samples.{inside, copies, all-copies, windings, all-windings}
 use Rattle.sampling.specs.Samples.{interval-values, interval-cuts, samples, sample-count, three-samples}
 use Rattle.sampling.specs.SampleAngles as SampleAngles
@@ -108,18 +107,14 @@ unfolding sixth-roots
 sixth-roots-few w m4 Fixed = omega arith
 sixth-roots-few w m4 (Moves m6) = both (ray-marks (w .q6) m6) (phases w m4 m6) (ray-marks-few (w .q6) m6) (phases-few w m4 m6)
 
-pub norm-roots-few : (x y : Harmonic) (norm : Float) → length (norm-roots x y norm) ≤ 58
-unfolding norm-roots
-norm-roots-few x y norm = either (squared-norm-holds x y norm) (squared-norm-roots x y norm) [] (squared-norm-few x y norm) (omega arith)
-
 bend-roots-few : (cos5 : Trig) (q4 : Ray) (angle : Float) → length (bend-roots cos5 q4 angle) ≤ 60
 unfolding bend-roots
 bend-roots-few cos5 q4 angle =
     let sine = abs (sin-cos angle .sine) in
-    let found = norm-roots (harmonic (q4 .x)) (harmonic (q4 .y)) sine in
+    let found = squared-norm-roots (harmonic (q4 .x)) (harmonic (q4 .y)) sine in
     both (roots cos5 (sin-cos angle .cosine)) (cond (narrow sine) found [])
     (roots-few cos5 (sin-cos angle .cosine))
-    (either (narrow sine) found [] (norm-roots-few (harmonic (q4 .x)) (harmonic (q4 .y)) sine) (omega arith))
+    (either (narrow sine) found [] (squared-norm-few (harmonic (q4 .x)) (harmonic (q4 .y)) sine) (omega arith))
 
 bend-at-few : (cos5 : Trig) (q4 : Ray) (angle : Float) → length (bend-at cos5 q4 angle) ≤ 60
 unfolding bend-at

@@ -3,7 +3,6 @@
 use Prim.Native.Nat.{ℕ, zero, suc, _+_, _≤_, _<_}
 use native.Mathlib.Omega.{arith}
 use mathlib.Core.Path.{_≡_, refl, sym, ap, _∙_}
-use mathlib.Core.Bool.{Bool, true, _&&_, and-assoc}
 use mathlib.Core.List.{List, [], _∷_, _++_, map, flatMap, append-assoc, map-append}
 use lib.ListN.{length, take, length-append, List·getD-append}
 use lib.Seq.{take-suc, take-length, take-append-seam, getD-append-seam}
@@ -13,8 +12,8 @@ use Rattle.polynomial.specs.Promises.Lists.{All}
 use Rattle.polynomial.specs.declared.compensated.Compensated.{Compensated}
 use Rattle.polynomial.specs.declared.curve.Curve.{Curve}
 use Rattle.sampling.specs.Pairs.{earlier, order}
-use Rattle.sampling.specs.CriticalSlices.{Polynomials, polynomials, all-polynomials, tangency, intersection, chart-roots, chart-holds}
-use Rattle.sampling.specs.CriticalSlices.{charts-hold, nowhere, at, asked, calls, critical, critical-holds}
+use Rattle.sampling.specs.CriticalSlices.{Polynomials, polynomials, all-polynomials, tangency, intersection, chart-roots}
+use Rattle.sampling.specs.CriticalSlices.{nowhere, at, asked, calls, critical}
 use Rattle.sampling.specs.Promises.Numerators.{meetings}
 use Rattle.sampling.specs.Laws.Pairs.{Placed, order-placed, added, order-added}
 use Rattle.sampling.specs.declared.critical_slices.Chart.{Chart}
@@ -91,22 +90,12 @@ module _ (c : Chart) where
       ap (λ (z : List Float). chart-roots c p ++ z) (roots-append ps qs)
       ∙ sym (append-assoc (chart-roots c p) (flatMap (chart-roots c) ps) (flatMap (chart-roots c) qs))
 
-  pub hold-append : (ps qs : List (List Compensated)) → charts-hold c (ps ++ qs) ≡ (charts-hold c ps && charts-hold c qs)
-  unfolding charts-hold
-  hold-append [] qs = refl
-  hold-append (p ∷ ps) qs =
-      ap (λ (z : Bool). chart-holds c p && z) (hold-append ps qs) ∙ sym (and-assoc (chart-holds c p) (charts-hold c ps) (charts-hold c qs))
-
   abbrev of : List Curve → List Polynomials
   of l = all-polynomials (c .origin) l
 
   pub critical-nil : critical c [] ≡ []
   unfolding critical calls order flatMap
   critical-nil = refl
-
-  pub critical-holds-nil : critical-holds c [] ≡ true
-  unfolding critical-holds calls order charts-hold
-  critical-holds-nil = refl
 
   -- so all angles that were found are found first
   pub critical-front : (l more : List Curve) → take (length (critical c l)) (critical c (l ++ more)) ≡ critical c l
@@ -128,7 +117,3 @@ module _ (c : Chart) where
     pub critical-more : critical c (l ++ (q ∷ [])) ≡ critical c l ++ (chart-roots c (tangency k) ++ flatMap (chart-roots c) (meetings (of l) k))
     unfolding critical flatMap
     critical-more = ap (flatMap (chart-roots c)) calls-curve ∙ roots-append (calls (of l)) (tangency k ∷ meetings (of l) k)
-
-    pub critical-holds-more : critical-holds c (l ++ (q ∷ [])) ≡ (critical-holds c l && (chart-holds c (tangency k) && charts-hold c (meetings (of l) k)))
-    unfolding critical-holds charts-hold
-    critical-holds-more = ap (charts-hold c) calls-curve ∙ hold-append (calls (of l)) (tangency k ∷ meetings (of l) k)

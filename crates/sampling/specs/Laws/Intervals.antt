@@ -46,7 +46,7 @@ maximum-fits : (x : Float) → T (fits binary64 x) → T (fits binary64 (maximum
 unfolding maximum neg fits
 maximum-fits x t = cond-fits binary64 (isNan x) (neg P) (cond (lt x (neg P)) (neg P) x) tt (cond-fits binary64 (lt x (neg P)) (neg P) x tt t)
 
-minimum-fits : (x : Float) → T (fits binary64 x) → T (fits binary64 (minimum x P))
+pub minimum-fits : (x : Float) → T (fits binary64 x) → T (fits binary64 (minimum x P))
 unfolding minimum fits
 minimum-fits x t = cond-fits binary64 (isNan x) P (cond (lt P x) P x) tt (cond-fits binary64 (lt P x) P x tt t)
 

@@ -9,7 +9,6 @@ use Rattle.float.specs.Number.{_⊕_, _⊗_, zero-float, one-float, two-float}
 use Rattle.float.specs.Trig.{atan}
 use Rattle.polynomial.specs.Angle.{two-pi}
 use Rattle.polynomial.specs.Cuts.{cuts}
-use Rattle.polynomial.specs.Curve.{inner-holds}
 use Rattle.polynomial.specs.Roots.{roots}
 use Rattle.polynomial.specs.Promises.Lists.{Fit}
 use Rattle.polynomial.specs.Laws.Cuts.{fit-append, cuts-left}
@@ -35,9 +34,7 @@ angles-fit origin (u ∷ l) = (add-fits binary64 origin (two-float ⊗ atan u), 
 
 chart-roots-fit : (c : Chart) (p : List Compensated) → Fit (chart-roots c p)
 unfolding chart-roots
-chart-roots-fit c p =
-    let l = angles (c .origin) (roots p (c .lower) (c .upper)) in
-    picked (inner-holds p (c .lower) (c .upper)) l (angles-fit (c .origin) (roots p (c .lower) (c .upper)))
+chart-roots-fit c p = angles-fit (c .origin) (roots p (c .lower) (c .upper))
 
 calls-fit : (c : Chart) (ps : List (List Compensated)) → Fit (flatMap (chart-roots c) ps)
 unfolding flatMap

@@ -1,7 +1,7 @@
 -- Definitions that are one sentence with `||` and `&&`, test by test: what is said first is asked first. For proofs that go by cases.
-use mathlib.Core.Path.{_≡_, refl, _∙_}
+use mathlib.Core.Path.{_≡_, refl}
 use mathlib.Core.Bool.{Bool, true, false, not, _&&_, _||_, cond}
-use mathlib.Core.List.{List, [], _∷_, _++_}
+use mathlib.Core.List.{[], _∷_, _++_}
 use lib.Ieee.{Float, nan, inf, neg, eq, lt, le, isNan, binary64, round}
 use lib.Ieee.Scale.{finite}
 use Rattle.float.specs.Number.{_⊕_, _⊖_, _⊗_, _⊘_, abs, clamp, minimum, maximum, zero-float, one-float, two-float}
@@ -13,21 +13,16 @@ use Rattle.sampling.specs.Limits.{centered, limits-of}
 use Rattle.sampling.specs.Pose.{quaternion-length, all-finite, over, try-normalize}
 use Rattle.sampling.specs.Continuum.{root-roundoff, error, crossings}
 use Rattle.sampling.specs.Marks.{ends}
-use Rattle.sampling.specs.Bends.{narrow, bend-at-holds, bend-range-holds, bend-marks-hold}
+use Rattle.sampling.specs.Bends.{narrow}
 use Rattle.sampling.specs.Samples.{inside}
 use Rattle.sampling.specs.Boundaries.{wrist-limits}
 use Rattle.sampling.specs.BendSlices.{transverse}
 use Rattle.sampling.specs.declared.constraints.Center.{Center}
-use Rattle.sampling.specs.declared.intervals.Range.{Range}
 use Rattle.sampling.specs.declared.intervals.Range.the-variants.{Nothing, Between}
 use Rattle.sampling.specs.declared.pose.Quaternion.{Quaternion}
-use Rattle.sampling.specs.declared.pose.Normalized.{Normalized}
 use Rattle.sampling.specs.declared.pose.Normalized.the-variants.{Unit, NotFinite, Zero}
 use Rattle.sampling.specs.declared.continuum.Trig.{Trig}
-use Rattle.sampling.specs.declared.continuum.Crossings.{Crossings}
 use Rattle.sampling.specs.declared.continuum.Crossings.the-variants.{Neither, Both}
-use Rattle.sampling.specs.declared.wrist.Ray.{Ray}
-use Rattle.sampling.specs.declared.marks.Marks.{Marks}
 use Rattle.sampling.specs.declared.job.Joint.{Joint}
 
 module _ {A : Type 0} (x y : A) where
@@ -168,15 +163,3 @@ pub wrist-limits-nested : (limited : Bool) (j : Joint)
     Nothing
 unfolding wrist-limits
 wrist-limits-nested limited j = unless _ _ limited (le P (centered limited j .tolerance))
-
-marked : (a l b : Bool) → (a && cond l b true) ≡ cond l (a && b) a
-marked true true b = refl
-marked true false b = refl
-marked false true b = refl
-marked false false b = refl
-
-pub bend-marks-hold-nested : (q4 : Ray) (m : Marks)
-    → bend-marks-hold q4 m ≡ cond (m .limited) (bend-at-holds q4 (m .reference) && (bend-at-holds q4 (m .center) && bend-range-holds q4 (m .range)))
-    (bend-at-holds q4 (m .reference))
-unfolding bend-marks-hold
-bend-marks-hold-nested q4 m = marked (bend-at-holds q4 (m .reference)) (m .limited) (bend-at-holds q4 (m .center) && bend-range-holds q4 (m .range))

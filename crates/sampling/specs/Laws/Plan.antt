@@ -1,7 +1,7 @@
 -- Laws of a job's plan, for upper crates: where it is laid, the angles that are read off work are the job's, and
 -- they depend on its front alone; how many samples three lists give; a step is the next of them.
 use mathlib.Core.Path.{_≡_, refl, sym, ap, ap₂, subst, _∙_}
-use mathlib.Core.Bool.{Bool, true, false, not, cond, false≢true}
+use mathlib.Core.Bool.{Bool, true, false, not, cond}
 use mathlib.Core.List.{List, [], _∷_, _++_, append-assoc}
 use Prim.Native.Nat.{ℕ, zero, suc, _+_, _≤_, _<_}
 use native.Mathlib.Nat.{add-zero, zero-add, suc-add}
@@ -19,10 +19,12 @@ use Rattle.sampling.specs.Samples.{all-between, samples, sample-count, t
 use Rattle.sampling.specs.Slices.{slices}
 use Rattle.sampling.specs.SampleAngles as SampleAngles
 use Rattle.sampling.specs.J1j2free as J1j2free
-use Rattle.sampling.specs.Angles.{first-free, second-free, by-kind, angles, cut-count, hold}
+use Rattle.sampling.specs.Angles.{first-free, second-free, by-kind, angles, cut-count}
+use Rattle.sampling.specs.Promises.Charts.{Charted}
 use Rattle.sampling.specs.Promises.Stream.{distinct, start, next, Woven, Steps}
 use Rattle.sampling.specs.Promises.Plan.{Moderate, lists-of, halves-of, free-plan, folded-plan, laid, free-cuts, folded-cuts, all-cuts, granted, plan}
 use Rattle.sampling.specs.Promises.Plan.{by-plan, filled, zeros, where-laid, work-after, all-samples, to-come, Ready, sample-step, step, Gives}
+use Rattle.sampling.specs.Laws.Charts.{moderate-drawable}
 use Rattle.sampling.specs.Laws.Samples.{samples-length}
 use Rattle.sampling.specs.Laws.J1j2free.{half-fit, half-cuts-are}
 use Rattle.sampling.specs.Laws.Limits.{Ends, limits-ends}
@@ -95,32 +97,31 @@ three-parts a b c rest =
 -- ---- a plan that is laid can be read, and has the angles
 
 -- of the plan l of so many cuts, in work w
-record Drawn (holds : Bool) (count : ℕ) (l : Plan) (cuts s w : List Float) : Type 0 where
-  ready : Ready (granted holds count l (length w)) (where-laid (granted holds count l (length w)) (cuts ++ drop count w) (zeros (length w)))
-  yields : holds ≡ true → count ≤ length w
-      → to-come (granted holds count l (length w)) (where-laid (granted holds count l (length w)) (cuts ++ drop count w) (zeros (length w))) start ≡ s
+record Drawn (count : ℕ) (l : Plan) (cuts s w : List Float) : Type 0 where
+  ready : Ready (granted count l (length w)) (where-laid (granted count l (length w)) (cuts ++ drop count w) (zeros (length w)))
+  yields : count ≤ length w
+      → to-come (granted count l (length w)) (where-laid (granted count l (length w)) (cuts ++ drop count w) (zeros (length w))) start ≡ s
 
 module _ (count : ℕ) (l : Plan) (cuts s w : List Float) (ready : Ready l (cuts ++ drop count w)) (yields : to-come l (cuts ++ drop count w) start ≡ s)
     (same : (x y : List Float) → where-laid l x y ≡ x) where
-  drawn : (holds : Bool) → Drawn holds count l cuts s w
-  drawn false = record { ready = tt; yields = λ e h. absurd (false≢true e) }
-  drawn true =
+  drawn : Drawn count l cuts s w
+  drawn =
       record {
         ready = go (leb count (length w));
-        yields = λ e h. rw (le-leb count (length w) h, same (cuts ++ drop count w) (zeros (length w))) yields;
+        yields = λ h. rw (le-leb count (length w) h, same (cuts ++ drop count w) (zeros (length w))) yields;
       }
     where
       go : (t : Bool) → Ready (cond t l of.Short) (where-laid (cond t l of.Short) (cuts ++ drop count w) (zeros (length w)))
       go false = tt
       go true = rw (same (cuts ++ drop count w) (zeros (length w))) ready
 
-three-drawn : (holds : Bool) (a b c w : List Float) → Drawn holds (length a + length b + length c) (lists-of a b c) ((a ++ b) ++ c) (three-samples a b c) w
-three-drawn holds a b c w =
+three-drawn : (a b c w : List Float) → Drawn (length a + length b + length c) (lists-of a b c) ((a ++ b) ++ c) (three-samples a b c) w
+three-drawn a b c w =
     let count = length a + length b + length c in
     let cuts = (a ++ b) ++ c in
     drawn count (lists-of a b c) cuts (three-samples a b c) w
     (omega (arith, length-append cuts (drop count w), length-append (a ++ b) c, length-append a b))
-    (three-parts a b c (drop count w)) (λ x y. refl) holds
+    (three-parts a b c (drop count w)) (λ x y. refl)
 
 -- ---- two free joints
 
@@ -134,14 +135,15 @@ record Streams (t : Folded) (lower upper : Float) : Type 0 where
       ≡ slices (t .reference) lower upper (J1j2free.first-half t lower upper) (J1j2free.second-half t lower upper)
 
 -- the limits were pushed into the halves
-streams : (t : Folded) (lower upper : Float) → Ends lower upper → T (fits binary64 (t .reference)) → T (not (isNan (t .reference))) → Streams t lower upper
+streams : (t : Folded) (lower upper : Float) → Ends lower upper → Charted (Between lower upper) → T (fits binary64 (t .reference))
+    → T (not (isNan (t .reference))) → Streams t lower upper
 unfolding middle J1j2free.first-half J1j2free.second-half
-streams t lower upper e fit real =
+streams t lower upper e c fit real =
     let m = middle lower upper in
     let fm : T (fits binary64 m) = add-fits binary64 lower ((upper ⊖ lower) ⊘ two-float) in
     let p = half-cuts-are t lower m (e .lower-fits) fm in
     let q = half-cuts-are t m upper fm (e .upper-fits) in
-    let woven = halves-woven t e in
+    let woven = halves-woven t e c in
     record {
       first = woven .0;
       second = woven .1;
@@ -155,12 +157,12 @@ streams t lower upper e fit real =
           (half-fit t m upper fm (e .upper-fits)));
     }
 
-two-drawn : (holds : Bool) (t : Folded) (lower upper : Float) (w : List Float) → Streams t lower upper
-    → Drawn holds (length (J1j2free.first-half t lower upper) + length (J1j2free.second-half t lower upper))
+two-drawn : (t : Folded) (lower upper : Float) (w : List Float) → Streams t lower upper
+    → Drawn (length (J1j2free.first-half t lower upper) + length (J1j2free.second-half t lower upper))
     (halves-of (t .reference) (J1j2free.first-half t lower upper) (J1j2free.second-half t lower upper))
     (J1j2free.first-half t lower upper ++ J1j2free.second-half t lower upper)
     (slices (t .reference) lower upper (J1j2free.first-half t lower upper) (J1j2free.second-half t lower upper)) w
-two-drawn holds t lower upper w h =
+two-drawn t lower upper w h =
     let a = J1j2free.first-half t lower upper in
     let b = J1j2free.second-half t lower upper in
     let count = length a + length b in
@@ -173,41 +175,39 @@ two-drawn holds t lower upper w h =
       number = h .number;
       fit = h .fit;
     })
-    (ap₂ (λ (x y : List Float). distinct x y (t .reference) start) (parts .0) (parts .1) ∙ h .same) (λ x y. refl) holds
+    (ap₂ (λ (x y : List Float). distinct x y (t .reference) start) (parts .0) (parts .1) ∙ h .same) (λ x y. refl)
 
 -- ---- by the kind
 
 module _ (w : List Float) where
-  free-drawn : (f : Free) → Drawn (SampleAngles.hold f) (SampleAngles.cut-count f) (free-plan f) (free-cuts f) (SampleAngles.sample-angles f) w
+  free-drawn : (f : Free) → Drawn (SampleAngles.cut-count f) (free-plan f) (free-cuts f) (SampleAngles.sample-angles f) w
   unfolding SampleAngles.cut-count free-plan free-cuts SampleAngles.sample-angles
-  free-drawn f = three-drawn (SampleAngles.hold f) (SampleAngles.first-cuts f) (SampleAngles.second-cuts f) (SampleAngles.third-cuts f) w
+  free-drawn f = three-drawn (SampleAngles.first-cuts f) (SampleAngles.second-cuts f) (SampleAngles.third-cuts f) w
 
   folded-drawn : (t : Folded) → ((lower upper : Float) → t .range1 ≡ Between lower upper → Streams t lower upper)
-      → Drawn (J1j2free.hold t) (J1j2free.cut-count t) (folded-plan t) (folded-cuts t) (J1j2free.all-slices t) w
-  unfolding J1j2free.hold J1j2free.cut-count folded-plan folded-cuts J1j2free.all-slices three-samples samples all-between
+      → Drawn (J1j2free.cut-count t) (folded-plan t) (folded-cuts t) (J1j2free.all-slices t) w
+  unfolding J1j2free.cut-count folded-plan folded-cuts J1j2free.all-slices three-samples samples all-between
   folded-drawn t h = go (t .range1) h
     where
       go : (g : Range) → ((lower upper : Float) → g ≡ Between lower upper → Streams t lower upper)
-          → Drawn (J1j2free.on-interval g true (J1j2free.halves-hold t))
-          (J1j2free.on-interval g 0 (λ lower upper. length (J1j2free.first-half t lower upper) + length (J1j2free.second-half t lower upper)))
+          → Drawn (J1j2free.on-interval g 0 (λ lower upper. length (J1j2free.first-half t lower upper) + length (J1j2free.second-half t lower upper)))
           (J1j2free.on-interval g (lists-of [] [] []) (λ lower upper. halves-of (t .reference) (J1j2free.first-half t lower upper)
           (J1j2free.second-half t lower upper)))
           (J1j2free.on-interval g [] (λ lower upper. J1j2free.first-half t lower upper ++ J1j2free.second-half t lower upper))
           (J1j2free.on-interval g [] (λ lower upper. slices (t .reference) lower upper (J1j2free.first-half t lower upper)
           (J1j2free.second-half t lower upper))) w
-      go Nothing h = three-drawn true [] [] [] w
-      go (Between lower upper) h = two-drawn (J1j2free.halves-hold t lower upper) t lower upper w (h lower upper refl)
+      go Nothing h = three-drawn [] [] [] w
+      go (Between lower upper) h = two-drawn t lower upper w (h lower upper refl)
 
   module _ (job : Job) (fit : T (fits binary64 (job .j1 .reference))) (m : job .kind ≡ J1j2free → Moderate (job .j1)) where
     job-streams : job .kind ≡ J1j2free → (lower upper : Float) → J1j2free.folded job .range1 ≡ Between lower upper → Streams (J1j2free.folded job) lower upper
     unfolding J1j2free.folded
     job-streams k lower upper e =
         streams (J1j2free.folded job) lower upper (limits-ends (job .limited) (job .j1) lower upper fit (m k .sign) (m k .offset) e)
-        (reference-fits (job .j1)) (reference-number (job .j1) fit (m k))
+        (subst Charted e (moderate-drawable job fit m k)) (reference-fits (job .j1)) (reference-number (job .j1) fit (m k))
 
     by-drawn : (k : Kind) → job .kind ≡ k
-        → Drawn (by-kind k (SampleAngles.hold (first-free job)) (SampleAngles.hold (second-free job)) (J1j2free.hold (J1j2free.folded job)))
-        (by-kind k (SampleAngles.cut-count (first-free job)) (SampleAngles.cut-count (second-free job)) (J1j2free.cut-count (J1j2free.folded job)))
+        → Drawn (by-kind k (SampleAngles.cut-count (first-free job)) (SampleAngles.cut-count (second-free job)) (J1j2free.cut-count (J1j2free.folded job)))
         (by-kind k (free-plan (first-free job)) (free-plan (second-free job)) (folded-plan (J1j2free.folded job)))
         (by-kind k (free-cuts (first-free job)) (free-cuts (second-free job)) (folded-cuts (J1j2free.folded job)))
         (by-kind k (SampleAngles.sample-angles (first-free job)) (SampleAngles.sample-angles (second-free job)) (J1j2free.all-slices (J1j2free.folded job))) w
@@ -215,8 +215,8 @@ module _ (w : List Float) where
     by-drawn J2free e = free-drawn (second-free job)
     by-drawn J1j2free e = folded-drawn (J1j2free.folded job) (job-streams e)
 
-    job-drawn : Drawn (hold job) (cut-count job) (laid job) (all-cuts job) (angles job) w
-    unfolding hold cut-count laid all-cuts angles
+    job-drawn : Drawn (cut-count job) (laid job) (all-cuts job) (angles job) w
+    unfolding cut-count laid all-cuts angles
     job-drawn = by-drawn (job .kind) refl
 
     -- THEOREM: Whatever came of the cuts, `next` can be asked.
@@ -224,40 +224,38 @@ module _ (w : List Float) where
     unfolding plan work-after
     plan-ready = job-drawn .ready
 
-    -- THEOREM: Where no inner call is refused and there are places, the angles read off work are the job's.
-    pub plan-yields : hold job ≡ true → cut-count job ≤ length w → to-come (plan job (length w)) (work-after job w) start ≡ angles job
+    -- THEOREM: Where there are places, the angles read off work are the job's.
+    pub plan-yields : cut-count job ≤ length w → to-come (plan job (length w)) (work-after job w) start ≡ angles job
     unfolding plan work-after
     plan-yields = job-drawn .yields
 
 -- ---- what came of the cuts
 
-module _ {A : Type 0} (refused short found : A) where
-  laid-by : (job : Job) → by-plan (laid job) refused short found ≡ found
+module _ {A : Type 0} (short found : A) where
+  laid-by : (job : Job) → by-plan (laid job) short found ≡ found
   unfolding laid free-plan folded-plan
   laid-by job = go (job .kind)
     where
       both : (t : Folded) (g : Range)
           → by-plan (J1j2free.on-interval g (lists-of [] [] [])
           (λ lower upper. halves-of (t .reference) (J1j2free.first-half t lower upper) (J1j2free.second-half t lower upper)))
-          refused short found ≡ found
+          short found ≡ found
       both t Nothing = refl
       both t (Between lower upper) = refl
 
       go : (k : Kind)
-          → by-plan (by-kind k (free-plan (first-free job)) (free-plan (second-free job)) (folded-plan (J1j2free.folded job))) refused short found ≡ found
+          → by-plan (by-kind k (free-plan (first-free job)) (free-plan (second-free job)) (folded-plan (J1j2free.folded job))) short found ≡ found
       go J1free = refl
       go J2free = refl
       go J1j2free = both (J1j2free.folded job) (J1j2free.folded job .range1)
 
-  pub plan-by : (job : Job) (places : ℕ)
-      → by-plan (plan job places) refused short found ≡ cond (hold job) (cond (leb (cut-count job) places) found short) refused
+  pub plan-by : (job : Job) (places : ℕ) → by-plan (plan job places) short found ≡ cond (leb (cut-count job) places) found short
   unfolding plan
-  plan-by job places = go (hold job) (leb (cut-count job) places)
+  plan-by job places = go (leb (cut-count job) places)
     where
-      go : (h t : Bool) → by-plan (cond h (cond t (laid job) of.Short) of.Refused) refused short found ≡ cond h (cond t found short) refused
-      go false t = refl
-      go true false = refl
-      go true true = laid-by job
+      go : (t : Bool) → by-plan (cond t (laid job) of.Short) short found ≡ cond t found short
+      go false = refl
+      go true = laid-by job
 
 -- ---- how many places the cuts take
 
@@ -286,9 +284,9 @@ laid-filled job = go (job .kind)
     go J2free = free-filled (second-free job)
     go J1j2free = folded-filled (J1j2free.folded job)
 
-pub plan-filled : (job : Job) (places : ℕ) → hold job ≡ true → cut-count job ≤ places → filled (plan job places) ≡ cut-count job
+pub plan-filled : (job : Job) (places : ℕ) → cut-count job ≤ places → filled (plan job places) ≡ cut-count job
 unfolding plan
-plan-filled job places h room = rw (h, le-leb (cut-count job) places room) (laid-filled job)
+plan-filled job places room = rw (le-leb (cut-count job) places room) (laid-filled job)
 
 -- ---- the front alone counts
 
@@ -304,7 +302,6 @@ part-front n m k w h =
     sym (drop-take n m (take k w)) ∙ ap (drop n) (take-take (n + m) k w h) ∙ drop-take n m w
 
 pub to-come-front : (p : Plan) (w : List Float) (c : Cursor) → to-come p w c ≡ to-come p (take (filled p) w) c
-to-come-front of.Refused w c = refl
 to-come-front of.Short w c = refl
 to-come-front (of.Lists n) w c =
     let k = n .first + n .second + n .third in
@@ -332,7 +329,6 @@ sample-gives n w c = go (ltb (c .i) (length (all-samples n w))) refl
 
 -- THEOREM: A step gives the first of what is to come, and leaves the rest.
 pub step-gives : (p : Plan) (w : List Float) (c : Cursor) → Ready p w → Gives (to-come p w c) (to-come p w) (step p w c)
-step-gives of.Refused w c g = refl
 step-gives of.Short w c g = refl
 step-gives (of.Lists n) w c g = sample-gives n w c
 step-gives (of.Halves h) w c g =

@@ -1,5 +1,4 @@
--- Two jobs that have all that is read in common have the same angles, the same number of cuts,
--- and the same refusals of inner calls, whatever the unread fields hold.
+-- Two jobs that have all that is read in common have the same angles and the same number of cuts, whatever the unread fields hold.
 use Prim.Native.Nat.{ℕ}
 use mathlib.Core.Path.{_≡_, refl, sym, ap, subst, _∙_}
 use mathlib.Core.Bool.{Bool, true, false, not, _&&_}
@@ -10,7 +9,7 @@ use Rattle.sampling.specs.Limits.{centered, limits}
 use Rattle.sampling.specs.Marks.{model-angle, marks}
 use Rattle.sampling.specs.Boundaries.{wrist-limits}
 use Rattle.sampling.specs.Reads.{joint-read, reference-read, arm-read, SameJoint, SameRead}
-use Rattle.sampling.specs.Angles.{first-free, second-free, by-kind, angles, cut-count, hold}
+use Rattle.sampling.specs.Angles.{first-free, second-free, by-kind, angles, cut-count}
 use Rattle.sampling.specs.J1free as J1free
 use Rattle.sampling.specs.J2free as J2free
 use Rattle.sampling.specs.SampleAngles as SampleAngles
@@ -176,7 +175,7 @@ module _ (a b : Job) (g : SameRead a b) where
         ≡ by-kind (b .kind) (one (first-free b)) (one (second-free b)) (two (J1j2free.folded b))
     by-same = kinds-same (a .kind) refl ∙ ap (λ (k : Kind). by-kind k (one (first-free b)) (one (second-free b)) (two (J1j2free.folded b))) (g .kind)
 
-  -- THEOREM: What is not read changes no angle, no number of cuts and no refusal.
+  -- THEOREM: What is not read changes no angle and no number of cuts.
   pub angles-same : angles a ≡ angles b
   unfolding angles
   angles-same = by-same SampleAngles.sample-angles J1j2free.all-slices
@@ -184,7 +183,3 @@ module _ (a b : Job) (g : SameRead a b) where
   pub cuts-same : cut-count a ≡ cut-count b
   unfolding cut-count
   cuts-same = by-same SampleAngles.cut-count J1j2free.cut-count
-
-  pub hold-same : hold a ≡ hold b
-  unfolding hold
-  hold-same = by-same SampleAngles.hold J1j2free.hold

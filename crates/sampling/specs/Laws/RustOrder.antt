@@ -1,9 +1,8 @@
 -- The order of pairs by the later curve (02, change 3) and the Rust's are permutations of each other. Cuts are sorted, so the cuts, their
--- number, whether an inner call is refused, and the angles of every job are those of before.
+-- number and the angles of every job are those of before.
 use Prim.Native.Nat.{ℕ, zero, suc, _+_, _≤_}
 use native.Mathlib.Omega.{arith}
 use mathlib.Core.Path.{_≡_, refl, sym, ap, subst, _∙_}
-use mathlib.Core.Bool.{Bool, true, false, _&&_}
 use mathlib.Core.List.{List, [], _∷_, _++_, map, flatMap, append-assoc, map-append, map-map, List·Permᴰ, List·Permᴰ·nil, List·Permᴰ·cons}
 use mathlib.Core.List.{List·Permᴰ·swap, List·Permᴰ·trans, Permᴰ·refl, Permᴰ·symm, Permᴰ·append-left, Permᴰ·append-right, Permᴰ·map}
 use mathlib.Core.List.{List·Permᴰ·append-comm}
@@ -13,12 +12,11 @@ use lib.Ieee.{Float}
 use Rattle.float.specs.Number.{middle}
 use Rattle.polynomial.specs.Cuts.{cuts}
 use Rattle.polynomial.specs.Laws.Cuts.{cuts-perm, cuts-cons}
-use Rattle.polynomial.specs.declared.compensated.Compensated.{Compensated}
 use Rattle.polynomial.specs.declared.curve.Curve.{Curve}
 use Rattle.sampling.specs.CriticalSlices.{Polynomials, polynomials, all-polynomials, tangency, intersection, nowhere, at, asked, chart}
-use Rattle.sampling.specs.CriticalSlices.{chart-roots, chart-holds, charts-hold, calls, critical, critical-holds}
-use Rattle.sampling.specs.J1j2free.{folded, curves, critical-slices, half-cuts, first-half, second-half, on-interval, halves-hold, all-slices}
-use Rattle.sampling.specs.Angles.{angles, cut-count, hold}
+use Rattle.sampling.specs.CriticalSlices.{chart-roots, calls, critical}
+use Rattle.sampling.specs.J1j2free.{folded, curves, critical-slices, half-cuts, first-half, second-half, on-interval, all-slices}
+use Rattle.sampling.specs.Angles.{angles, cut-count}
 use Rattle.sampling.specs.Laws.J1j2free.{critical-fit}
 use Rattle.sampling.specs.Laws.CriticalSlices.{asked-own, asked-pair}
 use Rattle.sampling.specs.declared.critical_slices.Chart.{Chart}
@@ -55,11 +53,6 @@ flat-perm f (List·Permᴰ·swap {a} {b} {l = l} e₁ e₂) =
     List·Permᴰ·trans (same-perm x)
     (List·Permᴰ·trans (Permᴰ·append-right (flatMap f l) (List·Permᴰ·append-comm (f a) (f b))) (same-perm (y ∙ (λ i. f (e₂ i) ++ (f (e₁ i) ++ flatMap f l)))))
 flat-perm f (List·Permᴰ·trans d₁ d₂) = List·Permᴰ·trans (flat-perm f d₁) (flat-perm f d₂)
-
-and-swap : (a b c : Bool) → (a && (b && c)) ≡ (b && (a && c))
-and-swap true b c = refl
-and-swap false true c = refl
-and-swap false false c = refl
 
 -- ---- the two orders
 
@@ -158,22 +151,10 @@ module _ (origin : Float) where
 -- ---- what the calls give
 
 module _ (c : Chart) where
-  hold-perm : {a b : List (List Compensated)} → List·Permᴰ a b → charts-hold c a ≡ charts-hold c b
-  unfolding charts-hold
-  hold-perm List·Permᴰ·nil = refl
-  hold-perm (List·Permᴰ·cons e d) = λ i. chart-holds c (e i) && hold-perm d i
-  hold-perm (List·Permᴰ·swap {a} {b} {l = l} e₁ e₂) =
-      and-swap (chart-holds c a) (chart-holds c b) (charts-hold c l) ∙ (λ i. chart-holds c (e₂ i) && (chart-holds c (e₁ i) && charts-hold c l))
-  hold-perm (List·Permᴰ·trans d₁ d₂) = hold-perm d₁ ∙ hold-perm d₂
-
-  -- The curves give the same angles, each as often, and none of the calls is refused where none was.
+  -- The curves give the same angles, each as often.
   pub critical-perm : (l : List Curve) → List·Permᴰ (Rust.critical c l) (critical c l)
   unfolding Rust.critical critical
   critical-perm l = flat-perm (chart-roots c) (calls-perm (c .origin) l)
-
-  pub critical-holds-same : (l : List Curve) → Rust.critical-holds c l ≡ critical-holds c l
-  unfolding Rust.critical-holds critical-holds
-  critical-holds-same l = hold-perm (calls-perm (c .origin) l)
 
 pub critical-slices-same : (l : List Curve) (lower upper : Float) → Rust.critical-slices l lower upper ≡ critical-slices l lower upper
 unfolding Rust.critical-slices critical-slices
@@ -190,12 +171,6 @@ module _ (t : Folded) where
   pub half-cuts-same : (lower upper : Float) → Rust.half-cuts t lower upper ≡ half-cuts t lower upper
   unfolding Rust.half-cuts half-cuts
   half-cuts-same lower upper = rw (critical-slices-same (curves t) lower upper)
-
-  pub halves-hold-same : (lower upper : Float) → Rust.halves-hold t lower upper ≡ halves-hold t lower upper
-  unfolding Rust.halves-hold halves-hold
-  halves-hold-same lower upper =
-      let m = middle lower upper in
-      rw (critical-holds-same (chart lower m) (curves t), critical-holds-same (chart m upper) (curves t))
 
   first-same : (lower upper : Float) → Rust.first-half t lower upper ≡ first-half t lower upper
   unfolding Rust.first-half first-half
@@ -218,17 +193,13 @@ module _ (t : Folded) where
   unfolding Rust.slices-count J1j2free.cut-count
   slices-count-same = on-same 0 _ _ (λ lower upper. rw (first-same lower upper, second-same lower upper))
 
-  pub slices-hold-same : Rust.slices-hold t ≡ J1j2free.hold t
-  unfolding Rust.slices-hold J1j2free.hold
-  slices-hold-same = on-same true _ _ halves-hold-same
-
   pub all-slices-same : Rust.all-slices t ≡ all-slices t
   unfolding Rust.all-slices all-slices
   all-slices-same = on-same [] _ _ (λ lower upper. rw (first-same lower upper, second-same lower upper))
 
 -- ---- every job
 
--- The angles, the number of cuts and whether an inner call is refused are those of before.
+-- The angles and the number of cuts are those of before.
 module _ (job : Job) where
   pub angles-same : Rust.angles job ≡ angles job
   unfolding Rust.angles angles
@@ -237,7 +208,3 @@ module _ (job : Job) where
   pub cut-count-same : Rust.cut-count job ≡ cut-count job
   unfolding Rust.cut-count cut-count
   cut-count-same = rw (slices-count-same (folded job))
-
-  pub hold-same : Rust.hold job ≡ hold job
-  unfolding Rust.hold hold
-  hold-same = rw (slices-hold-same (folded job))

@@ -1,100 +1,62 @@
--- Where the ends of a half are in order and lie within ±8, as those of a joint's interval do, all its values lie within ±64, so that its cuts can be streamed.
-use mathlib.Core.Path.{_≡_, refl}
+-- Where the ends of a half are in order and lie within ±8, as those of a joint's interval do, and the root finder takes the bounds of its chart, all its
+-- values lie within ±32, so that its cuts can be streamed.
 use mathlib.Core.Bool.{Bool, true, false, _&&_, cond}
 use mathlib.Core.List.{List, [], _∷_, _++_, flatMap}
 use lib.IntN.{pos}
-use lib.Dec.{T, leb, lit<}
-use lib.ListN.{length}
-use lib.Ieee.{Float, fin, binary64, neg, le, fits}
+use lib.Dec.{T}
+use lib.Ieee.{Float, fin, binary64, neg, le}
 use lib.Ieee.Scale.{finite}
-use lib.Ieee.Fits.{div-fits, and-i}
-use Rattle.float.specs.Laws.Tests.{three}
-use Rattle.float.specs.Number.{_⊕_, _⊖_, _⊗_, _⊘_, middle, zero-float, one-float, two-float}
-use Rattle.float.specs.Trig.{sin, cos, tan}
+use lib.Ieee.Fits.{and-i}
+use Rattle.float.specs.Number.{_⊕_, _⊗_, middle, zero-float, one-float, two-float}
+use Rattle.float.specs.Trig.{widest}
 use Rattle.float.specs.Promises.Order.{Within, Span}
 use Rattle.float.specs.Laws.Within.{weaken, numeral, add-within, mul-within, within→Le, Le→within}
 use Rattle.float.specs.Laws.Interval.{in-of, Le-trans}
 use Rattle.float.specs.Laws.Middle.{middle-within, left-half, right-half}
 use Rattle.float.specs.Laws.Arctangent.{atan-within}
 use Rattle.polynomial.specs.Angle.{two-pi}
-use Rattle.polynomial.specs.Curve.{inner-holds, all-hold}
-use Rattle.polynomial.specs.Operation.{bounds-hold}
 use Rattle.polynomial.specs.Roots.{roots}
-use Rattle.polynomial.specs.Laws.Bounds.{bounds-span}
+use Rattle.polynomial.specs.Laws.Bisection as Bisection
 use Rattle.polynomial.specs.Laws.Enclosed.{all-in, between-number}
-use Rattle.polynomial.specs.Laws.Bisection.{Between}
 use Rattle.polynomial.specs.declared.compensated.Compensated.{Compensated}
 use Rattle.polynomial.specs.declared.curve.Curve.{Curve}
 use Rattle.polynomial.specs.Promises.Lists.{All}
 use Rattle.polynomial.specs.Laws.Lists.{all-append}
 use Rattle.sampling.specs.Samples.{inside, copies, all-copies}
 use Rattle.sampling.specs.CriticalSlices.{chart, angles, chart-roots, all-polynomials, calls, critical}
+use Rattle.sampling.specs.Promises.Charts.{Bounded, Charted}
 use Rattle.sampling.specs.Promises.Halves.{half-values}
 use Rattle.sampling.specs.J1j2free.{curves, bends, half-cuts, first-half, second-half}
 use Rattle.sampling.specs.Promises.Stream.{Woven}
 use Rattle.sampling.specs.Laws.J1j2free.{half-fit, half-cuts-are}
-use Rattle.sampling.specs.Laws.Limits.{Ends}
+use Rattle.sampling.specs.Laws.Limits.{Ends, ends-span}
 use Rattle.sampling.specs.Laws.Woven.{Small, cuts-woven}
 use Rattle.sampling.specs.declared.critical_slices.Chart.{Chart}
+use Rattle.sampling.specs.declared.intervals.Range.the-variants.{Between}
 use Rattle.sampling.specs.declared.j1j2free.Folded.{Folded}
 
 abbrev pub eight : Float
 eight = fin false 1 (pos 3)
 
-pub ends-span : {lower upper : Float} → Ends lower upper → Span 3 lower upper
-ends-span e = record {
-  room = lit< tt;
-  lo-fits = e .lower-fits;
-  hi-fits = e .upper-fits;
-  lo-within = weaken eight tt (e .lower-within);
-  hi-within = weaken eight tt (e .upper-within);
-  order = e .order;
-}
-
--- what lies within ±8 lies within ±64
+-- what lies within ±8 lies within ±32
 pub all-small : (l : List Float) → All (Within eight) l → All Small l
 all-small [] h = tt
-all-small (x ∷ l) h = (weaken (fin false 1 (pos 6)) tt (h .0), all-small l (h .1))
+all-small (x ∷ l) h = (weaken widest tt (h .0), all-small l (h .1))
 
 -- ---- what the curves give
 
--- a chart whose bounds fit and whose origin lies within ±8
-record Charted (c : Chart) : Type 0 where
-  origin-within : Within eight (c .origin)
-  lower-fits : T (fits binary64 (c .lower))
-  upper-fits : T (fits binary64 (c .upper))
-
-tan-fits : (x : Float) → T (fits binary64 (tan x))
-unfolding tan
-tan-fits x = div-fits binary64 (sin x) (cos x)
-
-charted : (lower upper : Float) → Span 3 lower upper → Charted (chart lower upper)
-unfolding chart
-charted lower upper s =
-    let origin = middle lower upper in
-    record { origin-within = middle-within s; lower-fits = tan-fits ((lower ⊖ origin) ⊘ two-float); upper-fits = tan-fits ((upper ⊖ origin) ⊘ two-float) }
-
-inner-bounds : (p : List Compensated) (lower upper : Float) → inner-holds p lower upper ≡ true → bounds-hold lower upper ≡ true
-unfolding inner-holds
-inner-bounds p lower upper e = three (bounds-hold lower upper) (all-hold p) (leb (length (roots p lower upper)) 509) e .0
-
-angles-small : (origin lower upper : Float) → Within eight origin → (l : List Float) → All (Between lower upper) l → All Small (angles origin l)
+angles-small : (origin lower upper : Float) → Within eight origin → (l : List Float) → All (Bisection.Between lower upper) l → All Small (angles origin l)
 unfolding angles
 angles-small origin lower upper o [] h = tt
 angles-small origin lower upper o (u ∷ l) h =
     let a = mul-within binary64 eight tt (numeral two-float two-float tt) (atan-within u (between-number (h .0))) in
-    (add-within binary64 (fin false 1 (pos 6)) tt o a, angles-small origin lower upper o l (h .1))
+    (add-within binary64 widest tt o a, angles-small origin lower upper o l (h .1))
 
-module _ (c : Chart) (g : Charted c) where
+-- a chart whose origin lies within ±8
+module _ (c : Chart) (o : Within eight (c .origin)) (b : Bounded c) where
   chart-roots-small : (p : List Compensated) → All Small (chart-roots c p)
   unfolding chart-roots
-  chart-roots-small p = go (inner-holds p (c .lower) (c .upper)) refl
-    where
-      go : (b : Bool) → inner-holds p (c .lower) (c .upper) ≡ b → All Small (cond b (angles (c .origin) (roots p (c .lower) (c .upper))) [])
-      go true e =
-          let s = bounds-span (c .lower) (c .upper) (g .lower-fits) (g .upper-fits) (inner-bounds p (c .lower) (c .upper) e) in
-          angles-small (c .origin) (c .lower) (c .upper) (g .origin-within) (roots p (c .lower) (c .upper)) (all-in (c .lower) (c .upper) s p)
-      go false e = tt
+  chart-roots-small p = angles-small (c .origin) (c .lower) (c .upper) o (roots p (c .lower) (c .upper)) (all-in (c .lower) (c .upper) b p)
 
   calls-small : (ps : List (List Compensated)) → All Small (flatMap (chart-roots c) ps)
   unfolding flatMap
@@ -138,22 +100,27 @@ module _ (lower upper : Float) (s : Span 3 lower upper) where
 
   -- ---- a half
 
-  module _ (t : Folded) where
+  origin-within : Within eight (chart lower upper .origin)
+  unfolding chart
+  origin-within = middle-within s
+
+  module _ (t : Folded) (b : Bounded (chart lower upper)) where
     pub half-small : All Small (half-values (curves t) (bends t) lower upper)
     half-small =
         let ends = lower ∷ [] ++ upper ∷ [] in
         let c = critical (chart lower upper) (curves t) in
         let small = all-small ends (s .lo-within, (s .hi-within, tt)) in
         all-append Small (ends ++ c) (all-copies lower upper (bends t))
-        (all-append Small ends c small (critical-small (chart lower upper) (charted lower upper s) (curves t))) (all-copies-small (bends t))
+        (all-append Small ends c small (critical-small (chart lower upper) origin-within b (curves t))) (all-copies-small (bends t))
 
     pub half-woven : Woven (half-cuts t lower upper)
     half-woven = rw (half-cuts-are t lower upper (s .lo-fits) (s .hi-fits))
         (cuts-woven (half-values (curves t) (bends t) lower upper) (half-fit t lower upper (s .lo-fits) (s .hi-fits)) half-small)
 
 -- The cuts of both halves of a joint's interval can be streamed.
-pub halves-woven : (t : Folded) {lower upper : Float} → Ends lower upper → Woven (first-half t lower upper) × Woven (second-half t lower upper)
+pub halves-woven : (t : Folded) {lower upper : Float} → Ends lower upper → Charted (Between lower upper)
+    → Woven (first-half t lower upper) × Woven (second-half t lower upper)
 unfolding first-half second-half
-halves-woven t {lower} {upper} e =
+halves-woven t {lower} {upper} e c =
     let s = ends-span e in
-    (half-woven lower (middle lower upper) (left-half s) t, half-woven (middle lower upper) upper (right-half s) t)
+    (half-woven lower (middle lower upper) (left-half s) t (c .0), half-woven (middle lower upper) upper (right-half s) t (c .1))

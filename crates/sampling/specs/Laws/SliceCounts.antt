@@ -2,23 +2,22 @@
 use Prim.Native.Nat.{ℕ, zero, suc, _+_, _*_, _≤_, zero-le}
 use native.Mathlib.Nat.{not-suc-le-zero, le-of-suc-le-suc}
 use native.Mathlib.Omega.{arith}
-use mathlib.Core.Path.{_≡_, refl, ap, _∙_}
-use mathlib.Core.Bool.{Bool, true, false, _&&_, cond}
-use mathlib.Core.List.{List, [], _∷_, _++_, flatMap}
-use lib.Dec.{leb}
+use mathlib.Core.Path.{_≡_, refl, ap}
+use mathlib.Core.Bool.{_&&_}
+use mathlib.Core.List.{List, [], _∷_, _++_, map, flatMap}
+use lib.Dec.{eqb}
 use lib.ListN.{length, length-append, length-map}
 use lib.Ieee.{Float, lt, le, neg}
-use borrow.Author.Tests.{leb-true}
-use Rattle.float.specs.Laws.Tests.{three}
 use Rattle.float.specs.Number.{_⊕_, _⊖_, _⊗_, _⊘_, abs, clamp, middle, zero-float, one-float}
 use Rattle.float.specs.Trig.{P, sin-cos, hypot, atan2, asin}
 use Rattle.float.specs.declared.trig.SinCos.{SinCos}
 use Rattle.polynomial.specs.Angle.{wrapped-angle}
 use Rattle.polynomial.specs.Cuts.{cuts}
-use Rattle.polynomial.specs.Curve.{inner-holds, all-hold}
-use Rattle.polynomial.specs.Operation.{bounds-hold}
+use Rattle.polynomial.specs.Curve.{numerator}
+use Rattle.polynomial.specs.Polynomial.{add, coefficients, multiply, determinant}
 use Rattle.polynomial.specs.Roots.{roots}
-use Rattle.polynomial.specs.Laws.Enclosed.{cuts-short}
+use Rattle.polynomial.specs.Laws.Enclosed.{cuts-short, all-most}
+use Rattle.polynomial.specs.Laws.Norm.{squared-norm-few}
 use Rattle.polynomial.specs.declared.compensated.Compensated.{Compensated}
 use Rattle.polynomial.specs.declared.curve.Curve.{Curve}
 use Rattle.sampling.specs.Continuum.{root-roundoff}
@@ -28,10 +27,11 @@ use Rattle.sampling.specs.Boundaries.{corner-curves, boundaries}
 use Rattle.sampling.specs.BendSlices.{transverse, transverse-range, transverses, axis-angles, axes-range, fold, folds, folds-range, bend-slice}
 use Rattle.sampling.specs.BendSlices.{bend-slices}
 use Rattle.sampling.specs.Pairs.{earlier, order}
-use Rattle.sampling.specs.CriticalSlices.{chart, angles, chart-roots, Polynomials, polynomials, all-polynomials, asked, calls, critical}
+use Rattle.sampling.specs.CriticalSlices.{chart, angles, chart-roots, Polynomials, polynomials, all-polynomials, nowhere, at, asked, calls}
+use Rattle.sampling.specs.CriticalSlices.{squares, tangency, intersection, critical}
 use Rattle.sampling.specs.J1j2free.{curves, bends, critical-slices, half-cuts, first-half, second-half, on-interval, cut-count}
 use Rattle.sampling.specs.Promises.Curves.{most-curves}
-use Rattle.sampling.specs.Laws.AngleCounts.{both, either, norm-roots-few, all-copies-few}
+use Rattle.sampling.specs.Laws.AngleCounts.{both, either, all-copies-few}
 use Rattle.sampling.specs.declared.critical_slices.Chart.{Chart}
 use Rattle.sampling.specs.declared.intervals.Range.{Range}
 use Rattle.sampling.specs.declared.intervals.Range.the-variants.{Nothing, Between}
@@ -124,7 +124,7 @@ axes-range-few m q5 (Between lower upper) = omega arith
 
 folds-few : (z : Vector) (q3 s5 angle2 : Float) → length (folds z q3 s5 angle2) ≤ 58
 unfolding folds
-folds-few z q3 s5 angle2 = norm-roots-few (fold z (angle2 ⊕ q3)) (across z) (Pose.vector-length z ⊗ abs s5)
+folds-few z q3 s5 angle2 = squared-norm-few (fold z (angle2 ⊕ q3)) (across z) (Pose.vector-length z ⊗ abs s5)
 
 folds-range-few : (z : Vector) (q3 s5 : Float) (range : Range) → length (folds-range z q3 s5 range) ≤ 116
 unfolding folds-range
@@ -154,29 +154,51 @@ unfolding angles
 angles-length origin [] = refl
 angles-length origin (u ∷ l) = ap suc (angles-length origin l)
 
--- a call that is not refused has no more roots than places
-inner-few : (p : List Compensated) (lower upper : Float) → inner-holds p lower upper ≡ true → length (roots p lower upper) ≤ 509
-unfolding inner-holds
-inner-few p lower upper e = leb-true (length (roots p lower upper)) 509
-    (three (bounds-hold lower upper) (all-hold p) (leb (length (roots p lower upper)) 509) e .2)
-
-chart-roots-few : (c : Chart) (p : List Compensated) → length (chart-roots c p) ≤ 509
+-- nine coefficients have at most 2 ^ 9 - 3 roots
+chart-roots-few : (c : Chart) (p : List Compensated) → length p ≤ 9 → length (chart-roots c p) ≤ 509
 unfolding chart-roots
-chart-roots-few c p = go (inner-holds p (c .lower) (c .upper)) refl
-  where
-    l : List Float
-    l = roots p (c .lower) (c .upper)
+chart-roots-few c p h = omega (arith, angles-length (c .origin) (roots p (c .lower) (c .upper)), all-most (c .lower) (c .upper) 9 p h)
 
-    go : (b : Bool) → inner-holds p (c .lower) (c .upper) ≡ b → length (cond b (angles (c .origin) l) []) ≤ 509
-    go true e = omega (arith, angles-length (c .origin) l, inner-few p (c .lower) (c .upper) e)
-    go false e = omega arith
+-- what a place of the order stands for: the polynomials of a curve, or none
+data Own (origin : Float) : Polynomials → Type 0 where
+  own : (q : Curve) → Own origin (polynomials q origin)
+  none : Own origin nowhere
 
-calls-few : (c : Chart) (ps : List (List Compensated)) → length (flatMap (chart-roots c) ps) ≤ 509 * length ps
-unfolding flatMap
-calls-few c [] = omega arith
-calls-few c (p ∷ ps) =
-    let h = calls-few c ps in
-    omega (arith, both (chart-roots c p) (flatMap (chart-roots c) ps) (chart-roots-few c p) h)
+own-at : (origin : Float) (l : List Curve) (i : ℕ) → Own origin (at (all-polynomials origin l) i)
+own-at origin [] i = none
+own-at origin (q ∷ l) zero = own q
+own-at origin (q ∷ l) (suc i) = own-at origin l i
+
+tangency-few : {origin : Float} {k : Polynomials} → Own origin k → length (tangency k) ≤ 9
+unfolding tangency squares numerator coefficients multiply add
+tangency-few (own q) = omega arith
+tangency-few none = omega arith
+
+intersection-few : {origin : Float} {k l : Polynomials} → Own origin k → Own origin l → length (intersection k l) ≤ 9
+unfolding intersection squares determinant numerator coefficients multiply add
+intersection-few (own q) (own r) = omega arith
+intersection-few (own q) none = omega arith
+intersection-few none (own r) = omega arith
+intersection-few none none = omega arith
+
+asked-few : (origin : Float) (l : List Curve) (p : ℕ × ℕ) → length (asked (all-polynomials origin l) p) ≤ 9
+unfolding asked
+asked-few origin l p =
+    let at-first = own-at origin l (p .0) in
+    let at-second = own-at origin l (p .1) in
+    either (eqb (p .0) (p .1)) _ _ (tangency-few at-second) (intersection-few at-first at-second)
+
+module _ (c : Chart) (l : List Curve) where
+  abbrev call : ℕ × ℕ → List Compensated
+  call p = asked (all-polynomials (c .origin) l) p
+
+  calls-few : (ps : List (ℕ × ℕ)) → length (flatMap (chart-roots c) (map call ps)) ≤ 509 * length ps
+  unfolding flatMap
+  calls-few [] = omega arith
+  calls-few (p ∷ ps) =
+      let few = chart-roots-few c (call p) (asked-few (c .origin) l p) in
+      let h = calls-few ps in
+      omega (arith, both (chart-roots c (call p)) (flatMap (chart-roots c) (map call ps)) few h)
 
 -- 1 + 2 + .. + n, which is n curves and their pairs
 abbrev pairs : ℕ → ℕ
@@ -198,16 +220,12 @@ unfolding order
 order-length zero = refl
 order-length (suc n) = omega (arith, length-append (order n) ((n, n) ∷ earlier n n), order-length n, earlier-length n n)
 
-calls-length : (ks : List Polynomials) → length (calls ks) ≡ pairs (length ks)
-unfolding calls
-calls-length ks = length-map (order (length ks)) (asked ks) ∙ order-length (length ks)
-
 critical-by : (c : Chart) (l : List Curve) → length (critical c l) ≤ 509 * pairs (length l)
-unfolding critical
+unfolding critical calls
 critical-by c l =
-    let ks = all-polynomials (c .origin) l in
+    let n = length (all-polynomials (c .origin) l) in
     let e = length-map l (λ (k : Curve). polynomials k (c .origin)) in
-    rw (← e, ← calls-length ks) (calls-few c (calls ks))
+    rw (← e, ← order-length n) (calls-few c l (order n))
 
 abbrev most-critical : ℕ
 most-critical = 509 * pairs most-curves

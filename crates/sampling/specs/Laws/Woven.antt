@@ -1,29 +1,27 @@
--- What the stream asks of a list holds of the cuts of values within ±64: each middle stands between its neighbours, and all are numbers.
+-- What the stream asks of a list holds of the cuts of values within ±32: each middle stands between its neighbours, and all are numbers.
 use native.Mathlib.Omega.{arith}
 use mathlib.Core.Path.{_≡_}
 use mathlib.Core.Bool.{false, not}
 use mathlib.Core.List.{List, [], _∷_}
-use lib.IntN.{pos}
 use lib.Dec.{T}
-use lib.Ieee.{Float, fin, binary64, eq, fits, isNan}
+use lib.Ieee.{Float, binary64, eq, fits, isNan}
 use Rattle.float.specs.Number.{middle, total-le}
+use Rattle.float.specs.Trig.{widest}
 use Rattle.float.specs.Laws.Total.{total-le-refl}
-use Rattle.float.specs.Promises.Order.{Within}
+use Rattle.float.specs.Promises.Order.{Within, Span}
 use Rattle.float.specs.Laws.Range.{lt→Le}
-use Rattle.float.specs.Promises.Order.{Span}
 use Rattle.float.specs.Laws.Middle.{middle-within}
 use Rattle.polynomial.specs.Cuts.{cuts}
-use Rattle.polynomial.specs.Promises.Lists.{From, Fit}
+use Rattle.polynomial.specs.Promises.Lists.{From, Fit, All}
 use Rattle.polynomial.specs.Laws.Cuts.{Above, Strict, from-sorted, fit-cuts, strict-cuts, all-cuts}
 use Rattle.polynomial.specs.Laws.Enclosed.{less}
-use Rattle.polynomial.specs.Promises.Lists.{All}
 use Rattle.sampling.specs.Promises.Stream.{weave, Woven}
 use Rattle.float.specs.Laws.Between.{middle-above, middle-below}
 use Rattle.float.specs.Laws.Tests.{finite-number}
 
--- at most 64 in size
+-- at most 32 in size: the sine and the cosine of such an angle are numbers
 abbrev pub Small : Float → Type 0
-Small x = Within (fin false 1 (pos 6)) x
+Small x = Within widest x
 
 -- the middle of two neighbours stands between them
 record Pair (x y : Float) : Type 0 where
@@ -32,7 +30,7 @@ record Pair (x y : Float) : Type 0 where
   number-it : T (not (isNan (middle x y)))
 
 -- two neighbours of such cuts: an interval that can be halved
-pub neighbours : (x y : Float) → T (fits binary64 x) → T (fits binary64 y) → Small x → Small y → T (total-le x y) → eq y x ≡ false → Span 6 x y
+pub neighbours : (x y : Float) → T (fits binary64 x) → T (fits binary64 y) → Small x → Small y → T (total-le x y) → eq y x ≡ false → Span 5 x y
 neighbours x y fx fy hx hy t e = record {
   room = omega arith;
   lo-fits = fx;

@@ -1,7 +1,7 @@
 -- What `plan_of` makes of a job and leaves in the lent work slice, and how the angles are read off the cuts there, one at a time.
 use mathlib.Core.Path.{_≡_}
 use mathlib.Core.Logic.{_⊎_}
-use mathlib.Core.Bool.{Bool, true, not, cond}
+use mathlib.Core.Bool.{not, cond}
 use mathlib.Core.List.{List, [], _∷_, _++_}
 use Prim.Native.Nat.{ℕ, _+_, _^_, _≤_}
 use lib.Dec.{T, leb, ltb}
@@ -14,11 +14,14 @@ use Rattle.polynomial.specs.Angle.{two-pi}
 use Rattle.sampling.specs.Samples.{three-samples}
 use Rattle.sampling.specs.SampleAngles.{first-cuts, second-cuts, third-cuts}
 use Rattle.sampling.specs.J1j2free.{folded, first-half, second-half, on-interval}
-use Rattle.sampling.specs.Angles.{first-free, second-free, by-kind, cut-count, hold}
+use Rattle.sampling.specs.Angles.{first-free, second-free, by-kind, cut-count}
+use Rattle.sampling.specs.Limits.{limits}
+use Rattle.sampling.specs.Promises.Charts.{Charted}
 use Rattle.sampling.specs.Promises.Stream.{distinct, next, Woven}
 use Rattle.sampling.specs.declared.j1j2free.Folded.{Folded}
 use Rattle.sampling.specs.declared.job.Job.{Job}
 use Rattle.sampling.specs.declared.job.Joint.{Joint}
+use Rattle.sampling.specs.declared.job.Kind.the-variants.{J1j2free}
 use Rattle.sampling.specs.declared.lists.Lists.{Lists}
 use Rattle.sampling.specs.declared.lists.Halves.{Halves}
 use Rattle.sampling.specs.declared.lists.Plan.{Plan}
@@ -33,6 +36,10 @@ pub record Moderate (j : Joint) : Type 0 where
   pub sign : (j .sign ≡ one-float) ⊎ (j .sign ≡ neg one-float)
   pub offset : Within two-pi (j .offset)
   pub reference : T (finite (j .reference))
+
+-- two free joints: both halves of joint 1's interval have charts that the root finder takes
+abbrev pub Drawable : Job → Type 0
+Drawable job = job .kind ≡ J1j2free → Charted (limits (job .limited) (job .j1))
 
 -- ---- the cuts: three lists of one free joint, both halves' of two
 
@@ -64,23 +71,21 @@ all-cuts job = by-kind (job .kind) (free-cuts (first-free job)) (free-cuts (seco
 
 -- ---- the plan
 
--- l, by whether no inner call of the root finder is refused, the number of cuts, and that of the places
-abbrev pub granted : Bool → ℕ → Plan → ℕ → Plan
-granted holds count l places = cond holds (cond (leb count places) l of.Short) of.Refused
+-- l, if there are places for so many cuts
+abbrev pub granted : ℕ → Plan → ℕ → Plan
+granted count l places = cond (leb count places) l of.Short
 
 unfoldable pub plan : Job → ℕ → Plan
-plan job places = granted (hold job) (cut-count job) (laid job) places
+plan job places = granted (cut-count job) (laid job) places
 
--- what a plan has, by what came: refused, short, laid
-abbrev pub by-plan : {A : Type 0} → Plan → A → A → A → A
-by-plan of.Refused refused short found = refused
-by-plan of.Short refused short found = short
-by-plan (of.Lists n) refused short found = found
-by-plan (of.Halves h) refused short found = found
+-- what a plan has, by what came: short, laid
+abbrev pub by-plan : {A : Type 0} → Plan → A → A → A
+by-plan of.Short short found = short
+by-plan (of.Lists n) short found = found
+by-plan (of.Halves h) short found = found
 
 -- how many places the cuts take
 abbrev pub filled : Plan → ℕ
-filled of.Refused = 0
 filled of.Short = 0
 filled (of.Lists n) = n .first + n .second + n .third
 filled (of.Halves h) = h .first + h .second
@@ -91,15 +96,15 @@ filled (of.Halves h) = h .first + h .second
 abbrev pub zeros : ℕ → List Float
 zeros n = replicate n zero-float
 
--- l where there are cuts to read, and other where the plan is refused or short
+-- l where there are cuts to read, and other where the plan is short
 abbrev pub where-laid : Plan → List Float → List Float → List Float
-where-laid p l other = by-plan p other other l
+where-laid p l other = by-plan p other l
 
 -- a, b and c one after the other in w, which becomes after, where r says that there are places
 abbrev pub ListsLaid : List Float → List Float → List Float → List Float → Plan → List Float → Type 0
 ListsLaid a b c w r after =
     let count = length a + length b + length c in
-    (r ≡ granted true count (lists-of a b c) (length w)) × (where-laid r after [] ≡ where-laid r (((a ++ b) ++ c) ++ drop count w) [])
+    (r ≡ granted count (lists-of a b c) (length w)) × (where-laid r after [] ≡ where-laid r (((a ++ b) ++ c) ++ drop count w) [])
 
 -- the cuts in front, and the rest as it was
 unfoldable pub work-after : Job → List Float → List Float
@@ -117,7 +122,6 @@ all-samples n w = three-samples (take (n .first) w) (take (n .second) (drop (n .
 
 -- what is still to come at a cursor
 abbrev pub to-come : Plan → List Float → Cursor → List Float
-to-come of.Refused w c = []
 to-come of.Short w c = []
 to-come (of.Lists n) w c = drop (c .i) (all-samples n w)
 to-come (of.Halves h) w c = distinct (take (h .first) w) (take (h .second) (drop (h .first) w)) (h .reference) c
@@ -131,7 +135,6 @@ pub record Streamable (h : Halves) (w : List Float) : Type 0 where
   pub fit : T (fits binary64 (h .reference))
 
 abbrev pub Ready : Plan → List Float → Type 0
-Ready of.Refused w = Unit {0}
 Ready of.Short w = Unit {0}
 Ready (of.Lists n) w = n .first + n .second + n .third ≤ length w
 Ready (of.Halves h) w = Streamable h w
@@ -145,7 +148,6 @@ sample-step n w c =
 
 -- the next angle and the cursor behind it, or the end; `Laws.Plan` has that it gives the first of what is to come
 abbrev pub step : Plan → List Float → Cursor → Step
-step of.Refused w c = Done
 step of.Short w c = Done
 step (of.Lists n) w c = sample-step n w c
 step (of.Halves h) w c = next (take (h .first) w) (take (h .second) (drop (h .first) w)) (h .reference) c

@@ -1,7 +1,7 @@
 -- What is known of a request that Sampling accepts.
 use Prim.Native.Nat.{ℕ, _≤_}
 use native.Mathlib.Omega.{arith}
-use mathlib.Core.Path.{_≡_, refl, sym, _∙_}
+use mathlib.Core.Path.{_≡_, refl, sym, ap, _∙_}
 use mathlib.Core.List.{List}
 use mathlib.Core.Bool.{true, false≢true}
 use lib.ListN.{length}
@@ -9,7 +9,7 @@ use lib.Dec.{leb}
 use borrow.Author.Tests.{leb-true}
 use Rattle.sheet.specs.Refusals.{Answer, accepted, refused, need}
 use Rattle.sheet.specs.Validate.{validate}
-use Rattle.sheet.specs.Sampling.{items, cut-count, holds, by-request, by-work, answer, before-output}
+use Rattle.sheet.specs.Sampling.{items, cut-count, by-work, answer, before-output}
 use Rattle.sheet.specs.Edition.{newest}
 use Rattle.sheet.specs.Sheet.{sheet-size}
 use Rattle.sheet.specs.declared.edition.Edition.{Edition}
@@ -17,28 +17,25 @@ use Rattle.sheet.specs.Check.{is-accepted, meets-none}
 use Rattle.sheet.specs.Promises.Tested.{Passed}
 use Rattle.sheet.specs.Laws.Tested.{need-holds, need-accepted, validate-passed, passed-validate}
 
--- what refusals 1 to 10 say of a request behind which something is accepted
+-- what refusals 1 to 8, 41 and 10 say of a request behind which something is accepted
 module _ (e : Edition) (r : List ℕ) (places n : ℕ) (v : Answer) (h : by-work e r places v ≡ accepted n) where
   pub work-passed : Passed e r
-  unfolding by-work by-request
+  unfolding by-work
   work-passed = validate-passed e r n _ h
 
-  later : need (holds r) 9 (need (leb (cut-count r) places) 10 v) ≡ accepted n
-  unfolding by-work by-request
+  later : need (leb (cut-count r) places) 10 v ≡ accepted n
+  unfolding by-work
   later = sym (passed-validate e r _ work-passed) ∙ h
 
-  pub work-holds : holds r ≡ true
-  work-holds = need-holds (holds r) 9 n _ later
-
   pub work-fits : leb (cut-count r) places ≡ true
-  work-fits = need-holds (leb (cut-count r) places) 10 n v (need-accepted (holds r) 9 n _ later)
+  work-fits = need-holds (leb (cut-count r) places) 10 n v later
 
   pub work-then : v ≡ accepted n
-  work-then = need-accepted (leb (cut-count r) places) 10 n v (need-accepted (holds r) 9 n _ later)
+  work-then = need-accepted (leb (cut-count r) places) 10 n v later
 
-pub work-on : (e : Edition) (r : List ℕ) (places : ℕ) (v : Answer) → Passed e r → holds r ≡ true → leb (cut-count r) places ≡ true → by-work e r places v ≡ v
-unfolding by-work by-request need
-work-on e r places v p h f = passed-validate e r _ p ∙ rw (h, f)
+pub work-on : (e : Edition) (r : List ℕ) (places : ℕ) (v : Answer) → Passed e r → leb (cut-count r) places ≡ true → by-work e r places v ≡ v
+unfolding by-work need
+work-on e r places v p f = passed-validate e r _ p ∙ rw f
 
 module _ (e : Edition) (r : List ℕ) (places n : ℕ) (h : before-output e r places ≡ accepted n) where
   pub before-passed : Passed e r
@@ -69,11 +66,15 @@ module _ (r : List ℕ) (places room n : ℕ) (e : answer r places room ≡ acce
       omega
       (arith, answer-count, leb-true (sheet-size newest (length (items r))) room (need-holds (leb (sheet-size newest (length (items r))) room) 11 n _ fit))
 
--- a request that meets none of 1 to 9 and 41
+-- a request that meets none of 1 to 8 and 41
 pub meets-passed : (e : Edition) (r : List ℕ) → meets-none e r ≡ true → Passed e r
-unfolding meets-none by-request
-meets-passed e r h = go (validate e r (need (holds r) 9 (accepted 0))) refl h
+unfolding meets-none
+meets-passed e r h = go (validate e r (accepted 0)) refl h
   where
-    go : (a : Answer) → validate e r (need (holds r) 9 (accepted 0)) ≡ a → is-accepted a ≡ true → Passed e r
+    go : (a : Answer) → validate e r (accepted 0) ≡ a → is-accepted a ≡ true → Passed e r
     go (accepted k) q t = validate-passed e r k _ q
     go (refused k) q t = absurd (false≢true t)
+
+pub passed-meets : (e : Edition) (r : List ℕ) → Passed e r → meets-none e r ≡ true
+unfolding meets-none
+passed-meets e r p = ap is-accepted (passed-validate e r _ p)

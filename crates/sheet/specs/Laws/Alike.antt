@@ -18,7 +18,7 @@ use Rattle.sheet.specs.Request.{request-size, shape-of, reads}
 use Rattle.sheet.specs.Fields.{sign-of, joint-at, arm-of, kind-of, limited-of, fixed-of, job-of, matrix}
 use Rattle.sheet.specs.Refusals.{Answer, accepted, need}
 use Rattle.sheet.specs.Validate.{right, head-right, name-right, validate}
-use Rattle.sheet.specs.Sampling.{angles, items, cut-count, holds, by-request, by-work, answer, before-output}
+use Rattle.sheet.specs.Sampling.{angles, items, cut-count, by-work, answer, before-output}
 use Rattle.sheet.specs.Edition.{newest}
 use Rattle.sheet.specs.Sheet.{sheet-size}
 use Rattle.sheet.specs.declared.edition.Edition.{Edition}
@@ -95,10 +95,6 @@ module _ (r s : List ℕ) (g : Core r s) where
     unfolding cut-count
     cuts-same = Reads.cuts-same (job-of r) (job-of s) same-read
 
-    holds-same : holds r ≡ holds s
-    unfolding holds
-    holds-same = Reads.hold-same (job-of r) (job-of s) same-read
-
   -- a wrong head is refused whatever comes behind
   validate-wrong : (e : Edition) (v u : Answer) → head-right r ≡ false → validate e r v ≡ validate e r u
   unfolding validate need
@@ -108,12 +104,12 @@ module _ (r s : List ℕ) (g : Core r s) where
   -- alike
   by-work-same : (e e′ : Edition) → eqb (length r) (request-size e) ≡ eqb (length s) (request-size e′) → name-right r ≡ name-right s → (places : ℕ)
       → (v u : Answer) → (head-right r ≡ true → v ≡ u) → by-work e r places v ≡ by-work e′ s places u
-  unfolding by-work by-request
+  unfolding by-work
   by-work-same e e′ l n places v u h = go (head-right r) refl ∙ validate-same r s g e e′ l n _
     where
       go : (b : Bool) → head-right r ≡ b
-          → validate e r (need (holds r) 9 (need (leb (cut-count r) places) 10 v)) ≡ validate e r (need (holds s) 9 (need (leb (cut-count s) places) 10 u))
-      go true q = rw (holds-same q, cuts-same q, h q)
+          → validate e r (need (leb (cut-count r) places) 10 v) ≡ validate e r (need (leb (cut-count s) places) 10 u)
+      go true q = rw (cuts-same q, h q)
       go false q = validate-wrong e _ _ q
 
   pub answer-same : length r ≡ length s → name-right r ≡ name-right s → (places room : ℕ) → answer r places room ≡ answer s places room

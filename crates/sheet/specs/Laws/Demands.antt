@@ -17,7 +17,7 @@ use Rattle.sheet.specs.Fields.{job-of}
 use Rattle.sheet.specs.Validate.{head-right, validate}
 use Rattle.sheet.specs.Refusals.{Answer, accepted, refused, need}
 use Rattle.sheet.specs.Sheet.{trailer, trailer-size, frame-size, items-bound, sheet-size}
-use Rattle.sheet.specs.Sampling.{angles, items, cut-count, by-request, by-work, answer, before-output, sheet, output-after}
+use Rattle.sheet.specs.Sampling.{angles, items, cut-count, by-work, answer, before-output, sheet, output-after}
 use Rattle.sheet.specs.Check.{trailer-of, count-of, edition-of, request-of, items-of, formed, meets-none, clean}
 use Rattle.sheet.specs.Demands.{of-sampling, of-check, Among, Answers, Leaves, Counted, Faithful, OtherEdition, Written, Sound, Complete, Exact, Few}
 use Rattle.sheet.specs.Demands.{SameAnswer, SameAngles, SameSheet, Together}
@@ -30,12 +30,12 @@ use Rattle.sheet.specs.Laws.Places.{core-least}
 use Rattle.sheet.specs.Laws.Agree.{core-of, agree-blank, blank-agree, agree-own, blank-twice}
 use Rattle.sheet.specs.Laws.Validate.{name-same}
 use Rattle.sheet.specs.Laws.Tested.{need-holds, need-accepted}
-use Rattle.sheet.specs.Laws.Plan.{holds-meets}
 use Rattle.sheet.specs.Laws.Sampling.{length-items, length-sheet}
 use Rattle.sheet.specs.Laws.Faithful.{angle-at}
 use Rattle.sheet.specs.Laws.Check.{formed-length, edition-formed, answer-known, answer-unknown, known-number, known-said, known-upto}
 use Rattle.sheet.specs.Laws.Alike.{angles-same, items-same, answer-same, before-same}
-use Rattle.sheet.specs.Laws.Accepted.{work-passed, work-holds, work-fits, work-on, before-passed, before-count, answer-passed, answer-count, meets-passed}
+use Rattle.sheet.specs.Laws.Accepted.{work-passed, work-fits, work-on, before-passed, before-count}
+use Rattle.sheet.specs.Laws.Accepted.{answer-passed, answer-count, meets-passed, passed-meets}
 use Rattle.sheet.specs.Laws.Written.{cut, size, says, items-in, request-in, count-in, formed-in}
 use Rattle.sheet.specs.Check as Check
 
@@ -73,12 +73,12 @@ of-said (Known e) s places = of-edition e s places
 of-said Unknown s places = tt
 
 pub answers : Answers
-unfolding answer by-work by-request Check.answer
+unfolding answer by-work Check.answer
 answers =
     record {
       sampling = λ r places room.
           of-validate newest r _
-          (among-need of-sampling _ 9 _ tt (among-need of-sampling _ 10 _ tt (among-need of-sampling _ 11 (accepted (length (items r))) tt tt)));
+          (among-need of-sampling _ 10 _ tt (among-need of-sampling _ 11 (accepted (length (items r))) tt tt));
       check = λ upto s places. among-need of-check _ 31 _ tt (of-said (known upto (edition-of s)) s places);
     }
 
@@ -145,7 +145,7 @@ module _ (e : Edition) (s : List ℕ) (places n : ℕ) (q : Check.by-edition e s
   accepts-inside : before-output e (request-of e s) places ≡ accepted n
   accepts-inside =
       let p = meets-passed e (request-of e s) (parts .meets) in
-      work-on e (request-of e s) places (accepted (length (items (request-of e s)))) p (sym (holds-meets e (request-of e s) p) ∙ parts .meets) (parts .fits)
+      work-on e (request-of e s) places (accepted (length (items (request-of e s)))) p (parts .fits)
       ∙ ap accepted (sym same-count ∙ parts .number)
 
 -- an edition that is known has a number up to that of the newest
@@ -185,7 +185,7 @@ checked-own : (e : Edition) (r : List ℕ) (m n places : ℕ) → before-output 
 unfolding checked compared need
 checked-own e r m n places q f =
     let p = work-passed e r places n _ q in
-    rw (holds-meets e r p, work-holds e r places n _ q, f, same-itself r, work-fits e r places n _ q, same-itself (words-bytes (items r)))
+    rw (passed-meets e r p, f, same-itself r, work-fits e r places n _ q, same-itself (words-bytes (items r)))
 
 pub few : Few
 few = angles-few

@@ -3,12 +3,12 @@ use Prim.Native.Nat.{ℕ}
 use mathlib.Core.Path.{_≡_, refl, ap}
 use mathlib.Core.List.{List, map}
 use lib.Ieee.{binary64, toBits}
-use Rattle.sampling.specs.Laws.RustOrder.{angles-same, cut-count-same, hold-same}
+use Rattle.sampling.specs.Laws.RustOrder.{angles-same, cut-count-same}
 use Rattle.sheet.specs.Fields.{job-of}
 use Rattle.sheet.specs.Edition.{known}
 use Rattle.sheet.specs.Refusals.{Answer, accepted, refused}
-use Rattle.sheet.specs.Sampling.{angles, items, sheet, cut-count, holds, by-request, by-work, answer, output-after}
-use Rattle.sheet.specs.Check.{request-of, edition-of, meets-none, by-edition, by-said}
+use Rattle.sheet.specs.Sampling.{angles, items, sheet, cut-count, by-work, answer, output-after}
+use Rattle.sheet.specs.Check.{request-of, edition-of, by-edition, by-said}
 use Rattle.sheet.specs.Demands.{PairsAsBefore}
 use Rattle.sheet.specs.declared.edition.Edition.{Edition}
 use Rattle.sheet.specs.declared.edition.Said.{Said}
@@ -26,13 +26,9 @@ pub sheet-same : (e : Edition) (r : List ℕ) → Rust.sheet e r ≡ sheet e r
 unfolding Rust.sheet sheet
 sheet-same e r = rw (items-same r)
 
-by-request-same : (e : Edition) (r : List ℕ) (v : Answer) → Rust.by-request e r v ≡ by-request e r v
-unfolding Rust.by-request by-request holds
-by-request-same e r v = rw (hold-same (job-of r))
-
 answer-same : (r : List ℕ) (places room : ℕ) → Rust.answer r places room ≡ answer r places room
 unfolding Rust.answer answer by-work cut-count
-answer-same r places room = rw (by-request-same _ r _, cut-count-same (job-of r), items-same r)
+answer-same r places room = rw (cut-count-same (job-of r), items-same r)
 
 output-same : (a : Answer) (r output : List ℕ) → Rust.output-after a r output ≡ output-after a r output
 output-same (accepted n) r output = rw (sheet-same _ r)
@@ -41,10 +37,10 @@ output-same (refused k) r output = refl
 -- ---- Check
 
 edition-same : (e : Edition) (s : List ℕ) (places : ℕ) → Rust.check-edition e s places ≡ by-edition e s places
-unfolding Rust.check-edition by-edition meets-none cut-count
+unfolding Rust.check-edition by-edition cut-count
 edition-same e s places =
     let r = request-of e s in
-    rw (by-request-same e r (accepted 0), cut-count-same (job-of r), items-same r)
+    rw (cut-count-same (job-of r), items-same r)
 
 said-same : (k : Said) (s : List ℕ) (places : ℕ) → Rust.check-said k s places ≡ by-said k s places
 unfolding Rust.check-said by-said

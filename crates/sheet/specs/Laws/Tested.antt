@@ -17,14 +17,14 @@ use Rattle.sampling.specs.declared.pose.Normalized.{Normalized}
 use Rattle.sampling.specs.declared.pose.Normalized.the-variants.{Unit, NotFinite, Zero}
 use Rattle.sheet.specs.declared.edition.Edition.{Edition}
 use Rattle.sheet.specs.declared.request.Field.{Field}
-use Rattle.sheet.specs.declared.request.Field.the-variants.{Reference, Offset}
+use Rattle.sheet.specs.declared.request.Field.the-variants.{Arm, Reference, Offset}
 use Rattle.sheet.specs.declared.refusals.Refusal.{Refusal}
 use Rattle.sheet.specs.declared.validate.Tested.{Tested}
 use Rattle.sheet.specs.Request.{request-size, shape-of, reads, last}
 use Rattle.sheet.specs.Fields.{field, rotation-of}
 use Rattle.sheet.specs.Refusals.{Answer, accepted, refused, need, number}
 use Rattle.sheet.specs.Validate.{all-from, head-right, name-right, signs-right, rotation-finite, rotation-nonzero, passes, field-right, fields-right}
-use Rattle.sheet.specs.Validate.{within, arm-within, references-finite, offsets-within, validate}
+use Rattle.sheet.specs.Validate.{within, eight, arm-within, references-finite, offsets-within, validate}
 use Rattle.sheet.specs.Promises.Tested.{tested-fields, tested-rotation, tested, after, Passed}
 use Rattle.sheet.specs.declared.refusals.Refusal.the-variants as refusal
 use Rattle.sheet.specs.declared.validate.Tested.the-variants as tests
@@ -157,3 +157,7 @@ module _ {e : Edition} (r : List ℕ) (g : Passed e r) where
   pub passed-offset : (j : ℕ) → 1 ≤ j → j ≤ 6 → T (reads (shape-of r) Offset j) → within two-pi (field r Offset j) ≡ true
   unfolding offsets-within passes
   passed-offset j a b t = field-passes Offset j (g .offsets) a b t
+
+  pub passed-arm : (q : ℕ) → 1 ≤ q → q ≤ 3 → T (reads (shape-of r) Arm q) → within eight (field r Arm q) ≡ true
+  unfolding arm-within passes
+  passed-arm q a b t = field-passes Arm q (g .arm) a b t

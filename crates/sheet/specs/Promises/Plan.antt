@@ -13,7 +13,7 @@ use Rattle.sheet.specs.Bytes.{words-bytes, same-bytes}
 use Rattle.sheet.specs.Fields.{job-of}
 use Rattle.sheet.specs.Refusals.{Answer, accepted, need}
 use Rattle.sheet.specs.Edition.{newest, known}
-use Rattle.sheet.specs.Sampling.{angles, items, cut-count, holds}
+use Rattle.sheet.specs.Sampling.{angles, items, cut-count}
 use Rattle.sheet.specs.Request.{core-size}
 use Rattle.sheet.specs.Sheet.{trailer-size, sheet-size}
 use Rattle.sheet.specs.Check.{request-of, edition-of, formed, clean, meets-none}
@@ -24,18 +24,15 @@ use Rattle.sheet.specs.declared.edition.Said.the-variants.{Known, Unknow
 use Rattle.sheet.specs.declared.validate.Tested.{Tested}
 use Rattle.sheet.specs.declared.validate.Tested.the-variants as tests
 
--- 9, and 10
-abbrev pub is-refused : Plan → Bool
-is-refused p = by-plan p true false false
-
+-- 10
 abbrev pub is-short : Plan → Bool
-is-short p = by-plan p false true false
+is-short p = by-plan p true false
 
 -- the plan for a request that passed its tests, whose cuts stand in w
 pub record PlannedFor (r : List ℕ) (p : Plan) (w : List Float) : Type 0 where
   pub made : p ≡ plan (job-of r) (length w)
   pub ready : Ready p w
-  pub yields : holds r ≡ true → cut-count r ≤ length w → to-come p w start ≡ angles r
+  pub yields : cut-count r ≤ length w → to-come p w start ≡ angles r
 
 -- what work holds before it is cleared: what the plan leaves of a request that passed its tests, else what it held
 abbrev pub work-tested : Tested → List ℕ → List Float → List Float
@@ -56,12 +53,12 @@ work-said Unknown s w = w
 unfoldable pub work-checked : List ℕ → List Float → List Float
 work-checked s w = cond (leb (core-size + trailer-size) (length s)) (work-said (known newest (edition-of s)) s w) w
 
--- Sampling of a request that passed its tests: 9 to 11
+-- Sampling of a request that passed its tests: 10 and 11
 unfoldable pub planned-answer : List ℕ → ℕ → ℕ → Answer
 planned-answer r places room =
-    need (holds r) 9 (need (leb (cut-count r) places) 10 (need (leb (sheet-size newest (length (items r))) room) 11 (accepted (length (items r)))))
+    need (leb (cut-count r) places) 10 (need (leb (sheet-size newest (length (items r))) room) 11 (accepted (length (items r))))
 
--- Check of a formed sheet with the request r, the items' bytes a and the number n: 33 to 36, and 34 to 36 of one whose request meets none of 1 to 9 and 41
+-- Check of a formed sheet with the request r, the items' bytes a and the number n: 33 to 36, and 34 to 36 of one whose request meets none of 1 to 8 and 41
 unfoldable pub compared : List ℕ → List ℕ → ℕ → ℕ → Answer
 compared r a n places = need (clean r) 34 (need (leb (cut-count r) places) 35 (need (same-bytes a (words-bytes (items r))) 36 (accepted n)))
 

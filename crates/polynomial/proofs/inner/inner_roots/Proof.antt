@@ -1,5 +1,4 @@
 -- `polynomial::inner::inner_roots` meets its contract.
-use Prim.Native.Nat.{_≤_}
 use native.Mathlib.Omega.{arith}
 use mathlib.Core.Path.{sym, ap, _∙_}
 use mathlib.Core.List.{List, _++_}

@@ -1,14 +1,13 @@
 -- `polynomial::norm::half_roots` meets its contract.
-use Prim.Native.Nat.{_≤_}
 use native.Mathlib.Omega.{arith}
 use mathlib.Core.Path.{_≡_, sym, ap, subst}
 use mathlib.Core.List.{List}
-use lib.ListN.{length, take}
+use lib.ListN.{take}
 use lib.Ieee.{Float, neg}
 use borrow.Author.Needs.{needs}
 use Rattle.float.specs.Promises.Order.{Span}
 use Rattle.float.specs.Laws.Literals.{one-bits}
-use Rattle.polynomial.specs.Curve.{norm-polynomial, chart-angles, half-roots}
+use Rattle.polynomial.specs.Curve.{norm-polynomial}
 use Rattle.polynomial.specs.Promises.Norm.{put-all}
 use Rattle.polynomial.specs.Laws.InnerCalls.{one-span}
 use Rattle.polynomial.specs.Laws.Nine.{norm-front}

@@ -2,7 +2,7 @@
 use native.Mathlib.Omega.{arith}
 use mathlib.Core.Path.{_≡_, sym, ap, ap₂, _∙_}
 use mathlib.Core.List.{List, []}
-use lib.ListN.{length, take}
+use lib.ListN.{length}
 use lib.Ieee.{Float, binary64, neg, ofBits}
 use borrow.Author.Needs.{needs}
 use Rattle.float.specs.Number.{zero-float}
@@ -12,7 +12,7 @@ use Rattle.float.specs.Laws.Literals.{P-bits}
 use Rattle.polynomial.specs.Curve.{half-roots}
 use Rattle.polynomial.specs.declared.curve.Harmonic.{Harmonic}
 use Rattle.polynomial.specs.Promises.Norm.{put-all}
-use Rattle.polynomial.proofs.roots.Kept.{Front, front-same}
+use Rattle.polynomial.proofs.roots.Kept.{front-same}
 use Rattle.polynomial.proofs.norm.Sides.{left-room, both-halves}
 use Rattle.polynomial.proofs.norm.squared_norm_roots.Statement.{statement}
 use Rattle.polynomial.proofs.norm.squared_norm_roots.Tie as tie

@@ -1,6 +1,6 @@
 -- `sampling::bend_slices::bend_slice` meets its contract: at each return, what the calls and the tests on the way to it say.
 use borrow.Author.Needs.{needs}
-use Rattle.sampling.specs.BendSlices.{bend-slice, bend-slice-holds}
+use Rattle.sampling.specs.BendSlices.{bend-slice}
 use Rattle.sampling.proofs.Pushed.{then}
 use Rattle.sampling.proofs.bend_slices.bend_slice.Statement.{statement}
 use Rattle.sampling.proofs.bend_slices.bend_slice.Tie as tie
@@ -21,14 +21,12 @@ same-length : tie.Need-same-length
 same-length c = search needs
 
 returns : tie.Need-returns
-unfolding bend-slice bend-slice-holds
+unfolding bend-slice
 returns c =
-    let c5 = c .before .before .before .before .before in
-    let c10 = c5 .before .before .before .before .before in (
-      simp (← c10 .before .before .sin-cos .ensures) ((c .before .before .folds-range .ensures) .0),
-      simp (← c10 .before .before .sin-cos .ensures) (then (then (c10 .transverses .ensures) (c5 .before .axes-range .ensures))
-          ((c .before .before .folds-range .ensures) .1)),
-    )
+    let c6 = c .before .before .before .before .before .before in
+    let c10 = c6 .before .before .before .before in
+    simp (← c10 .before .before .sin-cos .ensures)
+    (then (then (c10 .transverses .ensures) (c6 .axes-range .ensures)) (c .before .before .folds-range .ensures))
 
 pub bend-slice-spec : {M : Type 1} → statement M
 bend-slice-spec = tie.close (tie.spec sin-cos-requires transverses-requires axes-range-requires folds-range-requires same-length returns)

@@ -1,6 +1,6 @@
 -- `sampling::bend_slices::folds` meets its contract: at each return, what the calls and the tests on the way to it say.
 use borrow.Author.Needs.{needs}
-use Rattle.sampling.specs.BendSlices.{folds, folds-hold}
+use Rattle.sampling.specs.BendSlices.{folds}
 use Rattle.sampling.proofs.bend_slices.folds.Statement.{statement}
 use Rattle.sampling.proofs.bend_slices.folds.Tie as tie
 
@@ -23,22 +23,11 @@ same-length : tie.Need-same-length
 same-length c = search needs
 
 returns : tie.Need-returns
-unfolding folds folds-hold
+unfolding folds
 returns c =
-    let c5 = c .before .before .before .before .before in (
-      simp (
-        ← c5 .before .before .fold .ensures,
-        ← c5 .before .across .ensures,
-        ← c5 .vector-length .ensures,
-        ← c .before .before .before .before .abs .ensures,
-      ) ((c .before .before .norm-roots .ensures) .0),
-      simp (
-        ← c5 .before .before .fold .ensures,
-        ← c5 .before .across .ensures,
-        ← c5 .vector-length .ensures,
-        ← c .before .before .before .before .abs .ensures,
-      ) ((c .before .before .norm-roots .ensures) .1),
-    )
+    let c4 = c .before .before .before .before in
+    simp (← c4 .before .before .before .fold .ensures, ← c4 .before .before .across .ensures, ← c4 .before .vector-length .ensures, ← c4 .abs .ensures)
+    (c .before .before .norm-roots .ensures)
 
 pub folds-spec : {M : Type 1} → statement M
 folds-spec = tie.close (tie.spec fold-requires across-requires vector-length-requires abs-requires norm-roots-requires same-length returns)

@@ -1,6 +1,6 @@
 -- `sampling::bend_slices::folds_range` meets its contract: at each return, what the calls and the tests on the way to it say.
 use borrow.Author.Needs.{needs}
-use Rattle.sampling.specs.BendSlices.{folds-range, folds-range-hold}
+use Rattle.sampling.specs.BendSlices.{folds-range}
 use Rattle.sampling.proofs.Pushed.{none, then}
 use Rattle.sampling.proofs.bend_slices.folds_range.Statement.{statement}
 use Rattle.sampling.proofs.bend_slices.folds_range.Tie as tie
@@ -18,22 +18,17 @@ folds-requires-2 : tie.Need-folds-requires-2
 folds-requires-2 c = search needs
 
 returns : tie.Need-returns
-unfolding folds-range folds-range-hold
-returns c = (simp (c .enum-told .given .1), simp (c .enum-told .given .1) (none 116 _ _))
+unfolding folds-range
+returns c = simp (c .enum-told .given .1) (none 116 _ _)
 
 same-length : tie.Need-same-length
 same-length c = search needs
 
 returns-2 : tie.Need-returns-2
-unfolding folds-range folds-range-hold
+unfolding folds-range
 returns-2 c =
-    let c5 = c .before .before .before .before .before in
-    let c10 = c5 .before .before .before .before .before in (
-      simp (c10 .before .range .given .1)
-          (rw (← (c5 .before .before .before .folds .ensures) .0, ← (c .before .before .before .before .folds2 .ensures) .0)),
-      simp (c10 .before .range .given .1) (then ((c5 .before .before .before .folds .ensures) .1)
-          ((c .before .before .before .before .folds2 .ensures) .1)),
-    )
+    let c6 = c .before .before .before .before .before .before in
+    simp (c6 .before .before .before .range .given .1) (then (c6 .folds .ensures) (c .before .before .folds2 .ensures))
 
 pub folds-range-spec : {M : Type 1} → statement M
 folds-range-spec = tie.close (tie.spec enum-told enum-known-range folds-requires folds-requires-2 returns same-length returns-2)

@@ -1,6 +1,6 @@
 -- `sampling::bends::all_roots` meets its contract: at each return, what the calls and the tests on the way to it say.
 use borrow.Author.Needs.{needs}
-use Rattle.sampling.specs.Bends.{all-roots, all-roots-hold}
+use Rattle.sampling.specs.Bends.{all-roots}
 use Rattle.sampling.proofs.Pushed.{then}
 use Rattle.sampling.proofs.bends.all_roots.Statement.{statement}
 use Rattle.sampling.proofs.bends.all_roots.Tie as tie
@@ -30,17 +30,14 @@ same-length : tie.Need-same-length
 same-length c = search needs
 
 returns : tie.Need-returns
-unfolding all-roots all-roots-hold
+unfolding all-roots
 returns c =
-    let c5 = c .before .before .before .before .before in
-    let c10 = c5 .before .before .before .before .before in
-    let c15 = c10 .before .before .before .before .before in
-    let c20 = c15 .before .before .before .before .before in (
-      (c10 .bend-marks .ensures) .0,
-      then (then (then (then (then (c20 .before .before .push .ensures) (c15 .before .before .before .poles .ensures))
-          (c10 .before .before .before .before .ray-angles .ensures)) ((c10 .bend-marks .ensures) .1)) (c5 .before .sixth-angles .ensures))
-          (c .before .before .push2 .ensures),
-    )
+    let c6 = c .before .before .before .before .before .before in
+    let c10 = c6 .before .before .before .before in
+    let c14 = c10 .before .before .before .before in
+    let c18 = c14 .before .before .before .before in
+    let start = then (c18 .before .before .before .before .push .ensures) (c18 .poles .ensures) in
+    then (then (then (then start (c14 .ray-angles .ensures)) (c10 .bend-marks .ensures)) (c6 .sixth-angles .ensures)) (c .before .before .push2 .ensures)
 
 pub all-roots-spec : {M : Type 1} → statement M
 all-roots-spec = tie.close (tie.spec polar-requires push-requires poles-requires ray-angles-requires bend-marks-requires sixth-angles-requires

@@ -1,6 +1,6 @@
 -- `sampling::bends::bend_at` meets its contract: at each return, what the calls and the tests on the way to it say.
 use borrow.Author.Needs.{needs}
-use Rattle.sampling.specs.Bends.{bend-at, bend-at-holds}
+use Rattle.sampling.specs.Bends.{bend-at}
 use Rattle.sampling.proofs.Pushed.{none}
 use Rattle.sampling.proofs.bends.bend_at.Statement.{statement}
 use Rattle.sampling.proofs.bends.bend_at.Tie as tie
@@ -15,16 +15,14 @@ same-length : tie.Need-same-length
 same-length c = search needs
 
 returns : tie.Need-returns
-unfolding bend-at bend-at-holds
+unfolding bend-at
 returns c =
-    let c5 = c .before .before .before .before .before in (
-      simp (← c5 .is-finite .ensures, c .before .before .before .before .if1 .taken) ((c .before .before .bend-roots .ensures) .0),
-      simp (← c5 .is-finite .ensures, c .before .before .before .before .if1 .taken) ((c .before .before .bend-roots .ensures) .1),
-    )
+    let c4 = c .before .before .before .before in
+    simp (← c4 .before .is-finite .ensures, c4 .if1 .taken) (c .before .before .bend-roots .ensures)
 
 returns-2 : tie.Need-returns-2
-unfolding bend-at bend-at-holds
-returns-2 c = (simp (← c .before .is-finite .ensures, c .if1 .left), simp (← c .before .is-finite .ensures, c .if1 .left) (none 60 _ _))
+unfolding bend-at
+returns-2 c = simp (← c .before .is-finite .ensures, c .if1 .left) (none 60 _ _)
 
 pub bend-at-spec : {M : Type 1} → statement M
 bend-at-spec = tie.close (tie.spec is-finite-requires bend-roots-requires same-length returns returns-2)

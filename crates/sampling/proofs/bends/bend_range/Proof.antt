@@ -1,6 +1,6 @@
 -- `sampling::bends::bend_range` meets its contract: at each return, what the calls and the tests on the way to it say.
 use borrow.Author.Needs.{needs}
-use Rattle.sampling.specs.Bends.{bend-range, bend-range-holds}
+use Rattle.sampling.specs.Bends.{bend-range}
 use Rattle.sampling.proofs.Pushed.{none, then}
 use Rattle.sampling.proofs.bends.bend_range.Statement.{statement}
 use Rattle.sampling.proofs.bends.bend_range.Tie as tie
@@ -18,22 +18,17 @@ bend-at-requires-2 : tie.Need-bend-at-requires-2
 bend-at-requires-2 c κs = (search needs, search needs)
 
 returns : tie.Need-returns
-unfolding bend-range bend-range-holds
-returns c = (simp (c .enum-told .given .1), simp (c .enum-told .given .1) (none 120 _ _))
+unfolding bend-range
+returns c = simp (c .enum-told .given .1) (none 120 _ _)
 
 same-length : tie.Need-same-length
 same-length c = search needs
 
 returns-2 : tie.Need-returns-2
-unfolding bend-range bend-range-holds
+unfolding bend-range
 returns-2 c =
-    let c5 = c .before .before .before .before .before in
-    let c10 = c5 .before .before .before .before .before in (
-      simp (c10 .before .range .given .1)
-          (rw (← (c5 .before .before .before .bend-at .ensures) .0, ← (c .before .before .before .before .bend-at2 .ensures) .0)),
-      simp (c10 .before .range .given .1) (then ((c5 .before .before .before .bend-at .ensures) .1)
-          ((c .before .before .before .before .bend-at2 .ensures) .1)),
-    )
+    let c6 = c .before .before .before .before .before .before in
+    simp (c6 .before .before .before .range .given .1) (then (c6 .bend-at .ensures) (c .before .before .bend-at2 .ensures))
 
 pub bend-range-spec : {M : Type 1} → statement M
 bend-range-spec = tie.close (tie.spec enum-told enum-known-range bend-at-requires bend-at-requires-2 returns same-length returns-2)

@@ -1,30 +1,29 @@
 -- `sampling::critical_slices::critical` meets its contract. The loop's invariant: what the first j curves give is in the cuts, and their polynomials are kept.
 use Prim.Native.Nat.{_-_, _≤_}
 use native.Mathlib.Omega.{arith}
-use mathlib.Core.Path.{_≡_, refl, sym, _∙_}
+use mathlib.Core.Path.{_≡_, refl, _∙_}
 use lib.ListN.{length, take}
 use borrow.Author.Needs.{needs}
-use Rattle.sampling.specs.Laws.CriticalSlices.{critical-nil, critical-holds-nil}
+use Rattle.sampling.specs.Laws.CriticalSlices.{critical-nil}
 use Rattle.sampling.specs.Promises.Curves.{most-curves}
 use Rattle.sampling.specs.Promises.Grown.{Grown}
 use Rattle.sampling.specs.CriticalSlices as Of
 use Rattle.sampling.proofs.Grown.{none}
-use Rattle.sampling.proofs.CriticalSlices.{Known, known-none, known-more, critical-hold, critical-grown}
+use Rattle.sampling.proofs.CriticalSlices.{Known, known-none, known-more, critical-grown}
 use Rattle.sampling.proofs.critical_slices.critical.Statement.{statement}
 use Rattle.sampling.proofs.critical_slices.critical.Tie as tie
 
 abbrev Inv-loop : tie.InvT-loop
-Inv-loop work₀ c n at known₀ state₀ holds₀ j₀ work known state holds j =
+Inv-loop work₀ c n at known₀ state₀ j₀ work known state j =
     (j ≤ n) × (length at ≡ most-curves) × (length work ≡ length work₀) × (length known ≡ most-curves) × Known (c .origin) (take j known) (take j at)
-    × (holds ≡ Of.critical-holds c (take j at)) × Grown (Of.critical c (take j at)) work₀ state₀ work state
+    × Grown (Of.critical c (take j at)) work₀ state₀ work state
 
 abbrev μ-loop : tie.MeasureT-loop
-μ-loop work₀ c n at known₀ state₀ holds₀ j₀ work known state holds j = n - j
+μ-loop work₀ c n at known₀ state₀ j₀ work known state j = n - j
 
 loop-holds : tie.Need-loop-holds Inv-loop μ-loop
 loop-holds c =
-    let o = c .before .args .c in
-    (search needs, search needs, refl, search needs, known-none, sym (critical-holds-nil o), rw (critical-nil o) none)
+    (search needs, search needs, refl, search needs, known-none, rw (critical-nil (c .before .args .c)) none)
 
 mul-curve : tie.Need-mul-curve Inv-loop μ-loop
 mul-curve c = search needs
@@ -44,7 +43,7 @@ chart-roots-requires c κs = search needs
 meetings-requires : tie.Need-meetings-requires Inv-loop μ-loop
 meetings-requires c κs =
     let l = c .before .before .before .before .before .before .before .before .before in
-    (omega arith, l .loop .inv .4 .long)
+    (omega arith, l .loop .inv .4 .long, l .before .before .pre .1)
 
 mul-known : tie.Need-mul-known Inv-loop μ-loop
 mul-known c = search needs
@@ -60,7 +59,7 @@ loop-less c = search needs
 
 loop-again : tie.Need-loop-again Inv-loop μ-loop
 loop-again c =
-    let m = c .before .before .before .before in
+    let m = c .before .before in
     let g = m .before .before .before .before in
     let q = g .before .before .before in
     let l = q .before .before .before in
@@ -74,11 +73,10 @@ loop-again c =
     let j = l .loop .j in (
       search needs,
       i .1,
-      t .1 .same ∙ r .1 .same ∙ i .2,
+      t .same ∙ r .same ∙ i .2,
       search needs,
       known-more (a .c .origin) (l .loop .known) (a .t4) j k _ (omega arith) (omega arith) e (i .4),
-      critical-hold (a .c) (a .t4) (l .loop .known) j _ (omega arith) (i .4) k e _ f _ _ _ (i .5) (r .0) (t .0),
-      critical-grown (a .c) (a .t4) (l .loop .known) j _ (omega arith) (i .4) k e _ f (i .6) (r .1) (t .1),
+      critical-grown (a .c) (a .t4) (l .loop .known) j _ (omega arith) (i .4) k e _ f (i .5) r t,
     )
 
 same-length : tie.Need-same-length Inv-loop μ-loop
@@ -88,7 +86,7 @@ returns : tie.Need-returns Inv-loop μ-loop
 returns c =
     let l = c .before in
     let e : l .before .before .args .n ≡ l .loop .j = omega arith in
-    rw e (l .loop .inv .5, l .loop .inv .6)
+    rw e (l .loop .inv .5)
 
 pub critical-spec : {M : Type 1} → statement M
 critical-spec =

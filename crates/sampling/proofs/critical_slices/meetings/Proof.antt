@@ -10,21 +10,21 @@ use Rattle.sampling.specs.Promises.Grown.{Grown}
 use Rattle.sampling.specs.Promises.Numerators.{first-three, first-threes, Threes, meetings}
 use Rattle.sampling.specs.CriticalSlices as Of
 use Rattle.sampling.proofs.Grown.{none}
-use Rattle.sampling.proofs.CriticalSlices.{three, met-hold, met-grown}
+use Rattle.sampling.proofs.CriticalSlices.{three, met-grown}
 use Rattle.sampling.proofs.critical_slices.meetings.Statement.{statement}
 use Rattle.sampling.proofs.critical_slices.meetings.Tie as tie
 
 abbrev Inv-loop : tie.InvT-loop
-Inv-loop work₀ c later k at state₀ holds₀ i₀ work state holds i =
-    (i ≤ later) × (length at ≡ most-curves) × (length work ≡ length work₀) × (holds ≡ Of.charts-hold c (meetings (first-threes (take i at)) (first-three k)))
+Inv-loop work₀ c later k at state₀ i₀ work state i =
+    (i ≤ later) × (length at ≡ most-curves) × (length work ≡ length work₀)
     × Grown (flatMap (Of.chart-roots c) (meetings (first-threes (take i at)) (first-three k))) work₀ state₀ work state
 
 abbrev μ-loop : tie.MeasureT-loop
-μ-loop work₀ c later k at state₀ holds₀ i₀ work state holds i = later - i
+μ-loop work₀ c later k at state₀ i₀ work state i = later - i
 
 loop-holds : tie.Need-loop-holds Inv-loop μ-loop
-unfolding Of.charts-hold flatMap
-loop-holds c = (search needs, search needs, refl, refl, none)
+unfolding flatMap
+loop-holds c = (search needs, search needs, refl, none)
 
 mul-e : tie.Need-mul-e Inv-loop μ-loop
 mul-e c = search needs
@@ -49,7 +49,7 @@ threes s = search three
 
 loop-again : tie.Need-loop-again Inv-loop μ-loop
 loop-again c =
-    let g = c .before .before .before in
+    let g = c .before .before in
     let l = g .before .before .before .before .before in
     let o = l .before .before in
     let a = o .args in
@@ -59,9 +59,8 @@ loop-again c =
     let i = l .loop .earlier in (
       search needs,
       l .loop .inv .1,
-      r .1 .same ∙ l .loop .inv .2,
-      met-hold (a .c) (a .t4) i (a .later) _ (a .k) (search needs) (omega arith) (o .pre .1) t _ f _ _ (l .loop .inv .3) (r .0),
-      met-grown (a .c) (a .t4) i (a .later) _ (a .k) (search needs) (omega arith) (o .pre .1) t _ f (l .loop .inv .4) (r .1),
+      r .same ∙ l .loop .inv .2,
+      met-grown (a .c) (a .t4) i (a .later) _ (a .k) (search needs) (omega arith) (o .pre .1) t _ f (l .loop .inv .3) r,
     )
 
 same-length : tie.Need-same-length Inv-loop μ-loop
@@ -71,7 +70,7 @@ returns : tie.Need-returns Inv-loop μ-loop
 returns c =
     let l = c .before in
     let e : l .before .before .args .later ≡ l .loop .earlier = omega arith in
-    rw e (l .loop .inv .3, l .loop .inv .4)
+    rw e (l .loop .inv .3)
 
 pub meetings-spec : {M : Type 1} → statement M
 meetings-spec =

@@ -1,9 +1,12 @@
 -- `sampling::j1j2free::cut_halves` meets its contract: the two lists, by what `half_cuts` says of each.
-use mathlib.Core.Path.{refl, sym, subst}
+use mathlib.Core.Path.{sym, subst}
 use lib.Dec.{T}
+use lib.Ieee.{Float}
 use borrow.Author.Needs.{needs}
+use Rattle.sampling.specs.CriticalSlices.{chart}
 use Rattle.sampling.specs.J1j2free.{curves, bends}
-use Rattle.sampling.proofs.j1j2free.Both.{starts, refused, holds}
+use Rattle.sampling.specs.Promises.Charts.{Bounded}
+use Rattle.sampling.proofs.j1j2free.Both.{starts, laid-halves}
 use Rattle.sampling.proofs.j1j2free.cut_halves.Statement.{statement}
 use Rattle.sampling.proofs.j1j2free.cut_halves.Tie as tie
 
@@ -23,21 +26,22 @@ slice-aggregate-half-cuts : tie.Need-slice-aggregate-half-cuts
 slice-aggregate-half-cuts c = search needs
 
 half-cuts-requires : tie.Need-half-cuts-requires
-half-cuts-requires c κs = search needs
+half-cuts-requires c κs =
+    let s = c .before .before .before .before .before .before .before .before in
+    (search needs, search needs, subst (λ (m : Float). Bounded (chart (s .args .lower) m)) (sym (c .before .before .middle .ensures)) (s .pre .0))
 
 start-of-requires : tie.Need-start-of-requires
 start-of-requires c κs = search needs
 
 mul-half-cuts : tie.Need-mul-half-cuts
-mul-half-cuts c = let h = starts _ _ _ (c .before .before .before .half-cuts .result .cuts) _ (c .start-of .ensures)
-    (c .before .before .before .half-cuts .ensures .1) in search (needs, h)
+mul-half-cuts c = let h = starts _ _ _ (c .before .before .before .half-cuts .result) _ (c .start-of .ensures)
+    (c .before .before .before .half-cuts .ensures) in search (needs, h)
 
 sub-half-cuts : tie.Need-sub-half-cuts
-sub-half-cuts c = starts _ _ _ (c .before .before .before .half-cuts .result .cuts) _ (c .start-of .ensures) (c .before .before .before .half-cuts .ensures .1)
+sub-half-cuts c = starts _ _ _ (c .before .before .before .half-cuts .result) _ (c .start-of .ensures) (c .before .before .before .half-cuts .ensures)
 
 part-half-cuts-start : tie.Need-part-half-cuts-start
-part-half-cuts-start c = starts _ _ _ (c .before .before .before .half-cuts .result .cuts) _ (c .start-of .ensures)
-    (c .before .before .before .half-cuts .ensures .1)
+part-half-cuts-start c = starts _ _ _ (c .before .before .before .half-cuts .result) _ (c .start-of .ensures) (c .before .before .before .half-cuts .ensures)
 
 part-half-cuts-end : tie.Need-part-half-cuts-end
 part-half-cuts-end c = search needs
@@ -46,7 +50,10 @@ slice-aggregate-half-cuts-2 : tie.Need-slice-aggregate-half-cuts-2
 slice-aggregate-half-cuts-2 c = search needs
 
 half-cuts-requires-2 : tie.Need-half-cuts-requires-2
-half-cuts-requires-2 c κs = search needs
+half-cuts-requires-2 c κs =
+    let f = c .before .before .before .before .before .before .before .before in
+    let s = f .before .before .before .before .before .before in
+    (search needs, search needs, subst (λ (m : Float). Bounded (chart m (s .args .upper))) (sym (f .middle .ensures)) (s .pre .1))
 
 halves-of-requires : tie.Need-halves-of-requires
 halves-of-requires c κs = search needs
@@ -57,37 +64,16 @@ same-length c = search needs
 returns : tie.Need-returns
 unfolding curves bends
 returns c =
-    let second = c .before .before .before .before .before .before .before in
+    let second = c .before .before .before in
     let first = second .before .before .before .before .before .before in
     let found = first .before .before .before .before .before .before in
     let start = found .before .before .before in
     let a = start .args in
-    holds (a .t) (a .lower) (a .upper) _ (subst T (sym (start .good .1 .1 .0 .1)) tt) (subst T (sym (start .good .1 .1 .1 .0 .1)) tt)
+    laid-halves (a .t) (a .lower) (a .upper) _ (subst T (sym (start .good .1 .1 .0 .1)) tt) (subst T (sym (start .good .1 .1 .1 .0 .1)) tt)
     (first .before .before .before .middle .ensures)
-    _ (first .before .before .before .before .boundaries .ensures .1) _ (found .bend-slices .ensures .1 .front)
-    _ _ _ (found .bend-slices .ensures .0) (first .half-cuts .ensures .0) (second .half-cuts2 .ensures .0)
-    _ _ _ (first .half-cuts .result .cuts) (second .half-cuts2 .result .cuts) _ (second .before .before .before .start-of .ensures)
-    (first .half-cuts .ensures .1) (second .half-cuts2 .ensures .1)
-    (c .before .if1 .taken) (c .halves-of .result) (c .halves-of .ensures)
-
-same-length-2 : tie.Need-same-length-2
-same-length-2 c = search needs
-
-returns-2 : tie.Need-returns-2
-unfolding curves bends
-returns-2 c =
-    let second = c .before .before .before .before .before .before in
-    let first = second .before .before .before .before .before .before in
-    let found = first .before .before .before .before .before .before in
-    let start = found .before .before .before in
-    let a = start .args in (
-      refused (a .t) (a .lower) (a .upper) _ (subst T (sym (start .good .1 .1 .0 .1)) tt) (subst T (sym (start .good .1 .1 .1 .0 .1)) tt)
-          (first .before .before .before .middle .ensures)
-          _ (first .before .before .before .before .boundaries .ensures .1) _ (found .bend-slices .ensures .1 .front)
-          _ _ _ (found .bend-slices .ensures .0) (first .half-cuts .ensures .0) (second .half-cuts2 .ensures .0)
-          (c .if1 .left) _,
-      refl,
-    )
+    _ (first .before .before .before .before .boundaries .ensures .1) _ (found .bend-slices .ensures .front)
+    _ _ _ (first .half-cuts .result) (second .half-cuts2 .result) _ (second .before .before .before .start-of .ensures)
+    (first .half-cuts .ensures) (second .half-cuts2 .ensures) (c .halves-of .result) (c .halves-of .ensures)
 
 pub cut-halves-spec : {M : Type 1} → statement M
 cut-halves-spec =
@@ -108,6 +94,4 @@ cut-halves-spec =
     half-cuts-requires-2
     halves-of-requires
     same-length
-    returns
-    same-length-2
-    returns-2)
+    returns)

@@ -12,14 +12,8 @@ clear-requires c κs = search needs
 enum-told-2 : tie.Need-enum-told-2
 enum-told-2 c = search needs
 
-clear-requires-2 : tie.Need-clear-requires-2
-clear-requires-2 c κs = search needs
-
 enum-told-3 : tie.Need-enum-told-3
 enum-told-3 c = search needs
-
-enum-told-4 : tie.Need-enum-told-4
-enum-told-4 c = search needs
 
 same-length : tie.Need-same-length
 same-length c = search needs
@@ -27,19 +21,11 @@ same-length c = search needs
 returns : tie.Need-returns
 returns c = simp (c .before .before .before .before .enum-told .given .1) (c .before .before .clear .ensures)
 
-same-length-2 : tie.Need-same-length-2
-same-length-2 c = search needs
-
 returns-2 : tie.Need-returns-2
-returns-2 c = simp (c .before .before .before .before .enum-told2 .given .1) (c .before .before .clear2 .ensures)
+returns-2 c = search needs
 
 returns-3 : tie.Need-returns-3
 returns-3 c = search needs
 
-returns-4 : tie.Need-returns-4
-returns-4 c = search needs
-
 pub clear-unlaid-spec : {M : Type 1} → statement M
-clear-unlaid-spec =
-    tie.close
-    (tie.spec enum-told clear-requires enum-told-2 clear-requires-2 enum-told-3 enum-told-4 same-length returns same-length-2 returns-2 returns-3 returns-4)
+clear-unlaid-spec = tie.close (tie.spec enum-told clear-requires enum-told-2 enum-told-3 same-length returns returns-2 returns-3)

@@ -1,8 +1,8 @@
 -- `sampling::plan::count` meets its contract: by what came of the cuts.
-use borrow.Author.Needs.{needs}
-use mathlib.Core.Path.{sym, ap, subst, _∙_}
 use native.Mathlib.Omega.{arith}
+use mathlib.Core.Path.{sym, ap, subst, _∙_}
 use lib.ListN.{length}
+use borrow.Author.Needs.{needs}
 use Rattle.sampling.specs.Promises.Stream.{start}
 use Rattle.sampling.specs.Promises.Plan.{to-come, Ready}
 use Rattle.sampling.specs.Laws.Plan.{all-samples-length}
@@ -12,9 +12,6 @@ use Rattle.sampling.proofs.plan.count.Tie as tie
 
 enum-told : tie.Need-enum-told
 enum-told c = search needs
-
-enum-told-2 : tie.Need-enum-told-2
-enum-told-2 c = search needs
 
 enum-known-plan : tie.Need-enum-known-plan
 enum-known-plan c = search needs
@@ -36,10 +33,7 @@ returns : tie.Need-returns
 returns c = search needs
 
 returns-2 : tie.Need-returns-2
-returns-2 c = search needs
-
-returns-3 : tie.Need-returns-3
-returns-3 c =
+returns-2 c =
     let s = c .before .before .before .before .before in
     let e = c .before .before .plan .given .1 in
     let w = s .args .work .now in
@@ -47,12 +41,12 @@ returns-3 c =
     ∙ sym (all-samples-length (c .before .before .plan .given .0 .0) w (subst (λ (p : Plan). Ready p w) e (s .pre)))
     ∙ ap (λ (p : Plan). length (to-come p w start)) (sym e)
 
-returns-4 : tie.Need-returns-4
-returns-4 c =
+returns-3 : tie.Need-returns-3
+returns-3 c =
     let w = c .before .before .before .before .before .args .work .now in
     c .count-slices .ensures ∙ ap (λ (p : Plan). length (to-come p w start)) (sym (c .before .before .plan2 .given .1))
 
 pub count-spec : {M : Type 1} → statement M
 count-spec =
     tie.close
-    (tie.spec enum-told enum-told-2 enum-known-plan angle-count-requires enum-known-plan-2 count-slices-requires returns returns-2 returns-3 returns-4)
+    (tie.spec enum-told enum-known-plan angle-count-requires enum-known-plan-2 count-slices-requires returns returns-2 returns-3)

@@ -1,5 +1,9 @@
 -- `sampling::plan::cut` meets its contract: by the job's kind.
+use mathlib.Core.Path.{sym, subst}
 use borrow.Author.Needs.{needs}
+use Rattle.sampling.specs.J1j2free.{folded}
+use Rattle.sampling.specs.Promises.Charts.{Charted}
+use Rattle.sampling.specs.declared.j1j2free.Folded.{Folded}
 use Rattle.sampling.proofs.plan.ByKind.{by-cut}
 use Rattle.sampling.proofs.plan.cut.Statement.{statement}
 use Rattle.sampling.proofs.plan.cut.Tie as tie
@@ -29,7 +33,10 @@ folded-of-requires : tie.Need-folded-of-requires
 folded-of-requires c κs = search needs
 
 cut-requires-3 : tie.Need-cut-requires-3
-cut-requires-3 c κs = search needs
+unfolding folded
+cut-requires-3 c κs =
+    let kind = c .before .before .enum-told3 .given .1 in
+    subst (λ (t : Folded). Charted (t .range1)) (sym (c .folded-of .ensures)) (c .before .before .before .before .before .pre kind)
 
 same-length : tie.Need-same-length
 same-length c = search needs

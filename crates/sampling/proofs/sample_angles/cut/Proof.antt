@@ -5,7 +5,7 @@ use native.Mathlib.Omega.{arith}
 use lib.ListN.{length}
 use lib.Ieee.{ofBits}
 use borrow.Author.Needs.{needs}
-use Rattle.sampling.specs.SampleAngles.{hold, cut-count, first-cuts, second-cuts, third-cuts, roots, intervals}
+use Rattle.sampling.specs.SampleAngles.{cut-count, first-cuts, second-cuts, third-cuts, roots, intervals}
 use Rattle.sampling.specs.Promises.Plan.{free-plan, free-cuts}
 use Rattle.sampling.proofs.Laid.{all-three}
 use Rattle.sampling.proofs.sample_angles.cut.Statement.{statement}
@@ -33,29 +33,22 @@ same-length : tie.Need-same-length
 same-length c = search needs
 
 returns : tie.Need-returns
-unfolding hold cut-count first-cuts second-cuts third-cuts free-plan free-cuts roots intervals ofBits
+unfolding cut-count first-cuts second-cuts third-cuts free-plan free-cuts roots intervals ofBits
 returns c =
-    let found = c .before .before .before .before .before .before .before .before .all-roots .ensures in
+    let c5 = c .before .before .before .before .before in
+    let c9 = c5 .before .before .before .before in
     simp (
-      ← c .before .before .before .before .before .before .before .before .before .before .before .is-finite .ensures,
-      c .before .before .before .before .before .before .before .before .before .before .if1 .taken,
-      ← found .0,
-      c .before .before .before .before .before .before .if2 .taken,
-      ← found .1 .front,
-      ← c .before .before .before .before .before .wrist-limit-intervals .ensures,
+      ← c9 .before .is-finite .ensures,
+      c9 .if1 .taken,
+      ← c5 .before .before .all-roots .ensures .front,
+      ← c5 .wrist-limit-intervals .ensures,
     ) (c .before .before .cut-intervals .ensures)
 
 returns-2 : tie.Need-returns-2
-unfolding hold
-returns-2 c =
-    let c5 = c .before .before .before .before .before in
-    (simp (← c5 .is-finite .ensures, c .before .before .before .before .if1 .taken, ← c .before .before .all-roots .ensures .0, c .if2 .left), refl)
-
-returns-3 : tie.Need-returns-3
-unfolding hold cut-count first-cuts second-cuts third-cuts free-plan free-cuts
-returns-3 c = simp (← c .before .is-finite .ensures, c .if1 .left)
+unfolding cut-count first-cuts second-cuts third-cuts free-plan free-cuts
+returns-2 c = simp (← c .before .is-finite .ensures, c .if1 .left)
     (all-three [] [] [] (length (c .before .before .before .args .work .now)) 0 0 0 refl refl refl (omega arith), refl)
 
 pub cut-spec : {M : Type 1} → statement M
 cut-spec = tie.close (tie.spec is-finite-requires slice-aggregate-all-roots all-roots-requires wrist-limit-intervals-requires
-    slice-aggregate-cut-intervals cut-intervals-requires same-length returns returns-2 returns-3)
+    slice-aggregate-cut-intervals cut-intervals-requires same-length returns returns-2)

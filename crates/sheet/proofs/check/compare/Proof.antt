@@ -1,7 +1,6 @@
 -- `sheet::check::compare` meets its contract: at each return, what the calls and the tests on the way to it say.
-use borrow.Author.Needs.{needs}
 use mathlib.Core.Path.{sym, _∙_}
-use mathlib.Core.Bool.{true, false}
+use borrow.Author.Needs.{needs}
 use borrow.Author.Tests.{not-true, not-false}
 use Rattle.sheet.specs.Refusals.{need}
 use Rattle.sheet.specs.Promises.Plan.{compared}
@@ -25,10 +24,10 @@ returns-2 c =
     let s = c .before .before .before .before .before .before .before in
     let a = s .args in
     let u = sym (c .before .before .before .unread-zero .ensures) ∙ not-false _ (c .before .before .if1 .left) in
-    rw (u, fits-no (a .request .now) (a .plan) (a .work .now) (s .pre .1 .0) (sym (c .before .is-short .ensures) ∙ c .if2 .taken))
+    rw (u, fits-no (a .request .now) (a .plan) (a .work .now) (s .pre .1) (sym (c .before .is-short .ensures) ∙ c .if2 .taken))
 
 same-angles-requires : tie.Need-same-angles-requires
-same-angles-requires c = λ κs. c .before .before .before .before .before .before .before .pre .1 .0 .ready
+same-angles-requires c = λ κs. c .before .before .before .before .before .before .before .pre .1 .ready
 
 returns-3 : tie.Need-returns-3
 unfolding compared need
@@ -37,8 +36,8 @@ returns-3 c =
     let a = s .args in
     let u = sym (c .before .before .before .before .before .unread-zero .ensures) ∙ not-false _ (c .before .before .before .before .if1 .left) in
     let f = sym (c .before .before .before .is-short .ensures) ∙ c .before .before .if2 .left in
-    let k = fits-yes (a .request .now) (a .plan) (a .work .now) (s .pre .1 .0) (s .pre .1 .1) f in
-    let t = found-items (a .request .now) (a .plan) (a .work .now) (s .pre .1 .0) (s .pre .1 .1) f in
+    let k = fits-yes (a .request .now) (a .plan) (a .work .now) (s .pre .1) f in
+    let t = found-items (a .request .now) (a .plan) (a .work .now) (s .pre .1) f in
     let q = sym (c .before .same-angles .ensures) ∙ not-true _ (c .if3 .taken) in
     rw (u, k, ← t, q)
 
@@ -49,8 +48,8 @@ returns-4 c =
     let a = s .args in
     let u = sym (c .before .before .before .before .before .unread-zero .ensures) ∙ not-false _ (c .before .before .before .before .if1 .left) in
     let f = sym (c .before .before .before .is-short .ensures) ∙ c .before .before .if2 .left in
-    let k = fits-yes (a .request .now) (a .plan) (a .work .now) (s .pre .1 .0) (s .pre .1 .1) f in
-    let t = found-items (a .request .now) (a .plan) (a .work .now) (s .pre .1 .0) (s .pre .1 .1) f in
+    let k = fits-yes (a .request .now) (a .plan) (a .work .now) (s .pre .1) f in
+    let t = found-items (a .request .now) (a .plan) (a .work .now) (s .pre .1) f in
     let q = sym (c .before .same-angles .ensures) ∙ not-false _ (c .if3 .left) in
     rw (u, k, ← t, q)
 

@@ -1,10 +1,8 @@
 -- `sheet::plan::plan_request` meets its contract: at each return, what the calls and the tests on the way to it say.
-use borrow.Author.Needs.{needs}
-use mathlib.Core.Path.{sym, ap, _∙_}
+use mathlib.Core.Path.{sym, ap, subst, _∙_}
 use lib.ListN.{length}
-use lib.Ieee.{Float}
-use mathlib.Core.List.{List}
-use Rattle.sampling.specs.Promises.Plan.{plan, work-after}
+use borrow.Author.Needs.{needs}
+use Rattle.sampling.specs.Promises.Plan.{Drawable, plan, work-after}
 use Rattle.sampling.specs.declared.job.Job.{Job}
 use Rattle.sheet.specs.Fields.{matrix, matrix-by}
 use Rattle.sheet.proofs.plan.plan_request.Statement.{statement}
@@ -17,10 +15,10 @@ read-job-requires : tie.Need-read-job-requires
 unfolding matrix matrix-by
 read-job-requires c =
     let s = c .before .before .before in
-    λ κs. (s .pre .0, c .from-quat .ensures ∙ sym (ap matrix-by (s .pre .1)))
+    λ κs. (s .pre .0, c .from-quat .ensures ∙ sym (ap matrix-by (s .pre .1 .0)))
 
 plan-of-requires : tie.Need-plan-of-requires
-plan-of-requires c = search needs
+plan-of-requires c = λ κs. subst Drawable (sym (c .before .read-job .ensures)) (c .before .before .before .before .before .pre .1 .1)
 
 same-length : tie.Need-same-length
 same-length c = search needs

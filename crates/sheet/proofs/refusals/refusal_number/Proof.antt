@@ -36,9 +36,6 @@ enum-told-10 c = search needs
 enum-told-11 : tie.Need-enum-told-11
 enum-told-11 c = search needs
 
-enum-told-12 : tie.Need-enum-told-12
-enum-told-12 c = search needs
-
 returns : tie.Need-returns
 returns c = simp (c .enum-told .given .1)
 
@@ -72,10 +69,6 @@ returns-10 c = simp (c .enum-told10 .given .1)
 returns-11 : tie.Need-returns-11
 returns-11 c = simp (c .enum-told11 .given .1)
 
-returns-12 : tie.Need-returns-12
-returns-12 c = simp (c .enum-told12 .given .1)
-
 pub refusal-number-spec : {M : Type 1} → statement M
 refusal-number-spec = tie.close (tie.spec enum-told enum-told-2 enum-told-3 enum-told-4 enum-told-5 enum-told-6 enum-told-7 enum-told-8 enum-told-9
-    enum-told-10 enum-told-11 enum-told-12 returns returns-2 returns-3 returns-4 returns-5 returns-6 returns-7 returns-8 returns-9 returns-10 returns-11
-    returns-12)
+    enum-told-10 enum-told-11 returns returns-2 returns-3 returns-4 returns-5 returns-6 returns-7 returns-8 returns-9 returns-10 returns-11)

@@ -9,7 +9,7 @@ use Rattle.sheet.specs.Edition.{newest}
 use Rattle.sheet.specs.declared.edition.Edition.{Edition}
 use Rattle.sheet.specs.declared.validate.Tested.{Tested}
 use Rattle.sheet.specs.Promises.Tested.{tested}
-use Rattle.sheet.specs.Laws.Plan.{planned-for, left-passed, left-refused, passed-answer, refused-answer}
+use Rattle.sheet.specs.Laws.Plan.{passed-drawable, planned-for, left-passed, left-refused, passed-answer, refused-answer}
 use Rattle.sheet.specs.Laws.Tested.{tested-passed, tested-unit}
 use Rattle.sheet.proofs.sample.run.Statement.{statement}
 use Rattle.sheet.proofs.sample.run.Tie as tie
@@ -31,7 +31,8 @@ plan-request-requires : tie.Need-plan-request-requires
 plan-request-requires c =
     let v = c .before .before .before .before in
     let e = now-newest _ (v .before .newest .ensures) (v .validate .ensures) ∙ c .before .before .t .given .1 in
-    λ κs. (omega (arith, tested-passed newest _ _ e .whole), tested-unit newest _ _ e)
+    let g = tested-passed newest _ _ e in
+    λ κs. (omega (arith, g .whole), (tested-unit newest _ _ e, passed-drawable _ g))
 
 finish-requires : tie.Need-finish-requires
 finish-requires c =
