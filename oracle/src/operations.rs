@@ -99,18 +99,16 @@ fn angles(fields: &Request, pose: &Pose) -> Sampled {
     }
 }
 
-/// Refusals 1 to 9 and 41 of an edition, or the angles.
+/// Refusals 1 to 8 and 41 of an edition, or the angles, for which no inner call of
+/// the root finder would be refused (change request 5).
 pub fn sampled(edition: Edition, bytes: &[u8]) -> Result<Sampled, i64> {
     if bytes.len() != edition.request_size() {
         return Err(1);
     }
     let (fields, pose) = accepted(bytes)?;
     let sampled = angles(&fields, &pose);
-    if sampled.notes.refused {
-        Err(9)
-    } else {
-        Ok(sampled)
-    }
+    debug_assert_eq!(sampled.notes.inner.refused, 0);
+    Ok(sampled)
 }
 
 /// The sheet that an edition lays out for a request and its angles.
@@ -147,18 +145,29 @@ pub fn sample(request: &[u8], work: &mut [f64], output: &mut [u8]) -> i64 {
     sampled.angles.len() as i64
 }
 
-/// Which of 21 to 23 refuses these coefficients and bounds.
-pub fn roots_refusal(coefficients: &[f64], lower: f64, upper: f64) -> Option<i64> {
-    let bound = |bound: f64| (-4.0..=4.0).contains(&bound);
+/// The most coefficients that Roots takes.
+pub const MOST_COEFFICIENTS: usize = 9;
+
+/// Whether bounds pass 22.
+pub fn bounds_hold(lower: f64, upper: f64) -> bool {
+    let within = |bound: f64| (-4.0..=4.0).contains(&bound);
+    within(lower) && within(upper) && lower <= upper
+}
+
+/// Whether a coefficient's part passes 23.
+pub fn part_holds(part: f64) -> bool {
     let most = f64::from_bits((1023 + 400) << 52);
-    if !coefficients.len().is_multiple_of(2) || coefficients.len() > 18 {
+    (-most..=most).contains(&part)
+}
+
+/// Which of 21 to 23 refuses these coefficients and bounds.
+fn roots_refusal(coefficients: &[f64], lower: f64, upper: f64) -> Option<i64> {
+    let length = coefficients.len();
+    if !length.is_multiple_of(2) || length > 2 * MOST_COEFFICIENTS {
         Some(21)
-    } else if !bound(lower) || !bound(upper) || lower > upper {
+    } else if !bounds_hold(lower, upper) {
         Some(22)
-    } else if coefficients
-        .iter()
-        .any(|part| !(-most..=most).contains(part))
-    {
+    } else if !coefficients.iter().all(|&part| part_holds(part)) {
         Some(23)
     } else {
         None

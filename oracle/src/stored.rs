@@ -74,7 +74,7 @@ pub fn line(lines: &mut impl Write, letter: char, words: &[u64], bytes: &[u8]) -
 /// Whether sampling a request of this edition, if it comes to that, takes few
 /// inner calls.
 pub fn is_small(edition: Edition, request: &[u8]) -> bool {
-    operations::sampled(edition, request).map_or(true, |sampled| sampled.notes.calls <= CALLS)
+    operations::sampled(edition, request).map_or(true, |sampled| sampled.notes.inner.calls <= CALLS)
 }
 
 /// Edition and request of a sheet; of one that is refused as 31 or 32, no byte.

@@ -1,4 +1,4 @@
-//! Document 01, 'Poses and curves to try', and change requests 1 and 2.
+//! Document 01, 'Poses and curves to try', and change requests 1, 2 and 5.
 
 use lemongully_oracle::constraints::Constraints;
 use lemongully_oracle::edition::{CORE, Edition};
@@ -6,10 +6,15 @@ use lemongully_oracle::float::{self, P};
 use lemongully_oracle::generate::names::name;
 use lemongully_oracle::generate::requests::Draft;
 use lemongully_oracle::generate::sheets::{one_angle, one_angle_named, put_trailer};
-use lemongully_oracle::kinematics_impl::{wrapped_angle, wrist_limit_intervals};
+use lemongully_oracle::glam::{DQuat, DVec3};
+use lemongully_oracle::kinematics_impl::{OPWKinematics, wrapped_angle, wrist_limit_intervals};
+use lemongully_oracle::observe;
 use lemongully_oracle::operations::{check, check_as, program_output, roots_op, sample};
 use lemongully_oracle::page::pages_output;
+use lemongully_oracle::parameters::opw_kinematics::Parameters;
+use lemongully_oracle::pose::Pose;
 use lemongully_oracle::request::{FROM, SIGNS, SIZE, TO};
+use lemongully_oracle::singularity::j1j2free;
 use lemongully_oracle::touching::Root::{self, Crossing, Touch};
 use lemongully_oracle::trig;
 
@@ -106,6 +111,48 @@ fn refusals_of_roots_in_order() {
         assert_eq!(roots_op(&square, -4.0, 4.0, room, kinds), -24);
     }
     assert_eq!((&*room, &*kinds), (&[0.0; 2], &[0; 2]));
+}
+
+#[test]
+fn an_inner_call_that_would_be_refused_is_seen() {
+    let refused = |high: &[f64], lower, upper| {
+        observe::reset();
+        let polynomial = high.iter().map(|&high| high.into()).collect();
+        observe::roots(polynomial, lower, upper);
+        observe::notes().inner.refused
+    };
+    let most = f64::from_bits(0x58F0000000000000);
+    let square = [-1.0, 0.0, 1.0];
+    assert_eq!(refused(&square, -4.0, 4.0), 0);
+    assert_eq!(refused(&[1.0; 9], -1.0, 1.0), 0);
+    assert_eq!(refused(&[1.0, -most.next_down()], -1.0, 1.0), 0);
+    for bound in [4.0f64.next_up(), -5.0, f64::INFINITY, f64::NAN] {
+        assert_eq!(refused(&square, -4.0, bound), 1);
+        assert_eq!(refused(&square, bound, 4.0), 1);
+    }
+    assert_eq!(refused(&[1.0; 10], -1.0, 1.0), 1);
+    for part in [most, -most, f64::INFINITY, f64::NAN] {
+        assert_eq!(refused(&[1.0, part], -1.0, 1.0), 1);
+    }
+}
+
+#[test]
+fn arm_angles_far_beyond_8_would_be_refused_inside() {
+    // Beyond 32 there is no sine, so a coefficient is a NaN.
+    let parameters = Parameters {
+        offsets: [0.0; 6],
+        sign_corrections: [1; 6],
+    };
+    let robot = OPWKinematics::of(parameters, None);
+    let rotation = DQuat::from_xyzw(0.1, 0.2, 0.3, 0.9);
+    let pose = Pose::try_from_parts(DVec3::ZERO, rotation).expect("a rotation");
+    let refused = |q3| {
+        observe::reset();
+        j1j2free::search(&robot, &pose, q3, &[0.0; 6], None);
+        observe::notes().inner.refused
+    };
+    assert_eq!(refused(8.0), 0);
+    assert!(refused(40.0) > 0);
 }
 
 #[test]

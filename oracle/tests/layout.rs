@@ -1,6 +1,7 @@
 //! The layout of a crate's `specs/` shows what a reader must believe: a file
 //! beside `Lib.antt` holds definitions, and imports files of definitions alone,
 //! so that nothing of a promise, an example or a law hides in what is believed.
+//! Some of them state what is proved, and no contract reaches those.
 //! `docs/TRUST.md` lists the files that the operations' contracts reach.
 
 use std::collections::{BTreeMap, BTreeSet};
@@ -9,6 +10,9 @@ use std::path::{Path, PathBuf};
 
 /// Folders of `specs/` that hold no definition to be believed.
 const BESIDE: [&str; 3] = ["Promises", "Examples", "Laws"];
+
+/// Files of `specs/` that state what is proved, or what was before, to compare with.
+const STATED: [&str; 4] = ["Demands", "InnerCalls", "RustOrder", "WithNine"];
 
 /// The operations: crate, file and function.
 const OPERATIONS: [(&str, &str, &str); 5] = [
@@ -36,11 +40,7 @@ fn definitions() -> Vec<PathBuf> {
         };
         for file in specs {
             let path = file.expect("a file").path();
-            let name = path
-                .file_stem()
-                .expect("a name")
-                .to_string_lossy()
-                .into_owned();
+            let name = name(&path);
             let folder = name == "Lib" || BESIDE.contains(&name.as_str());
             if path.extension().is_some_and(|e| e == "antt") && !folder {
                 found.push(path);
@@ -51,10 +51,24 @@ fn definitions() -> Vec<PathBuf> {
     found
 }
 
-/// Whether a line imports from a folder that is not to be believed.
-fn leaves(line: &str) -> bool {
+/// The name of a file.
+fn name(file: &Path) -> String {
+    file.file_stem().expect("a name").display().to_string()
+}
+
+/// The folders that a file of `specs/` imports nothing from. A statement may have
+/// words of promises, such as what holds of every element.
+fn shut(file: &Path) -> &'static [&'static str] {
+    match STATED.contains(&name(file).as_str()) {
+        true => &BESIDE[1..],
+        false => &BESIDE,
+    }
+}
+
+/// Whether a line imports from one of these folders.
+fn leaves(line: &str, folders: &[&str]) -> bool {
     line.trim_start().starts_with("use ")
-        && BESIDE
+        && folders
             .iter()
             .any(|folder| line.contains(&format!("specs.{folder}.")))
 }
@@ -69,7 +83,7 @@ fn definitions_import_definitions_alone() {
     );
     let mut wrong = Vec::new();
     for file in &files {
-        for line in text(file).lines().filter(|line| leaves(line)) {
+        for line in text(file).lines().filter(|line| leaves(line, shut(file))) {
             wrong.push(format!("{}: {line}", file.display()));
         }
     }
@@ -78,11 +92,12 @@ fn definitions_import_definitions_alone() {
 
 #[test]
 fn an_import_from_a_law_is_seen() {
-    assert!(leaves("use Rattle.float.specs.Laws.Within.{Within}"));
-    assert!(leaves(
-        "use Rattle.sampling.specs.Promises.Plan as Plan"
-    ));
-    assert!(!leaves("use Rattle.float.specs.Number.{abs}"));
+    let [pose, demands] = ["Pose", "Demands"].map(|name| shut(Path::new(name)));
+    let law = "use Rattle.float.specs.Laws.Within.{Within}";
+    assert!(leaves(law, pose) && leaves(law, demands));
+    let promise = "use Rattle.sampling.specs.Promises.Plan as Plan";
+    assert!(leaves(promise, pose) && !leaves(promise, demands));
+    assert!(!leaves("use Rattle.float.specs.Number.{abs}", pose));
 }
 
 /// The crate and the file's name, for an import of another file of `specs/`; none for the types that
@@ -142,6 +157,17 @@ fn reached() -> BTreeMap<String, BTreeMap<String, usize>> {
             .insert(file, text.lines().count());
     }
     found
+}
+
+#[test]
+fn contracts_reach_no_statement() {
+    let files: BTreeSet<String> = definitions().iter().map(|file| name(file)).collect();
+    for stated in STATED {
+        assert!(files.contains(stated), "no file is called {stated}");
+        for (crate_, reached) in reached() {
+            assert!(!reached.contains_key(stated), "{crate_} {stated}");
+        }
+    }
 }
 
 /// The rows of the table in `docs/TRUST.md`: crate, files, lines, names.

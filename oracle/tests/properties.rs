@@ -4,6 +4,7 @@ use lemongully_oracle::corpus::{self, Answer, Case};
 use lemongully_oracle::edition::{CORE, Edition, NAME, TRAILER};
 use lemongully_oracle::generate::requests::{self, Draft};
 use lemongully_oracle::generate::{Random, hostile, names, roots, sheets};
+use lemongully_oracle::observe::{self, Inner, LENT};
 use lemongully_oracle::request::{self, SIZE};
 use lemongully_oracle::{operations, page};
 use std::collections::BTreeSet;
@@ -273,6 +274,30 @@ fn angles_are_finite_and_within_two_turns() {
     }
 }
 
+/// Change request 5: within the domain Roots would refuse no inner call. The bounds
+/// stay beside ±1 and the parts far below 2^400.
+#[test]
+fn no_inner_call_is_refused() {
+    let mut inner = Inner::default();
+    for bytes in requests() {
+        if let Ok(found) = operations::sampled(Edition::NEWEST, &bytes) {
+            inner = inner.and(found.notes.inner);
+        }
+    }
+    let hostile = (0..HOSTILE).map(|index| hostile::case(SEED, index));
+    let checked = check_calls().map(Case::Check);
+    for case in checked.chain(hostile) {
+        observe::reset();
+        case.answer();
+        inner = inner.and(observe::notes().inner);
+    }
+    println!("{inner}");
+    assert_eq!(inner.refused, 0);
+    assert!(inner.calls > 20_000 && inner.coefficients == 9);
+    assert!((1.0..1.0 + 1.0e-9).contains(&inner.bound));
+    assert!(inner.part < 1.0e30 && inner.roots <= LENT);
+}
+
 /// A call of Roots: its answer, the result and the kinds.
 fn found(call: &roots::Call) -> (i64, Vec<f64>, Vec<u64>) {
     let Answer { number, words } = Case::Roots(call.clone()).answer();
@@ -419,7 +444,6 @@ fn hostile_calls_reach_every_answer() {
             accepted.insert(case.operation());
         }
     }
-    // Refusal 9 is not known to occur.
     let expected = [(1..=8), (10..=11), (21..=24), (31..=36), (41..=43)];
     let expected: Vec<i64> = expected.into_iter().flatten().collect();
     assert_eq!(refusals.into_iter().collect::<Vec<_>>(), expected);

@@ -1,12 +1,15 @@
 //! Differential runs: the proved library, linked, against the oracle, on the
 //! same inputs. `differential SECTION COUNT [SEED]` prints, for each function
 //! of the section, its name, the inputs and how many answers differ, with the
-//! first such input; its exit status is 1 if any do.
+//! first such input; its exit status is 1 if any do. Of the inner calls of the root
+//! finder it prints how many would be refused, and an input with such a call counts
+//! as one that differs.
 
 use lemongully_oracle::functions::operands::Operands;
 use lemongully_oracle::functions::{FUNCTIONS, Function};
 use lemongully_oracle::generate::{Random, decimals, pages, requests, roots, sheets};
 use lemongully_oracle::linked;
+use lemongully_oracle::observe::{self, Inner};
 use lemongully_oracle::operations::{check, roots_op, sample};
 use lemongully_oracle::page::{decimal_text, page_text};
 use lemongully_oracle::parts::{self, PARTS, Part};
@@ -19,6 +22,8 @@ struct Run {
     differences: u64,
     /// The first input that differs, with both answers.
     first: Option<String>,
+    /// The oracle's inner calls of the root finder.
+    inner: Inner,
 }
 
 /// The linked function of a name, on words.
@@ -71,6 +76,7 @@ fn float_runs(count: u64, seed: u64) -> Vec<Run> {
             inputs: count,
             differences,
             first,
+            inner: Inner::default(),
         }
     };
     FUNCTIONS.iter().map(run).collect()
@@ -134,6 +140,7 @@ fn remainder_runs(count: u64, seed: u64) -> Vec<Run> {
         inputs: count,
         differences,
         first,
+        inner: Inner::default(),
     }]
 }
 
@@ -159,6 +166,7 @@ fn polynomial_runs(count: u64, seed: u64) -> Vec<Run> {
         inputs: count,
         differences,
         first,
+        inner: Inner::default(),
     }]
 }
 
@@ -218,6 +226,7 @@ fn sampling_runs(count: u64, seed: u64) -> Vec<Run> {
             inputs: count,
             differences,
             first,
+            inner: Inner::default(),
         }
     };
     PARTS.iter().map(run).collect()
@@ -240,18 +249,26 @@ fn same_places(a: &[f64], b: &[f64]) -> bool {
     std::iter::zip(a, b).all(|(a, b)| a.to_bits() == b.to_bits())
 }
 
+/// The oracle's answer, and its inner calls.
+fn observed(oracle: impl FnOnce() -> i64) -> (i64, Inner) {
+    observe::reset();
+    (oracle(), observe::notes().inner)
+}
+
 /// The operation Sampling, for requests of these kinds: its answer, every work
 /// place and every byte of the output, all of which hold rubbish beforehand.
 fn sample_run(name: &'static str, kinds: &[u8], count: u64, seed: u64) -> Run {
     let (places, bytes) = (rubbish_places(seed, 4096), rubbish_bytes(seed, 32768));
-    let (mut differences, mut first) = (0, None);
+    let (mut differences, mut first, mut inner) = (0, None, Inner::default());
     for index in 0..count {
         let call = requests::call(seed, index, kinds);
         let mut work = [places[..call.work].to_vec(), places[..call.work].to_vec()];
         let mut output = [bytes[..call.output].to_vec(), bytes[..call.output].to_vec()];
-        let answer = sample(&call.request, &mut work[0], &mut output[0]);
+        let (answer, calls) = observed(|| sample(&call.request, &mut work[0], &mut output[0]));
+        inner = inner.and(calls);
         let linked = linked::sheet::sample(&call.request, &mut work[1], &mut output[1]);
-        if answer != linked || output[0] != output[1] || !same_places(&work[0], &work[1]) {
+        let same = answer == linked && output[0] == output[1] && same_places(&work[0], &work[1]);
+        if !same || calls.refused > 0 {
             differences += 1;
             first.get_or_insert_with(|| format!("{call:?}: {answer}, linked {linked}"));
         }
@@ -261,6 +278,7 @@ fn sample_run(name: &'static str, kinds: &[u8], count: u64, seed: u64) -> Run {
         inputs: count,
         differences,
         first,
+        inner,
     }
 }
 
@@ -268,13 +286,14 @@ fn sample_run(name: &'static str, kinds: &[u8], count: u64, seed: u64) -> Run {
 /// damaged: its answer and every work place.
 fn check_run(name: &'static str, kinds: &[u8], count: u64, seed: u64) -> Run {
     let places = rubbish_places(seed, 4096);
-    let (mut differences, mut first) = (0, None);
+    let (mut differences, mut first, mut inner) = (0, None, Inner::default());
     for index in 0..count {
         let call = sheets::call(seed, index, kinds);
         let mut work = [places[..call.work].to_vec(), places[..call.work].to_vec()];
-        let answer = check(&call.sheet, &mut work[0]);
+        let (answer, calls) = observed(|| check(&call.sheet, &mut work[0]));
+        inner = inner.and(calls);
         let linked = linked::sheet::check(&call.sheet, &mut work[1]);
-        if answer != linked || !same_places(&work[0], &work[1]) {
+        if answer != linked || !same_places(&work[0], &work[1]) || calls.refused > 0 {
             differences += 1;
             first.get_or_insert_with(|| format!("{call:02X?}: {answer}, linked {linked}"));
         }
@@ -284,6 +303,7 @@ fn check_run(name: &'static str, kinds: &[u8], count: u64, seed: u64) -> Run {
         inputs: count,
         differences,
         first,
+        inner,
     }
 }
 
@@ -291,14 +311,17 @@ fn check_run(name: &'static str, kinds: &[u8], count: u64, seed: u64) -> Run {
 /// every byte of the text, all of which hold rubbish beforehand.
 fn page_run(name: &'static str, kinds: &[u8], count: u64, seed: u64) -> Run {
     let (places, bytes) = (rubbish_places(seed, 4096), rubbish_bytes(seed, 4096));
-    let (mut differences, mut first) = (0, None);
+    let (mut differences, mut first, mut inner) = (0, None, Inner::default());
     for index in 0..count {
         let call = pages::call(seed, index, kinds);
         let mut work = [places[..call.work].to_vec(), places[..call.work].to_vec()];
         let mut text = [bytes[..call.text].to_vec(), bytes[..call.text].to_vec()];
-        let answer = page_text(&call.sheet, call.page, &mut work[0], &mut text[0]);
+        let (answer, calls) =
+            observed(|| page_text(&call.sheet, call.page, &mut work[0], &mut text[0]));
+        inner = inner.and(calls);
         let linked = linked::page::text(&call.sheet, call.page, &mut work[1], &mut text[1]);
-        if answer != linked || text[0] != text[1] || !same_places(&work[0], &work[1]) {
+        let same = answer == linked && text[0] == text[1] && same_places(&work[0], &work[1]);
+        if !same || calls.refused > 0 {
             differences += 1;
             first.get_or_insert_with(|| format!("{call:02X?}: {answer}, linked {linked}"));
         }
@@ -308,6 +331,7 @@ fn page_run(name: &'static str, kinds: &[u8], count: u64, seed: u64) -> Run {
         inputs: count,
         differences,
         first,
+        inner,
     }
 }
 
@@ -335,6 +359,7 @@ fn decimal_runs(count: u64, seed: u64) -> Vec<Run> {
         inputs: count,
         differences,
         first,
+        inner: Inner::default(),
     }]
 }
 
@@ -382,6 +407,9 @@ fn main() -> ExitCode {
         println!("{} {} {}", run.name, run.inputs, run.differences);
         if let Some(first) = &run.first {
             println!("    first {first}");
+        }
+        if run.inner.calls > 0 {
+            println!("    {}", run.inner);
         }
     }
     ExitCode::from(u8::from(runs.iter().any(|run| run.differences > 0)))

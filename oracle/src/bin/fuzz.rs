@@ -2,14 +2,16 @@
 //! call is compared with what 01 and 02 promise and with the oracle's: the answer,
 //! every byte of every lent slice, what stands beside the slice, and the input.
 //! Half of the slices are alone in their allocation, so that memcheck sees what
-//! is read beyond them. Prints the calls and answers by number; at the first
-//! fault, the case as `corpus` reads it, with exit status 1. If a call dies or
-//! does not end, its case is the first line of `target/fuzz-SEED.case`.
+//! is read beyond them. Prints the calls and answers by number, and the oracle's
+//! inner calls of the root finder, of which one that would be refused is a fault; at
+//! the first fault, the case as `corpus` reads it, with exit status 1. If a call dies
+//! or does not end, its case is the first line of `target/fuzz-SEED.case`.
 
 use lemongully_oracle::corpus::Case;
 use lemongully_oracle::edition::{CORE, Edition, NAME};
 use lemongully_oracle::generate::{Random, decimals, hostile, pages, requests, roots, sheets};
 use lemongully_oracle::linked;
+use lemongully_oracle::observe::{self, Inner};
 use lemongully_oracle::operations::{check, roots_op, sample};
 use lemongully_oracle::page::{decimal_text, page_text};
 use lemongully_oracle::request::SIZE;
@@ -96,7 +98,7 @@ fn demand(holds: bool, otherwise: &str) -> Result<(), String> {
 }
 
 /// The refusals of each operation.
-const SAMPLING: [i64; 12] = [1, 2, 3, 4, 5, 6, 7, 8, 9, 10, 11, 41];
+const SAMPLING: [i64; 11] = [1, 2, 3, 4, 5, 6, 7, 8, 10, 11, 41];
 const CHECK: [i64; 6] = [31, 32, 33, 34, 35, 36];
 const ROOTS: [i64; 4] = [21, 22, 23, 24];
 const PAGE: [i64; 8] = [31, 32, 33, 34, 35, 36, 42, 43];
@@ -249,8 +251,9 @@ fn showing(random: &mut Random, call: &decimals::Call) -> Found {
     Ok(number)
 }
 
-/// One call; a panic of the oracle is a fault.
-fn run(random: &mut Random, case: &Case) -> Found {
+/// One call and the oracle's inner calls; a panic of the oracle is a fault.
+fn run(random: &mut Random, case: &Case) -> Result<(i64, Inner), String> {
+    observe::reset();
     let call = AssertUnwindSafe(|| match case {
         Case::Sample(call) => sampling(random, call),
         Case::Check(call) => checking(random, call),
@@ -259,13 +262,16 @@ fn run(random: &mut Random, case: &Case) -> Found {
         Case::Decimal(call) => showing(random, call),
         Case::Floats(_) => unreachable!("no hostile call is of floats"),
     });
-    catch_unwind(call).unwrap_or(Err("a panic".to_string()))
+    let number = catch_unwind(call).unwrap_or(Err("a panic".to_string()))?;
+    let inner = observe::notes().inner;
+    demand(inner.refused == 0, "an inner call would be refused")?;
+    Ok((number, inner))
 }
 
 /// How often each operation gave each answer, 0 for all that were accepted.
 type Counts = BTreeMap<&'static str, BTreeMap<i64, u64>>;
 
-fn print(counts: &Counts) {
+fn print(counts: &Counts, inner: Inner) {
     for (operation, answers) in counts {
         let calls: u64 = answers.values().sum();
         println!("{operation}: {calls} calls");
@@ -277,6 +283,7 @@ fn print(counts: &Counts) {
             println!("    {answer}: {count}");
         }
     }
+    println!("{inner}");
 }
 
 fn read(arguments: &[String]) -> Option<(Duration, u64)> {
@@ -296,21 +303,22 @@ fn note(file: &mut File, case: &Case) -> std::io::Result<()> {
 }
 
 /// Calls until the time is over, or to the first fault.
-fn fuzz(time: Duration, seed: u64) -> Result<Counts, String> {
+fn fuzz(time: Duration, seed: u64) -> Result<(Counts, Inner), String> {
     let path = format!("{}/target/fuzz-{seed}.case", env!("CARGO_MANIFEST_DIR"));
     let mut file = File::create(&path).map_err(|error| format!("{path}: {error}"))?;
     let start = Instant::now();
-    let mut counts = Counts::new();
+    let (mut counts, mut inner) = (Counts::new(), Inner::default());
     for index in (0..).take_while(|_| start.elapsed() < time) {
         let case = catch_unwind(|| hostile::case(seed, index))
             .map_err(|_| format!("call {index}: a panic before the call"))?;
         note(&mut file, &case).map_err(|error| format!("{path}: {error}"))?;
-        let number = run(&mut Random::new(!seed, index), &case)
+        let (number, calls) = run(&mut Random::new(!seed, index), &case)
             .map_err(|fault| format!("call {index}: {fault}\nfault {}", case.line()))?;
+        inner = inner.and(calls);
         let answers = counts.entry(case.operation()).or_default();
         *answers.entry((-number).max(0)).or_default() += 1;
     }
-    Ok(counts)
+    Ok((counts, inner))
 }
 
 fn main() -> ExitCode {
@@ -321,8 +329,8 @@ fn main() -> ExitCode {
     };
     println!("seed {seed}, {} seconds", time.as_secs());
     match fuzz(time, seed) {
-        Ok(counts) => {
-            print(&counts);
+        Ok((counts, inner)) => {
+            print(&counts, inner);
             println!("no fault");
             ExitCode::SUCCESS
         }

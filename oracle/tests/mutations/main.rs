@@ -1,4 +1,4 @@
-//! Document 01, 'Slips to rule out', and slips of change requests 1 to 4: each is
+//! Document 01, 'Slips to rule out', and slips of change requests 1 to 5: each is
 //! built into a copy of the package, which must then answer the corpus otherwise
 //! than the package itself.
 //!
@@ -446,4 +446,28 @@ fn edition_1_no_longer_taken() {
         slip: "",
     };
     is_caught(slip, &["generated-check", "kept-edition-1"]);
+}
+
+/// Change request 5 rests on refusal 6: beyond 32 the arm's sines are NaN.
+#[test]
+fn arm_angles_within_40() {
+    let slip = Slip {
+        name: "arm-angles-within-40",
+        file: "operations.rs",
+        text: "(-8.0..=8.0)",
+        slip: "(-40.0..=40.0)",
+    };
+    is_caught(slip, &["generated-one-free", "kept-arm"]);
+}
+
+/// An inner call with its bounds out of order is no longer refused as 9.
+#[test]
+fn the_bounds_of_a_chart_swapped() {
+    let slip = Slip {
+        name: "the-bounds-of-a-chart-swapped",
+        file: "singularity/j1j2free.rs",
+        text: "roots(polynomial, min_t, max_t)",
+        slip: "roots(polynomial, max_t, min_t)",
+    };
+    is_caught(slip, &["generated-two-free", "kept-half"]);
 }
