@@ -9,10 +9,11 @@
 use lemongully_oracle::edition::{CORE, Edition, TRAILER};
 use lemongully_oracle::generate::{names, requests, sheets};
 use lemongully_oracle::operations;
-use lemongully_oracle::request::{SIGNS, SIZE};
+use lemongully_oracle::request::{ARM, FROM, OFFSETS, REFERENCES, ROTATION, SIGNS, SIZE, TO};
 use lemongully_oracle::stored::{
     Kept, OUTPUT, RUBBISH, digest, inside, is_short, is_small, kinds, line,
 };
+use std::f64::consts::TAU;
 use std::io::{BufWriter, Result, Write};
 
 const SEED: u64 = 1707;
@@ -109,6 +110,37 @@ fn name_examples(lines: &mut impl Write) -> Result<()> {
     Ok(())
 }
 
+/// The edges of what passes 6 and 8: every arm angle 8 or -8, every offset a turn
+/// either way, with and without limits, and the next arm angle, which is 6. No inner
+/// call of the root finder is refused up to there (change request 5).
+fn edge_examples(lines: &mut impl Write) -> Result<()> {
+    for kind in 1..=3 {
+        for (limits, arm, offset) in [
+            (0, 8.0, TAU),
+            (0, -8.0, -TAU),
+            (1, 8.0, -TAU),
+            (1, -8.0, TAU),
+            (1, 8f64.next_up(), TAU),
+        ] {
+            let mut request = sheets::one_angle_named(NAMED);
+            request[..3].copy_from_slice(&[kind, limits, 0]);
+            let mut fill = |start: usize, count: usize, value: f64| {
+                for field in request[start..start + 8 * count].as_chunks_mut::<8>().0 {
+                    *field = value.to_le_bytes();
+                }
+            };
+            fill(ROTATION, 3, 0.5);
+            fill(ARM, 3, arm);
+            fill(REFERENCES, 6, 0.25);
+            fill(OFFSETS, 6, offset);
+            fill(FROM, 6, -0.5);
+            fill(TO, 6, 0.75);
+            sample(lines, None, &plenty(request.to_vec()))?;
+        }
+    }
+    Ok(())
+}
+
 /// 01's whole sheet in both editions: as it is, with another edition's number, and
 /// in edition 2 with other names.
 fn check_examples(lines: &mut impl Write) -> Result<()> {
@@ -144,6 +176,7 @@ fn main() -> Result<()> {
     let mut lines = BufWriter::new(std::io::stdout().lock());
     sample_examples(&mut lines)?;
     name_examples(&mut lines)?;
+    edge_examples(&mut lines)?;
     check_examples(&mut lines)?;
     let mut kept = Kept::at_most(20, 16);
     for index in 0..4000 {
