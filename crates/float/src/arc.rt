@@ -120,7 +120,7 @@ pub fn asin(x: f64) -> f64
 
 // Four numbers side by side. What is worked out of one does not wait for the others, and so four take
 // little longer than one.
-#[derive(Drop)]
+#[derive(Clone, Copy)]
 pub struct Four {
     pub a: f64,
     pub b: f64,

@@ -14,7 +14,7 @@ ghost use Rattle.float.specs.Promises.Parts.{Splits, Shifts, Finishes, Combines}
 use crate::wide::{add, jam, less, product, sticky, sub};
 
 // A finite float: q * 2^k units, negative where `neg`.
-#[derive(Drop)]
+#[derive(Clone, Copy)]
 pub struct Parts {
     pub neg: bool,
     pub q: u64,

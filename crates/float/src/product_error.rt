@@ -46,7 +46,7 @@ pub fn in_range(x: f64) -> bool
 }
 
 // An operand with its halves, by Dekker's split at 2^27 + 1, and whether these serve it.
-#[derive(Drop)]
+#[derive(Clone, Copy)]
 pub struct Halves {
     pub whole: f64,
     pub high: f64,

@@ -63,7 +63,7 @@ fn guess(m: u64) -> u64
 }
 
 // hi * 2^52 + lo.
-#[derive(Drop)]
+#[derive(Clone, Copy)]
 struct Product {
     hi: u64,
     lo: u64,

@@ -16,7 +16,7 @@ pub const P: f64 = 3.141592653589793;
 
 pub const TWO_PI: f64 = 6.283185307179586;
 
-#[derive(Drop)]
+#[derive(Clone, Copy)]
 pub struct SinCos {
     pub sine: f64,
     pub cosine: f64,

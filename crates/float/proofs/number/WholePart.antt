@@ -177,7 +177,7 @@ stands m e f = go (m * up e / down e) (m * up e % down e) (split m e) refl (whol
 
 less_one : (q : ℕ) → neg_ℤ (pos q) -ℤ pos 1 ≡ negsuc q
 less_one zero = refl
-less_one (suc q) = ap (λ (x : ℕ). negsuc (suc x)) (native.Mathlib.Nat.add_zero q)
+less_one (suc q) = ap (λ (x : ℕ). negsuc (suc x)) (native.Mathlib.Nat.add-zero q)
 
 some_rest : (r q : ℕ) → 0 < r → minus (eqb r 0) q ≡ negsuc q
 some_rest r q p = ap (λ (b : Bool). minus b q) (borrow.Author.Tests.ne_eqb r 0 (λ z. lt_irrefl 0 (subst (λ (x : ℕ). 0 < x) z p)))

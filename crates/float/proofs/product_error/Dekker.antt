@@ -3,7 +3,7 @@
 -- and the last rounds the exact error a·b − p, which the fused product of a, b and −p rounds too.
 use Rattle.std.proofs.Common.{◌≡◌, ℕ, ◌+◌, ◌-◌, ◌*◌, ◌^◌, ◌<◌, ◌≤◌, Bool, true, false, not, T, ltb, leb, sym, ◌∙◌, subst, ap₂, le_trans, le_of_eq, mul-le-mul_right, mul_assoc, add-mul, mul-le-mul, mul-le-mul_left, mul-add, mul_right_comm, arith, ltb→lt, leb→le, nltb→le, pow_pos}
 use lib.Dec.{nleb→lt}
-use lib.Ieee.{Float, Format, binary64, low, add, sub, mul}
+use lib.Ieee.{Float, Format, binary64, add, sub, mul}
 use lib.Ieee.Nearest.{closest}
 use Rattle.float.specs.Laws.Units.{Is, Is-add, Is-sub, Is-mul, Is-shift, Is-unit, Is-ununit}
 use Rattle.float.specs.Laws.Near.{closest_near, mul_near}

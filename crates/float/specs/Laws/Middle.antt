@@ -14,7 +14,7 @@ use Rattle.std.specs.Float.Ieee.Scale.{round_same, finite}
 use Rattle.std.specs.Float.Ieee.Positive.{den, den_pos}
 use Rattle.float.specs.Number.{◌⊕◌, ◌⊖◌, ◌⊘◌, middle, two_float}
 use Rattle.float.specs.Laws.Sign.{Alike}
-use Rattle.float.specs.Promises.Order.{pl, mi, Le}
+use Rattle.float.specs.Promises.Order.{pl, mi}
 use Rattle.float.specs.Laws.Le.{le→Le, srnd, srnd_mono, le_alike, finite_alike, signed_pos, signed_neg, add_srnd, div_srnd}
 use Rattle.float.specs.Promises.Order.{Within}
 use Rattle.float.specs.Laws.Within.{within→Le, Le→within, fits→held, exact_self}

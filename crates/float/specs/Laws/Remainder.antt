@@ -1,5 +1,5 @@
 -- A remainder is no larger than its divisor.
-use Rattle.std.specs.Prelude.{◌≡◌, ℕ, ◌*◌, ◌%◌, ◌<◌, ◌≤◌, Bool, true, false, cond, T, ℤ, ◌==◌, refl, Float}
+use Rattle.std.specs.Prelude.{◌≡◌, ℕ, ◌*◌, ◌%◌, ◌<◌, ◌≤◌, Bool, true, false, cond, T, ◌==◌, refl, Float}
 use Rattle.std.proofs.Common.{ap, ◌∙◌, le_trans, le_of_eq, mul-pos, mul_assoc, mul-le-mul_right, le_of_lt, mod-lt, eqb→eq}
 use Rattle.std.specs.Float.{nan, inf, fin, Format}
 use Rattle.std.specs.Float.Ieee.{up, down, round, rem}

@@ -3,7 +3,7 @@
 -- exact bound does not pass: rounding does not cross a value of the format.
 -- For numerals X, Y, B each test is closed, so `tt` proves it by computation.
 use Rattle.std.specs.Prelude.{◌≡◌, ℕ, zero, suc, ◌+◌, ◌-◌, ◌*◌, ◌%◌, ◌^◌, ◌<◌, ◌≤◌, Bool, true, false, cond, not, ◌&&◌, T, ltb, leb, ℤ, pos, negsuc, ◌==◌, ◌≢◌, nat_eq, nat_le, nat_lt, refl, Float}
-use Rattle.std.proofs.Common.{sym, ap, ap₂, ◌∙◌, subst, le_trans, le_of_eq, lt_of_lt_of_le, lt_of_le_of_lt, zero-mul, mul-one, one-mul, mul-pos, mul_assoc, mul_comm, mul_left_comm, mul_right_comm, add-mul, zero-lt-suc, lt_irrefl, le_of_mul-le-mul_right, mul-le-mul_right, mul-le-mul, mul-lt-mul_of_pos_right, lt_of_mul-lt-mul_right, sub-add_cancel, add-le-add, le_of_lt, arith, ltb→lt, lt→ltb, leb→le, le→leb, eqb→eq, pow-add, pow_pos}
+use Rattle.std.proofs.Common.{sym, ap, ap₂, ◌∙◌, subst, le_trans, le_of_eq, lt_of_lt_of_le, lt_of_le_of_lt, zero-mul, mul-one, one-mul, mul-pos, mul_assoc, mul_comm, mul_left_comm, mul_right_comm, add-mul, zero-lt-suc, lt_irrefl, le_of_mul-le-mul_right, mul-le-mul_right, mul-le-mul, mul-lt-mul_of_pos_right, lt_of_mul-lt-mul_right, sub-add_cancel, add-le-add, arith, ltb→lt, lt→ltb, leb→le, le→leb, eqb→eq, pow-add, pow_pos}
 use Rattle.std.proofs.Math.Nat.{mul-sub}
 use Rattle.std.specs.Bool.{beq}
 use Rattle.std.proofs.Math.Dec.{nleb→lt}
