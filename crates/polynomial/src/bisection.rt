@@ -14,7 +14,7 @@ use crate::polynomial::{Three, evaluate, evaluate_three};
 use float::number::{is_sign_positive, middle};
 
 // What a step says: the result, or which half to go on in.
-#[derive(Drop)]
+#[derive(Clone, Copy)]
 pub enum Step {
     Done(f64),
     Upper,
@@ -22,7 +22,7 @@ pub enum Step {
 }
 
 // What steps leave: the result, or an interval to go on in.
-#[derive(Drop)]
+#[derive(Clone, Copy)]
 pub enum Left {
     Result(f64),
     Between(f64, f64),

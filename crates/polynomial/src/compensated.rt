@@ -6,7 +6,7 @@ ghost use Rattle.polynomial.specs.Compensated as Of;
 
 use float::product_error::{Halves, error_by_halves, in_range, product_error};
 
-#[derive(Drop)]
+#[derive(Clone, Copy)]
 pub struct Compensated {
     pub high: f64,
     pub low: f64,

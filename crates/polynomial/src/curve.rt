@@ -8,7 +8,7 @@ use crate::compensated::Compensated;
 use float::trig::sin_cos;
 
 // Constant, cosine and sine coefficients of a first harmonic in J1.
-#[derive(Drop)]
+#[derive(Clone, Copy)]
 pub struct Harmonic {
     pub constant: f64,
     pub cosine: f64,
@@ -17,7 +17,7 @@ pub struct Harmonic {
 
 // A boundary A(q1) cos(t) + B(q1) sin(t) + C(q1) = 0, with t = q2 + q3: the harmonics a, b and c,
 // each by its constant, cosine and sine coefficient.
-#[derive(Drop)]
+#[derive(Clone, Copy)]
 pub struct Curve {
     pub a0: f64,
     pub a1: f64,
@@ -31,7 +31,7 @@ pub struct Curve {
 }
 
 // The numerators of a curve's three harmonics, of three coefficients each.
-#[derive(Drop)]
+#[derive(Clone, Copy)]
 pub struct Numerators {
     pub a: [Compensated; 9],
     pub b: [Compensated; 9],

@@ -59,7 +59,7 @@ pub(crate) fn shift(room: &mut [f64], at: usize, many: usize, v: f64)
 }
 
 // Where v was put: the list's new length, or no room for one more.
-#[derive(Drop)]
+#[derive(Clone, Copy)]
 pub enum Put {
     Count(usize),
     Full,

@@ -4,7 +4,7 @@ ghost use Rattle.polynomial.specs.Kinds as Kinds;
 
 // A root with its value: a partition point near zero, or the end of a bisection. The quotient of
 // degree 1 counts as a crossing.
-#[derive(Drop)]
+#[derive(Clone, Copy)]
 pub enum Root {
     Touch(f64),
     Crossing(f64),

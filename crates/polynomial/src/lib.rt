@@ -1,3 +1,4 @@
+#![tactic(auto)]
 // Polynomials and the root finder, document 01's module 3. specs/Lib.antt says which files define
 // what.
 pub mod angle;

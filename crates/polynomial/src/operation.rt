@@ -11,7 +11,7 @@ use float::number::abs;
 const LARGEST_PART: f64 = 2.5822498780869086e120;
 
 // The number of roots, or why there is none. `number` of specs/Operation.antt gives 01's number.
-#[derive(Drop)]
+#[derive(Clone, Copy)]
 pub enum Answer {
     Count(usize),
     BadLength,

@@ -30,7 +30,7 @@ pub(crate) fn evaluate(p: &[f64], n: usize, x: f64) -> f64
 }
 
 // The values at three points, or none of them.
-#[derive(Drop)]
+#[derive(Clone, Copy)]
 pub enum Three {
     Values(f64, f64, f64),
     Unknown,

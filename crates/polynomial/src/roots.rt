@@ -20,7 +20,7 @@ use crate::polynomial::{all_finite, derivative, evaluate, trimmed, value_near};
 use float::number::is_sign_positive;
 
 // Two neighbouring points, and the values there.
-#[derive(Drop)]
+#[derive(Clone, Copy)]
 pub struct Interval {
     pub lo: f64,
     pub hi: f64,
@@ -94,7 +94,7 @@ fn cross(p: &[f64], n: usize, at: Interval, out: &mut [f64], k: usize) -> usize
 
 // What a look at a point gives: how many points near zero, one or none, a number that stands for the
 // value there, and how many cuts there are.
-#[derive(Drop)]
+#[derive(Clone, Copy)]
 pub struct Seen {
     pub near: usize,
     pub v: f64,
@@ -129,7 +129,7 @@ fn look(p: &[f64], n: usize, tidy: bool, x: f64, out: &mut [f64], k: usize) -> S
 }
 
 // How many roots a scan found, and how many points near zero.
-#[derive(Drop)]
+#[derive(Clone, Copy)]
 pub struct Counts {
     pub roots: usize,
     pub near: usize,
