@@ -5,7 +5,7 @@ ghost use Rattle.text.specs.Promises.Input.{Within};
 use std::io::Read;
 
 // How many bytes were read, or that a read failed.
-#[derive(Clone, Copy, Drop)]
+#[derive(Clone, Copy)]
 pub enum Input {
     Bytes(usize),
     Failed,

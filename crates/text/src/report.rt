@@ -20,7 +20,7 @@ pub fn deliver<W: Write>(rt: &impl Eprint, to: &mut W, s: &[u8]) -> bool
 
 // How many samples there are, how many of them differ, and how many bytes stand from the first line
 // on that is none.
-#[derive(Clone, Copy, Drop)]
+#[derive(Clone, Copy)]
 pub struct Tally {
     pub samples: u64,
     pub differing: u64,
