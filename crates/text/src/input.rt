@@ -1,6 +1,6 @@
 // Reading that tells a failed read from the end of the input.
 ghost use Rattle.std.specs.Prelude.{◌≤◌, length};
-ghost use Rattle.text.specs.Promises.Input.{Within};
+ghost use Rattle.text.specs.Promises.Input.{Within, Gives};
 
 use std::io::Read;
 
@@ -13,7 +13,8 @@ pub enum Input {
 
 // Reads until buf is full or the input ends.
 pub fn read<R: Read>(reader: &mut R, buf: &mut [u8]) -> Input
-    ensures { Within result (length buf.new) }
+    ensures within { Within result (length buf.new) }
+    ensures bytes { Gives result (R.remaining reader.old) (R.remaining reader.new) buf.new }
 {
     let mut done = 0usize;
     while done < buf.len() {
