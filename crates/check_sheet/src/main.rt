@@ -8,7 +8,7 @@ use listing::printed::Printed;
 use text::input::{Input, read};
 use text::report::deliver;
 
-// So many bytes always suffice: `room-suffices` of listing's Laws.
+// So many bytes always suffice: `room_suffices` of listing's Laws.
 fn answer(rt: &HostRuntime, input: &[u8]) {
     let mut text = [0u8; 147456];
     let printed = check_text(input, &mut text);

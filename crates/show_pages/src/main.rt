@@ -9,7 +9,7 @@ use text::input::{Input, read};
 use text::lines::room;
 use text::report::deliver;
 
-// 540,672 bytes always suffice, by `pages-suffice` of listing's Laws, and `room` has more.
+// 540,672 bytes always suffice, by `pages_suffice` of listing's Laws, and `room` has more.
 fn answer(rt: &HostRuntime, input: &[u8]) {
     let mut text = room();
     let printed = pages_text(input, &mut text);
