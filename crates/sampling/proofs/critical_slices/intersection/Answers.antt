@@ -10,16 +10,12 @@ use Rattle.sampling.proofs.critical_slices.intersection.Lts as lts
 use Rattle.sampling.proofs.critical_slices.intersection.Reads as reads
 use Rattle.sampling.proofs.critical_slices.intersection.Tie as tie
 
-threes : (s : lts.Start tie.the-claims reads.Pre reads.Post)
-    → (3 ≤ length s.args.k.a) × (3 ≤ length s.args.k.b) × (3 ≤ length s.args.k.c) × (3 ≤ length s.args.l.a) ×
-    (3 ≤ length s.args.l.b) × (3 ≤ length s.args.l.c)
-threes s = search three
-
 pub returns : goal.returns
 unfolding intersection
-returns c = let o = c.before.before.before.before.before.before.before.before.before.before in let k = o.args.k in
-    let l = o.args.l in
-    let n = threes o in
+returns c = let k = c.args.k in
+    let l = c.args.l in
+    let w : Unit {0} = c.well_formed.0.1.1.0.1.1 in
+    let n : (3 ≤ length k.a) × (3 ≤ length k.b) × (3 ≤ length k.c) × (3 ≤ length l.a) × (3 ≤ length l.b) × (3 ≤ length l.c) = ? in
     simp (
       ← determinant_front c.determinant-denominator.result k.a l.b 3 3 l.a k.b c.determinant-denominator.ensures n.0 n.4 n.3 n.1,
       ← determinant_front c.determinant-cosine.result k.b l.c 3 3 l.b k.c c.determinant-cosine.ensures n.1 n.5 n.4 n.2,

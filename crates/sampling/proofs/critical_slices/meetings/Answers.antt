@@ -20,19 +20,16 @@ pub loop-earlier-init : goal.loop-earlier-init
 unfolding flat_map
 loop-earlier-init c = (search rules, search rules, refl, none)
 
-threes : (s : lts.Start tie.the-claims reads.Pre reads.Post goal.the-invariant-loop-earlier goal.the-decreases-loop-earlier) → Threes s.args.k
-threes s = search three
-
 pub loop-earlier-preserved : goal.loop-earlier-preserved
-loop-earlier-preserved c = let o = c.before.before.before.before.before.before.before.before.before in let a = o.args in
+loop-earlier-preserved c = let a = c.args in
     let r = c.chart_roots-state.ensures in
-    let t = threes o in
+    let t : Threes a.k = search three in
     let f = c.intersection.ensures in
     let i = c.loop-earlier.earlier in (
       search rules,
       c.loop-earlier.invariant.1,
       r.same ∙ c.loop-earlier.invariant.2,
-      met_grown a.c a.at i a.later _ a.k (search rules) (omega arith) o.requires.1 t _ f c.loop-earlier.invariant.3 r,
+      met_grown a.c a.at i a.later _ a.k (search rules) (omega arith) c.requires.1 t _ f c.loop-earlier.invariant.3 r,
     )
 
 pub returns : goal.returns

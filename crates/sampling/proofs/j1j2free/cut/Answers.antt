@@ -15,8 +15,11 @@ cut_halves-requires c = subst Charted c.in-Between.is c.requires
 
 pub returns-in-Nothing : goal.returns-in-Nothing
 unfolding cut_count folded_plan folded_cuts
-returns-in-Nothing c = simp c.in-Nothing.is (all_three [] [] [] (length c.args.work.now) 0 0 0 refl refl refl (omega arith), refl)
+returns-in-Nothing c =
+    let none = all_three [] [] [] (length c.args.work.now) 0 0 0 refl refl refl (omega arith) in
+    record { value = simp c.in-Nothing.is none; work_after = simp c.in-Nothing.is refl }
 
 pub returns-in-Between : goal.returns-in-Between
 unfolding cut_count folded_plan folded_cuts
-returns-in-Between c = simp c.in-Between.is (c.cut_halves.ensures.value, c.cut_halves.ensures.work_after)
+returns-in-Between c =
+    record { value = simp c.in-Between.is c.cut_halves.ensures.value; work_after = simp c.in-Between.is c.cut_halves.ensures.work_after }

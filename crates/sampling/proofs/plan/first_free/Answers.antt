@@ -5,4 +5,4 @@ use Rattle.sampling.proofs.plan.first_free.Goals as goal
 
 pub returns : goal.returns
 unfolding first_free
-returns c = simp (← c.arm_axes.ensures, ← c.Free-of.ensures)
+returns c = simp (← c.arm_axes.ensures, ← c.free_of.ensures)

@@ -4,5 +4,5 @@ use Rattle.sampling.proofs.plan.ByKind.{settled}
 use Rattle.sampling.proofs.plan.plan_of.Goals as goal
 
 pub returns : goal.returns
-returns c = let cut = c.cut-plan in record { value = cut.ensures.0; work_after = settled c.args.job cut.result c.args.work.now _ _ cut.ensures.0 cut.auto.0 cut.ensures.1
+returns c = record { value = c.cut-plan.ensures.value; work_after = settled c.args.job c.cut-plan.result c.args.work.now _ _ c.cut-plan.ensures.value c.cut-plan.auto.work c.cut-plan.ensures.work_after
           c.clear_unlaid.ensures }

@@ -5,4 +5,4 @@ use Rattle.sampling.proofs.plan.second_free.Goals as goal
 
 pub returns : goal.returns
 unfolding second_free
-returns c = simp (← c.arm_axes.ensures, ← c.Free-of.ensures)
+returns c = simp (← c.arm_axes.ensures, ← c.free_of.ensures)

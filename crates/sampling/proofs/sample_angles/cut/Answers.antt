@@ -12,14 +12,26 @@ use Rattle.sampling.proofs.sample_angles.cut.Goals as goal
 
 pub returns-then-is_finite : goal.returns-then-is_finite
 unfolding cut_count first_cuts second_cuts third_cuts free_plan free_cuts roots intervals of_bits
-returns-then-is_finite c = simp (
-      ← c.is_finite.ensures,
-      c.if-is_finite.true,
-      ← c.all_roots-n.ensures.front,
-      ← c.wrist_limit_intervals-three.ensures,
-    ) c.cut_intervals.ensures
+returns-then-is_finite c = record {
+  value = simp (
+    ← c.is_finite.ensures,
+    c.if-is_finite.true,
+    ← c.all_roots-n.ensures.front,
+    ← c.wrist_limit_intervals-three.ensures,
+  ) c.cut_intervals.ensures.0;
+  work_after = simp (
+    ← c.is_finite.ensures,
+    c.if-is_finite.true,
+    ← c.all_roots-n.ensures.front,
+    ← c.wrist_limit_intervals-three.ensures,
+  ) c.cut_intervals.ensures.1;
+}
 
 pub returns : goal.returns
 unfolding cut_count first_cuts second_cuts third_cuts free_plan free_cuts
-returns c = simp (← c.is_finite.ensures, c.if-is_finite.false)
-    (all_three [] [] [] (length c.args.work.now) 0 0 0 refl refl refl (omega arith), refl)
+returns c =
+    let none = all_three [] [] [] (length c.args.work.now) 0 0 0 refl refl refl (omega arith) in
+    record {
+      value = simp (← c.is_finite.ensures, c.if-is_finite.false) none;
+      work_after = simp (← c.is_finite.ensures, c.if-is_finite.false) refl;
+    }

@@ -28,4 +28,4 @@ returns c = let a = c.args in
     from_number a.cuts
     (subst₂ (λ (k : ℕ) (t : Put). Grown (Of.all_copies a.lower a.upper (take a.n a.angles.now)) a.work.now (counted k a.work.now)
     c.loop-i.work t)
-    c.number_of-state.ensures (sym c.Put-of.ensures) g)
+    c.number_of-state.ensures (sym c.put_of.ensures) g)

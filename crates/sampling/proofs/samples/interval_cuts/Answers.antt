@@ -14,4 +14,4 @@ unfolding interval_values
 returns-in-Between c = simp c.in-Between.is
     (whole_counted c.all_windings-all.result
     (then (then c.put_in-first.ensures
-    c.put_in-ends.ensures) c.all_windings-all.ensures) c.Put-of.ensures)
+    c.put_in-ends.ensures) c.all_windings-all.ensures) c.put_of.ensures)
