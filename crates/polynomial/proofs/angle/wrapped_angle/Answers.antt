@@ -1,7 +1,6 @@
 -- `polynomial::angle::wrapped_angle` meets its contract.
 use mathlib.Core.Path.{◌≡◌, refl, ap₂, ◌∙◌}
 use lib.Ieee.{Float, binary64, of_bits, sub}
-use borrow.Author.Rules.{rules}
 use Rattle.float.specs.Number.{◌⊕◌, rem_euclid}
 use Rattle.polynomial.specs.Angle.{two_pi, wrapped_angle}
 use Rattle.float.specs.Laws.Literals.{P-bits}

@@ -1,14 +1,11 @@
 -- `polynomial::arithmetic::coefficient` meets its contract. The loop's invariant: the sum over
 -- the places that are left, added to that so far, is the coefficient.
-use Prim.Native.Nat.{◌+◌, ◌-◌, ◌≤◌, min}
+use Prim.Native.Nat.{◌+◌, ◌-◌, min}
 use native.Mathlib.Omega.{arith}
 use mathlib.Core.Path.{◌≡◌, sym, ap, ◌∙◌}
-use mathlib.Core.Logic.{⊎_elim}
-use lib.ListN.{length, take}
 use borrow.Author.Rules.{rules}
 use Rattle.float.specs.Laws.Zero.{zero_bits}
 use Rattle.polynomial.specs.Compensated.{from}
-use Rattle.polynomial.specs.Polynomial.{column, coefficient}
 use Rattle.polynomial.proofs.arithmetic.Products.{column_start, column_more, column_end}
 use Rattle.polynomial.proofs.arithmetic.coefficient.Goals as goal
 use Rattle.polynomial.proofs.arithmetic.coefficient.Goals.{else-k-m, else-k-n, then-k-m, then-k-n}
@@ -28,16 +25,16 @@ loop-i-init c = let a = c.args in
 
 pub loop-i-preserved : goal.loop-i-preserved
 loop-i-preserved c = let a = c.args in (
-      search rules,
-      c.loop-i.invariant.1,
-      search rules,
-      c.loop-i.invariant.3,
-      c.loop-i.invariant.4,
-      sym (column_more a.a a.b a.n a.m a.k (omega arith) (omega arith) c.loop-i.i c.if-k-n.end
-          c.loop-i.sum _ _ c.times.result c.plus-sum.result (search rules) (omega arith) (omega arith) c.times.ensures
-          c.plus-sum.ensures)
-          ∙ c.loop-i.invariant.5,
-    )
+  search rules,
+  c.loop-i.invariant.1,
+  search rules,
+  c.loop-i.invariant.3,
+  c.loop-i.invariant.4,
+  sym (column_more a.a a.b a.n a.m a.k (omega arith) (omega arith) c.loop-i.i c.if-k-n.end
+      c.loop-i.sum _ _ c.times.result c.plus-sum.result (search rules) (omega arith) (omega arith) c.times.ensures
+      c.plus-sum.ensures)
+      ∙ c.loop-i.invariant.5,
+)
 
 pub returns : goal.returns
 returns c = let a = c.args in

@@ -1,6 +1,5 @@
 -- `polynomial::arithmetic::determinant` meets its contract.
 use native.Mathlib.Omega.{arith}
-use borrow.Author.Rules.{rules}
 use Rattle.polynomial.specs.Polynomial.{determinant}
 use Rattle.polynomial.specs.Laws.Nine.{multiply_front}
 use Rattle.float.specs.Laws.Literals.{one_bits}

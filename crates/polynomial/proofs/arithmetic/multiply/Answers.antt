@@ -1,11 +1,10 @@
 -- `polynomial::arithmetic::multiply` meets its contract. The loop's invariant: what is stored, with zeros behind it, and then the coefficients from k on.
-use Prim.Native.Nat.{◌+◌, ◌-◌, ◌≤◌}
+use Prim.Native.Nat.{◌+◌, ◌-◌}
 use native.Mathlib.Omega.{arith}
 use mathlib.Core.Path.{◌≡◌, refl, sym, ◌∙◌}
-use mathlib.Core.List.{◌++◌}
-use lib.ListN.{length, take, drop, replicate, length-set}
+use lib.ListN.{take, length-set}
 use borrow.Author.Rules.{rules}
-use Rattle.polynomial.specs.Polynomial.{zero_pair, coefficients, multiply}
+use Rattle.polynomial.specs.Polynomial.{multiply}
 use Rattle.polynomial.proofs.arithmetic.Filled.{zeros_start, zeros_more, nine_of}
 use Rattle.polynomial.proofs.arithmetic.Products.{product_start, product_more, product_end}
 use Rattle.polynomial.proofs.arithmetic.multiply.Goals as goal

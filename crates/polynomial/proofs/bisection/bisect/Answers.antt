@@ -1,6 +1,5 @@
 -- `polynomial::bisection::bisect` meets its contract.
 use mathlib.Core.Path.{◌∙◌, subst}
-use borrow.Author.Rules.{rules}
 use Rattle.polynomial.specs.Promises.Inside.{Rest}
 use Rattle.polynomial.proofs.bisection.bisect.Goals as goal
 

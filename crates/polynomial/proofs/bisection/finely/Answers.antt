@@ -1,14 +1,6 @@
 -- `polynomial::bisection::finely` meets its contract. The invariant: the interval can be bisected, and
 -- its result is that of the first. The measure is the units between its ends.
-use mathlib.Core.Path.{◌≡◌, refl, ◌∙◌, subst}
-use lib.Ieee.{binary64}
-use lib.ListN.{take}
-use borrow.Author.Rules.{rules}
-use Rattle.float.specs.Promises.Order.{width}
-use Rattle.float.specs.Promises.Order.{Span}
-use Rattle.polynomial.specs.Operation.{pairs}
-use Rattle.polynomial.specs.Polynomial.{evaluate}
-use Rattle.polynomial.specs.Roots.{bisected}
+use mathlib.Core.Path.{refl, ◌∙◌, subst}
 use Rattle.polynomial.specs.Promises.Inside.{Leaves}
 use Rattle.polynomial.proofs.bisection.finely.Goals as goal
 

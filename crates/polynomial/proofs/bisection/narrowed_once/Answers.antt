@@ -1,5 +1,4 @@
 -- `polynomial::bisection::narrowed_once` meets its contract: at each return, what the calls and the tests on the way to it say.
-use borrow.Author.Rules.{rules}
 use Rattle.polynomial.specs.Promises.Inside.{narrowed_once}
 use Rattle.polynomial.proofs.bisection.narrowed_once.Goals as goal
 

@@ -1,14 +1,10 @@
 -- `polynomial::bisection::roughly` meets its contract. The invariant: the interval can be bisected,
 -- and its result is that of the first. The measure is the units between its ends.
-use mathlib.Core.Path.{◌≡◌, refl, ◌∙◌, subst}
-use lib.Ieee.{binary64, of_bits}
+use mathlib.Core.Path.{refl, ◌∙◌, subst}
+use lib.Ieee.{of_bits}
 use lib.ListN.{take}
-use borrow.Author.Rules.{rules}
-use Rattle.float.specs.Promises.Order.{width}
-use Rattle.float.specs.Promises.Order.{Span}
 use Rattle.polynomial.specs.Operation.{pairs}
 use Rattle.polynomial.specs.Polynomial.{evaluate}
-use Rattle.polynomial.specs.Roots.{bisected}
 use Rattle.polynomial.specs.Promises.Inside.{Leaves}
 use Rattle.polynomial.proofs.bisection.Steps.{one_by_sign}
 use Rattle.polynomial.proofs.bisection.roughly.Goals as goal
@@ -37,11 +33,11 @@ leaves c =
     c.narrowed_once-left.ensures
 
 pub returns-in-Result : goal.returns-in-Result
-returns-in-Result c = let h = c.before.before.before in subst (Leaves _ _ _ _) c.in-Result.is (leaves h) ∙ h.loop-n.invariant.1
+returns-in-Result c = subst (Leaves _ _ _ _) c.in-Result.is (leaves c.before.before) ∙ c.loop-n.invariant.1
 
 pub loop-n-smaller : goal.loop-n-smaller
-loop-n-smaller c = (subst (Leaves _ _ _ _) c.in-Between.is (leaves c.before.before.before)).0
+loop-n-smaller c = (subst (Leaves _ _ _ _) c.in-Between.is (leaves c.before.before)).0
 
 pub loop-n-preserved : goal.loop-n-preserved
-loop-n-preserved c = let h = c.before.before.before in let r = subst (Leaves _ _ _ _) c.in-Between.is (leaves h) in
-    (r.1, r.2 ∙ h.loop-n.invariant.1)
+loop-n-preserved c = let r = subst (Leaves _ _ _ _) c.in-Between.is (leaves c.before.before) in
+    (r.1, r.2 ∙ c.loop-n.invariant.1)

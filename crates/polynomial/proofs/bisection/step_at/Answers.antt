@@ -1,6 +1,5 @@
 -- `polynomial::bisection::step_at` meets its contract: at each return, what the calls and the tests on the way to it say.
 use lib.Ieee.{of_bits}
-use borrow.Author.Rules.{rules}
 use Rattle.polynomial.specs.Promises.Inside.{step_at}
 use Rattle.polynomial.proofs.bisection.step_at.Goals as goal
 

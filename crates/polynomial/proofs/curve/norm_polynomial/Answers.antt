@@ -1,6 +1,5 @@
 -- `polynomial::curve::norm_polynomial` meets its contract.
 use native.Mathlib.Omega.{arith}
-use borrow.Author.Rules.{rules}
 use Rattle.polynomial.specs.Laws.Nine.{add_front, multiply_front, numerator_front, target_front}
 use Rattle.polynomial.specs.Curve.{norm_polynomial}
 use Rattle.float.specs.Laws.Literals.{one_bits}

@@ -1,14 +1,11 @@
 -- `polynomial::curve::norm_target` meets its contract. The loop's invariant: what is multiplied so far,
 -- then the product of the coefficients from i on with the squared norm, and zeros.
-use Prim.Native.Nat.{◌-◌, ◌≤◌}
 use native.Mathlib.Omega.{arith}
-use mathlib.Core.Path.{◌≡◌, sym, ◌∙◌}
-use mathlib.Core.List.{◌++◌}
-use lib.ListN.{length, take, drop, replicate, length-set}
-use lib.Seq.{slice, drop-set-lt}
+use mathlib.Core.Path.{sym, ◌∙◌}
+use lib.ListN.{length-set}
+use lib.Seq.{drop-set-lt}
 use borrow.Author.Rules.{rules}
-use Rattle.polynomial.specs.Polynomial.{zero_pair}
-use Rattle.polynomial.specs.Curve.{times_each, target}
+use Rattle.polynomial.specs.Curve.{target}
 use Rattle.polynomial.proofs.arithmetic.Filled.{nine_of}
 use Rattle.polynomial.proofs.curve.Squares.{target_start, target_behind, times_more, times_end}
 use Rattle.polynomial.proofs.curve.norm_target.Goals as goal

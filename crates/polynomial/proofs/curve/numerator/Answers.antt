@@ -1,7 +1,6 @@
 -- `polynomial::curve::numerator` meets its contract.
 use native.Mathlib.Omega.{arith}
 use mathlib.Core.Path.{refl}
-use borrow.Author.Rules.{rules}
 use Rattle.polynomial.specs.Curve.{numerator}
 use Rattle.polynomial.proofs.arithmetic.Filled.{zeros_start, nine_of}
 use Rattle.polynomial.proofs.curve.Harmonics.{numerator_of}

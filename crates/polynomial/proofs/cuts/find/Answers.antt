@@ -1,14 +1,8 @@
 -- `polynomial::cuts::find` meets its contract. The loop's invariant: v goes past each place before i.
-use borrow.Author.Rules.{rules}
 use borrow.Author.Count.{below_none, below_more}
 use borrow.Author.Tests.{not-true, not-false}
-use mathlib.Core.Path.{◌≡◌, sym, ◌∙◌}
-use mathlib.Core.Bool.{true}
-use Prim.Native.Nat.{ℕ, ◌≤◌, ◌<◌, ◌-◌}
+use mathlib.Core.Path.{sym, ◌∙◌}
 use native.Mathlib.Omega.{arith}
-use lib.ListN.{get_or}
-use lib.Ieee.{nan}
-use Rattle.polynomial.specs.Promises.Insert.{passed}
 use Rattle.polynomial.proofs.cuts.find.Goals as goal
 
 pub loop-i-init : goal.loop-i-init

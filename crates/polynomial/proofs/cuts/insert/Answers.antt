@@ -1,6 +1,5 @@
 -- `polynomial::cuts::insert` meets its contract.
 use mathlib.Core.Path.{◌≡◌, refl, sym, subst, ◌∙◌}
-use mathlib.Core.Logic.{⊎_elim}
 use mathlib.Core.Bool.{true, false}
 use mathlib.Core.List.{List}
 use Prim.Native.Nat.{ℕ, ◌<◌}
@@ -11,17 +10,16 @@ use lib.Ieee.{Float, nan, eq}
 use Rattle.float.specs.Number.{total_le, negative}
 use Rattle.float.specs.Laws.Tests.{total_le_signs}
 use Rattle.polynomial.proofs.Placed.{replaced, kept, full, inserted}
-use borrow.Author.Rules.{rules}
 use Rattle.polynomial.proofs.cuts.insert.Goals as goal
 use Rattle.polynomial.proofs.cuts.insert.Lts as lts
 use Rattle.polynomial.proofs.cuts.insert.Reads as reads
 use Rattle.polynomial.proofs.cuts.insert.Tie as tie
-use Rattle.polynomial.proofs.cuts.insert.Goals.{else-at-count, then-at-count}
+use Rattle.polynomial.proofs.cuts.insert.Goals.{else-at-count, then-at-count+else-w-v}
 
 -- where the value found equals v: the list, its count, v, its place, and the value there
 module _ (c : lts.Then2 tie.the-claims reads.Pre reads.Post tie.handed_clauses) where
   abbrev start : lts.Start tie.the-claims reads.Pre reads.Post tie.handed_clauses
-  start = c.before.before.before.before.before.before
+  start = c.before.before.before.before.before
 
   abbrev w : List Float
   w = start.args.room.now
@@ -41,7 +39,7 @@ module _ (c : lts.Then2 tie.the-claims reads.Pre reads.Post tie.handed_clauses) 
 -- where v is new
 fresh : (c : lts.Joined1 tie.the-claims reads.Pre reads.Post tie.handed_clauses) → c.find-at.result < c.args.count
     → eq (get_or c.args.room.now c.find-at.result nan) c.args.v ≡ false
-fresh c = elim c.if-at-count.branch [ then-at-count a ↦ a.2.left | else-at-count a ↦ absurd (omega arith) ]
+fresh c = elim c.if-at-count.branch [ then-at-count+else-w-v w ↦ λ _. w.if-w-v.false | else-at-count w ↦ λ h. absurd (omega arith) ]
 
 pub returns-then-negative : goal.returns-then-negative
 returns-then-negative c = let d = c.before.before in let t : total_le (v d) (y d) ≡ true = total_le_signs (v d) (y d) true (negative (y d)) d.if-w-v.true
@@ -49,7 +47,7 @@ returns-then-negative c = let d = c.before.before in let t : total_le (v d) (y d
     (subst T (sym d.if-w-v.true) tt) (subst T (sym t) tt) in record { value = all.0; room_after = all.1 }
 
 pub returns-then-negative-2 : goal.returns-then-negative-2
-returns-then-negative-2 c = let d = c.before.before.before.before in let t : total_le (v d) (y d) ≡ false =
+returns-then-negative-2 c = let d = c.before.before.before.before.before in let t : total_le (v d) (y d) ≡ false =
     total_le_signs (v d) (y d) false true d.if-w-v.true
     (sym c.if-negative.false ∙ c.negative.ensures)
     (sym c.if-negative-2.true ∙ c.negative-then-w-v.ensures) in let all = kept (w d) (n d) (v d) (at d) (start d).requires d.find-at.ensures d.if-at-count.true (subst T (sym d.if-w-v.true) tt) t in record { value = all.0; room_after = all.1 }
@@ -65,5 +63,5 @@ pub returns-then-count-room : goal.returns-then-count-room
 returns-then-count-room c = let all = full _ _ _ _ c.requires c.find-at.ensures (fresh c.before) c.if-count-room.true in record { value = all.0; room_after = all.1 }
 
 pub returns : goal.returns
-returns c = let j = c.before.before.before.before.before in let p = inserted j.args.room.now j.args.count j.args.v j.find-at.result j.requires j.find-at.ensures (fresh j)
+returns c = let j = c.before.before.before.before.before.before in let p = inserted j.args.room.now j.args.count j.args.v j.find-at.result j.requires j.find-at.ensures (fresh j)
     (omega (arith, j.requires, c.if-count-room.false)) in record { value = p.0; room_after = c.shift.ensures ∙ p.1 }

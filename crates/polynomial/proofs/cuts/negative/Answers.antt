@@ -1,7 +1,6 @@
 -- `polynomial::cuts::negative` meets its contract.
 use mathlib.Core.Path.{ap, ◌∙◌}
 use mathlib.Core.Bool.{not, not-not}
-use borrow.Author.Rules.{rules}
 use Rattle.float.specs.Number.{negative}
 use Rattle.polynomial.proofs.cuts.negative.Goals as goal
 

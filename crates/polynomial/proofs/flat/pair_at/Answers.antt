@@ -1,7 +1,6 @@
 -- `polynomial::flat::pair_at` meets its contract.
 use mathlib.Core.Path.{sym}
 use lib.Ieee.{nan}
-use borrow.Author.Rules.{rules}
 use Rattle.polynomial.proofs.flat.Parts.{pair_is}
 use Rattle.polynomial.proofs.flat.pair_at.Goals as goal
 

@@ -3,7 +3,6 @@ use native.Mathlib.Omega.{arith}
 use mathlib.Core.Path.{sym, ap, ◌∙◌}
 use mathlib.Core.List.{List, ◌++◌}
 use lib.ListN.{take, drop}
-use borrow.Author.Rules.{rules}
 use Rattle.polynomial.specs.Roots.{roots_at}
 use Rattle.polynomial.specs.Kinds.{kinds}
 use Rattle.polynomial.specs.declared.compensated.Compensated.{Compensated}

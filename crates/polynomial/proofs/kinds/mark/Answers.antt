@@ -1,9 +1,9 @@
 -- `polynomial::kinds::mark` meets its contract. The invariant: the kinds of the first i roots are written, the rest is as it was.
-use Prim.Native.Nat.{ℕ, ◌-◌, ◌≤◌}
+use Prim.Native.Nat.{ℕ}
 use native.Mathlib.Omega.{arith}
 use mathlib.Core.Path.{◌≡◌, refl, ap, ◌∙◌}
 use mathlib.Core.List.{List, ◌++◌}
-use lib.ListN.{length, take, drop, set, length-set}
+use lib.ListN.{take, drop, set, length-set}
 use borrow.Author.Rules.{rules}
 use Rattle.polynomial.proofs.kinds.Marks.{all, written, front}
 use Rattle.polynomial.proofs.kinds.mark.Goals as goal

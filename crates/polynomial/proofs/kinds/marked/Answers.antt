@@ -1,12 +1,8 @@
 -- `polynomial::kinds::marked` meets its contract. The invariant: the points that are left decide.
-use Prim.Native.Nat.{◌-◌, ◌≤◌}
 use native.Mathlib.Omega.{arith}
-use mathlib.Core.Path.{◌≡◌, refl, sym, ◌∙◌}
-use lib.ListN.{take}
-use lib.Seq.{slice}
+use mathlib.Core.Path.{refl, sym, ◌∙◌}
 use lib.Ieee.{nan}
 use borrow.Author.Rules.{rules}
-use Rattle.polynomial.specs.Kinds as Kinds
 use Rattle.polynomial.proofs.kinds.Marks.{hit, missed, none}
 use Rattle.polynomial.proofs.kinds.marked.Goals as goal
 

@@ -38,9 +38,9 @@ pub chart-requires : goal.chart-requires
 chart-requires c = let i = c.before.before.before.before in let a = (start i).args in
     let f = half_count a.x a.y a.norm a.lower a.upper (formed i).middle-origin.result _ _ _ _ _ (formed i).middle-origin.ensures
     (coefficients i) one_bits i.inner_roots-n.ensures.value in
-    let l = i.inner_roots-n.auto.1.1.1.1.0 in
+    let l = i.inner_roots-n.auto.out in
     (omega arith, omega arith)
 
 pub returns : goal.returns
-returns c = let i = c.before.before.before.before.before.before.before in let a = (start i).args in let e = half_angles a.x a.y a.norm a.lower a.upper (formed i).middle-origin.result _ _ _ _ _ (formed i).middle-origin.ensures
-    (coefficients i) one_bits i.inner_roots-n.ensures.value in let all = front_same _ _ _ _ c.chart.ensures _ (ap (λ (l : List Float). put_all l (take a.k a.out.now)) (sym e)) in record { value = all.0; out_after = all.1 }
+returns c = let i = c.before.before.before.before.before.before.before.before in let a = (start i).args in let e = half_angles a.x a.y a.norm a.lower a.upper (formed i).middle-origin.result _ _ _ _ _ (formed i).middle-origin.ensures
+    (coefficients i) one_bits i.inner_roots-n.ensures.value in let all = front_same _ _ _ _ (c.chart.ensures.value, c.chart.ensures.out_after) _ (ap (λ (l : List Float). put_all l (take a.k a.out.now)) (sym e)) in record { value = all.0; out_after = all.1 }

@@ -4,7 +4,6 @@ use mathlib.Core.Path.{◌≡◌, sym, ap, ap₂, ◌∙◌}
 use mathlib.Core.List.{List, []}
 use lib.ListN.{length}
 use lib.Ieee.{Float, binary64, neg, of_bits}
-use borrow.Author.Rules.{rules}
 use Rattle.float.specs.Number.{zero_float}
 use Rattle.float.specs.Trig.{P}
 use Rattle.float.specs.Laws.Zero.{zero_bits}
@@ -36,10 +35,10 @@ pub half_roots-requires : goal.half_roots-requires
 half_roots-requires c = let h = c.before.before.before in let a = (start h).args in
     let e = h.half_roots-k.ensures.value ∙ sym (ap length (left a.x a.y a.norm)) in
     let k = left_room a.x a.y a.norm h.half_roots-k.result e in
-    let o = h.half_roots-k.auto.1.1.1.1.1.0 in
+    let o = h.half_roots-k.auto.out in
     omega (arith, (start h).requires)
 
 pub returns : goal.returns
-returns c = let h = c.before.before.before.before.before.before in let a = (start h).args in let all = both_halves a.x a.y a.norm a.out.now _ _ h.half_roots-k.result c.half_roots.result
-    (front_same _ _ _ _ h.half_roots-k.ensures _ (left a.x a.y a.norm))
-    (front_same _ _ _ _ c.half_roots.ensures _ (right a.x a.y a.norm _)) in record { value = all.0; out_after = all.1 }
+returns c = let h = c.before.before.before.before.before.before.before in let a = (start h).args in let all = both_halves a.x a.y a.norm a.out.now _ _ h.half_roots-k.result c.half_roots.result
+    (front_same _ _ _ _ (h.half_roots-k.ensures.value, h.half_roots-k.ensures.out_after) _ (left a.x a.y a.norm))
+    (front_same _ _ _ _ (c.half_roots.ensures.value, c.half_roots.ensures.out_after) _ (right a.x a.y a.norm _)) in record { value = all.0; out_after = all.1 }

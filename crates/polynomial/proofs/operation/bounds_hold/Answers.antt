@@ -1,8 +1,6 @@
 -- `polynomial::operation::bounds_hold` meets its contract.
 use mathlib.Core.Path.{◌≡◌, refl, sym}
 use lib.Ieee.{binary64, of_bits}
-use borrow.Author.Rules.{rules}
-use Rattle.float.specs.Number.{abs}
 use Rattle.float.specs.Trig.{four_float}
 use Rattle.polynomial.proofs.operation.bounds_hold.Goals as goal
 

@@ -1,9 +1,9 @@
 -- `polynomial::operation::copy` meets its contract. The loop's invariant: the first i places are copied, the rest is as it was.
-use Prim.Native.Nat.{ℕ, ◌-◌, ◌≤◌}
+use Prim.Native.Nat.{ℕ}
 use native.Mathlib.Omega.{arith}
 use mathlib.Core.Path.{◌≡◌, refl, ap, ◌∙◌}
 use mathlib.Core.List.{List, ◌++◌}
-use lib.ListN.{length, take, drop, get_or, set, length-set}
+use lib.ListN.{take, drop, get_or, set, length-set}
 use lib.Ieee.{Float, nan}
 use borrow.Author.Rules.{rules}
 use Rattle.polynomial.specs.Laws.Lists.{copy_more}

@@ -1,7 +1,6 @@
 -- `polynomial::operation::part_holds` meets its contract.
 use mathlib.Core.Path.{◌≡◌, refl, ap₂}
 use lib.Ieee.{binary64, of_bits, le}
-use borrow.Author.Rules.{rules}
 use Rattle.polynomial.specs.Operation.{largest_part}
 use Rattle.polynomial.proofs.operation.part_holds.Goals as goal
 

@@ -1,11 +1,8 @@
 -- `polynomial::operation::parts_hold` meets its contract. The loop's invariant: what is left decides.
-use Prim.Native.Nat.{◌-◌, ◌≤◌}
-use mathlib.Core.Path.{◌≡◌, refl, sym, ◌∙◌}
-use lib.ListN.{length, drop}
+use mathlib.Core.Path.{refl, sym, ◌∙◌}
 use lib.Ieee.{nan}
 use borrow.Author.Tests.{not-true, not-false}
 use borrow.Author.Rules.{rules}
-use Rattle.polynomial.specs.Operation.{parts_hold}
 use Rattle.polynomial.proofs.operation.Parts.{parts_on, parts_bad, parts_end}
 use Rattle.polynomial.proofs.operation.parts_hold.Goals as goal
 

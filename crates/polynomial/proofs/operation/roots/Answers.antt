@@ -27,7 +27,7 @@ use Rattle.polynomial.proofs.operation.roots.Reads as reads
 use Rattle.polynomial.proofs.operation.roots.Tie as tie
 
 -- what the tests said, once they are passed
-module _ (c : goal.Else-not-parts_hold) where
+module _ (c : lts.Else4 tie.the-claims reads.Pre reads.Post tie.handed_clauses) where
   abbrev start : lts.Start tie.the-claims reads.Pre reads.Post tie.handed_clauses
   start = c.before.before.before.before.before.before.before.before.before
 
@@ -62,7 +62,7 @@ module _ (c : goal.Else-not-parts_hold) where
   ok_parts = sym c.parts_hold.ensures ∙ not-false _ c.if-not-parts_hold.false-raw
 
 -- for the coefficients as the finder gets them, its list is the definition's, and there are few
-module _ (g : goal.Else-not-parts_hold) where
+module _ (g : lts.Else4 tie.the-claims reads.Pre reads.Post tie.handed_clauses) where
   abbrev n : ℕ
   n = length (s g) / 2
 
@@ -109,36 +109,35 @@ enough_room : (n k : ℕ) → n ≤ 9 → 1 * 2 ^ n % 2 ^ 64 ≤ k → 2 ^ n ≤
 enough_room n k h l = let w : 2 ^ n ≤ 2 ^ 9 = pow_mono {i = n} {j = 9} h in omega arith
 
 pub returns-then-len-eq1 : goal.returns-then-len-eq1
-returns-then-len-eq1 c = let a = c.args in let all = (odd_length a.coefficients.now a.lower a.upper (length a.result.now) (length a.kinds.now) c.if-len-eq1.true, (refl, refl)) in record { value = all.0; res_after = all.1; kinds_after = all.2 }
+returns-then-len-eq1 c = let a = c.args in record { value = odd_length a.coefficients.now a.lower a.upper (length a.res.now) (length a.kinds.now) c.if-len-eq1.true; res_after = refl; kinds_after = refl }
 
 pub returns-then-len-gt18 : goal.returns-then-len-gt18
-returns-then-len-gt18 c = let a = c.args in let all = (
-  too_long a.coefficients.now a.lower a.upper (length a.result.now) (length a.kinds.now) c.if-len-eq1.false c.if-len-gt18.true,
-  (refl, refl),
-) in record { value = all.0; res_after = all.1; kinds_after = all.2 }
+returns-then-len-gt18 c = let a = c.args in record { value = too_long a.coefficients.now a.lower a.upper (length a.res.now) (length a.kinds.now) c.if-len-eq1.false c.if-len-gt18.true; res_after = refl; kinds_after = refl }
 
 pub returns-then-not-bounds_hold : goal.returns-then-not-bounds_hold
-returns-then-not-bounds_hold c = let a = c.args in let all = (
-  bad_bounds a.coefficients.now a.lower a.upper (length a.result.now) (length a.kinds.now) c.if-len-eq1.false c.if-len-gt18.false
-      (sym c.bounds_hold.ensures ∙ not-true _ c.if-not-bounds_hold.true-raw),
-  (refl, refl),
-) in record { value = all.0; res_after = all.1; kinds_after = all.2 }
+returns-then-not-bounds_hold c = let a = c.args in record {
+  value = bad_bounds a.coefficients.now a.lower a.upper (length a.res.now) (length a.kinds.now) c.if-len-eq1.false c.if-len-gt18.false
+      (sym c.bounds_hold.ensures ∙ not-true _ c.if-not-bounds_hold.true-raw);
+  res_after = refl;
+  kinds_after = refl;
+}
 
 pub returns-then-not-parts_hold : goal.returns-then-not-parts_hold
-returns-then-not-parts_hold c = let a = c.args in let all = (
-  bad_part a.coefficients.now a.lower a.upper (length a.result.now) (length a.kinds.now) c.if-len-eq1.false c.if-len-gt18.false
-      (sym c.bounds_hold.ensures ∙ not-false _ c.if-not-bounds_hold.false-raw) (sym c.parts_hold.ensures ∙ not-true _ c.if-not-parts_hold.true-raw),
-  (refl, refl),
-) in record { value = all.0; res_after = all.1; kinds_after = all.2 }
+returns-then-not-parts_hold c = let a = c.args in record {
+  value = bad_part a.coefficients.now a.lower a.upper (length a.res.now) (length a.kinds.now) c.if-len-eq1.false c.if-len-gt18.false
+      (sym c.bounds_hold.ensures ∙ not-false _ c.if-not-bounds_hold.false-raw) (sym c.parts_hold.ensures ∙ not-true _ c.if-not-parts_hold.true-raw);
+  res_after = refl;
+  kinds_after = refl;
+}
 
 pub overflow_shl-n : goal.overflow_shl-n
-overflow_shl-n c = let h = at_most_nine c in omega arith
+overflow_shl-n c = let h = at_most_nine c.before in omega arith
 
 pub overflow_shl-n-then-n-res : goal.overflow_shl-n-then-n-res
-overflow_shl-n-then-n-res c = let h = at_most_nine c.before in omega arith
+overflow_shl-n-then-n-res c = let h = at_most_nine c.before.before in omega arith
 
 pub roots-requires : goal.roots-requires
-roots-requires c = let g = c.before.before.before.before in (
+roots-requires c = let g = c.before.before.before.before.before in (
   at_most_nine g,
   enough_room (n g) (room g) (at_most_nine g) c.if-n-res.true,
   in_span g,
@@ -147,14 +146,14 @@ roots-requires c = let g = c.before.before.before.before in (
 )
 
 pub returns-then-n-kinds : goal.returns-then-n-kinds
-returns-then-n-kinds c = let g = c.before.before.before.before.before.before.before.before.before in let k = c.roots.result in let e = c.roots.ensures.value.0 in let f : k ≤ 2 ^ n g = rw e (few g) in let all = said g _ _ _
+returns-then-n-kinds c = let g = c.before.before.before.before.before.before.before.before.before.before in let k = c.roots.result in let e = c.roots.ensures.value.0 in let f : k ≤ 2 ^ n g = rw e (few g) in let all = said g _ _ _
     (counted k (room g) (bytes g) (le_trans f (enough_room (n g) (room g) (at_most_nine g) c.if-n-res.true))
     (le_trans f (enough_room (n g) (bytes g) (at_most_nine g) c.if-n-kinds.true))
     ∙ ap (λ (m : ℕ). fitted m (room g) (bytes g)) e)
-    c.roots.ensures.value.1 c.roots.ensures.kinds_after in record { value = all.0; res_after = all.1; kinds_after = all.2 }
+    c.roots.ensures.value.1 c.roots.ensures.kinds_after in record { value = all.0; res_after = all.1.0; kinds_after = all.1.1 }
 
 pub roots_apart-requires : goal.roots_apart-requires
-roots_apart-requires c = let g = c.before.before.before in (at_most_nine g, in_span g, omega arith)
+roots_apart-requires c = let g = c.before.before.before.before in (at_most_nine g, in_span g, omega arith)
 
 pub returns : goal.returns
-returns c = let g = c.before.before.before.before.before.before.before.before in let all = said g _ _ _ c.roots_apart.ensures.value c.roots_apart.ensures.res_after.0 c.roots_apart.ensures.res_after.1 in record { value = all.0; res_after = all.1; kinds_after = all.2 }
+returns c = let g = c.before.before.before.before.before.before.before.before.before in let all = said g _ _ _ c.roots_apart.ensures.value c.roots_apart.ensures.res_after c.roots_apart.ensures.kinds_after in record { value = all.0; res_after = all.1.0; kinds_after = all.1.1 }

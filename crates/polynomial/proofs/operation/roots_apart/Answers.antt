@@ -7,7 +7,6 @@ use lib.Pow.{pow_mono}
 use lib.ListN.{length, take, drop}
 use lib.Seq.{take_at}
 use lib.Ieee.{Float}
-use borrow.Author.Rules.{rules}
 use Rattle.polynomial.specs.Operation.{pairs, fitted}
 use Rattle.polynomial.specs.Roots.{roots_at}
 use Rattle.polynomial.specs.Kinds.{kinds}
@@ -48,7 +47,7 @@ module _ (r : lts.After-roots tie.the-claims reads.Pre reads.Post tie.handed_cla
   is : (k : ℕ) → k ≡ r.roots-count.result → (room bytes : ℕ) → fitted k room bytes ≡ fitted (length listed) room bytes
   is k e room bytes = ap (λ (j : ℕ). fitted j room bytes) (e ∙ r.roots-count.ensures.value.0)
 
-  arose_front : take r.roots-count.result r.roots-count.last.1.1.1.1.1.0 ≡ kinds p start.args.lower start.args.upper
+  arose_front : take r.roots-count.result r.roots-count.new.kinds ≡ kinds p start.args.lower start.args.upper
   arose_front =
       ap (take r.roots-count.result) r.roots-count.ensures.kinds_after
       ∙ take_at (kinds p start.args.lower start.args.upper) _ r.roots-count.result
@@ -60,26 +59,21 @@ roots-count-requires c = let w : 2 ^ c.args.n ≤ 2 ^ 9 = pow_mono {i = c.args.n
     (c.requires.0, omega arith, c.requires.1, c.requires.2, omega arith)
 
 pub returns-then-res-count : goal.returns-then-res-count
-returns-then-res-count c = let r = c.before.before.before in let a = (start r).args in let all = (short_result r.roots-count.result _ _ c.if-res-count.true ∙ is r _ refl (length a.result.now) (length a.kinds.now), (refl, refl)) in record { value = all.0; res_after = all.1; kinds_after = all.2 }
+returns-then-res-count c = let r = c.before.before.before.before in let a = (start r).args in record { value = short_result r.roots-count.result _ _ c.if-res-count.true ∙ is r _ refl (length a.res.now) (length a.kinds.now); res_after = refl; kinds_after = refl }
 
 pub returns-then-kinds-count : goal.returns-then-kinds-count
-returns-then-kinds-count c = let r = c.before.before.before.before in let a = (start r).args in let all = (short_kinds r.roots-count.result _ _ c.if-res-count.false c.if-kinds-count.true ∙ is r _ refl (length a.result.now) (length a.kinds.now), (refl, refl)) in record { value = all.0; res_after = all.1; kinds_after = all.2 }
+returns-then-kinds-count c = let r = c.before.before.before.before.before in let a = (start r).args in record { value = short_kinds r.roots-count.result _ _ c.if-res-count.false c.if-kinds-count.true ∙ is r _ refl (length a.res.now) (length a.kinds.now); res_after = refl; kinds_after = refl }
 
 pub copy-requires : goal.copy-requires
-copy-requires c = let r = c.before.before.before.before.before.before in let f = few r in
-    let l = r.roots-count.auto.1.1.1.1.0 in
+copy-requires c = let r = c.before.before.before.before.before.before.before in let f = few r in
+    let l = r.roots-count.auto.out in
     (omega arith, c.if-res-count.false)
 
 pub copy_bytes-requires : goal.copy_bytes-requires
-copy_bytes-requires c = let r = c.before.before.before.before.before.before.before.before.before.before.before in let f = few r in
-    let l = r.roots-count.auto.1.1.1.1.1.0 in
+copy_bytes-requires c = let r = c.before.before.before.before.before.before.before.before.before.before.before.before in let f = few r in
+    let l = r.roots-count.auto.kinds in
     (omega arith, c.if-kinds-count.false)
 
 pub returns : goal.returns
-returns c = let r = c.before.before.before.before.before.before.before.before.before.before.before.before.before.before in let a = (start r).args in let k = r.roots-count.result in let all = (
-  counted k _ _ c.if-res-count.false c.if-kinds-count.false ∙ is r _ refl (length a.result.now) (length a.kinds.now),
-  (
-    c.copy.ensures ∙ ap (λ (l : List Float). l ++ drop k a.result.now) (front_take (listed r) _ _ k r.roots-count.ensures.value),
-    c.copy_bytes.ensures ∙ ap (λ (l : List ℕ). l ++ drop k a.kinds.now) (arose_front r),
-  ),
-) in record { value = all.0; res_after = all.1; kinds_after = all.2 }
+returns c = let r = c.before.before.before.before.before.before.before.before.before.before.before.before.before.before.before in let a = (start r).args in
+    let k = r.roots-count.result in record { value = counted k _ _ c.if-res-count.false c.if-kinds-count.false ∙ is r _ refl (length a.res.now) (length a.kinds.now); res_after = c.copy.ensures ∙ ap (λ (l : List Float). l ++ drop k a.res.now) (front_take (listed r) _ _ k r.roots-count.ensures.value); kinds_after = c.copy_bytes.ensures ∙ ap (λ (l : List ℕ). l ++ drop k a.kinds.now) (arose_front r) }

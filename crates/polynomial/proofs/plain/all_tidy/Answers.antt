@@ -1,13 +1,11 @@
 -- `polynomial::plain::all_tidy` meets its contract. The loop's invariant: the coefficients from i on are tidy.
-use Prim.Native.Nat.{◌≤◌}
 use native.Mathlib.Omega.{arith}
 use mathlib.Core.Path.{subst}
 use mathlib.Core.Bool.{false≢true}
-use lib.Seq.{slice}
 use borrow.Author.Tests.{not-false}
 use borrow.Author.Rules.{rules}
 use Rattle.polynomial.specs.Polynomial.{zero_pair}
-use Rattle.polynomial.specs.Promises.Plain.{Tidy, AllTidy}
+use Rattle.polynomial.specs.Promises.Plain.{Tidy}
 use Rattle.polynomial.specs.Operation.{pairs}
 use Rattle.polynomial.proofs.flat.Parts.{enough}
 use Rattle.polynomial.proofs.plain.Sums.{tidy_none, tidy_more, tidy_all}

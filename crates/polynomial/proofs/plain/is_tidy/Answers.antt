@@ -3,8 +3,7 @@ use mathlib.Core.Path.{sym, ap, ap₂, ◌∙◌, subst}
 use mathlib.Core.Bool.{false≢true}
 use lib.Dec.{T}
 use lib.Ieee.{of_bits, le}
-use borrow.Author.Rules.{rules}
-use Rattle.float.specs.Number.{◌⊗◌, abs}
+use Rattle.float.specs.Number.{◌⊗◌}
 use Rattle.polynomial.specs.Promises.Plain.{lift, largest}
 use Rattle.polynomial.proofs.plain.is_tidy.Goals as goal
 

@@ -1,15 +1,12 @@
 -- `polynomial::plain::plain_sign` meets its contract. The loop's invariant: value and scale are those of the coefficients from i on.
-use Prim.Native.Nat.{◌≤◌}
 use native.Mathlib.Omega.{arith}
-use mathlib.Core.Path.{◌≡◌, sym, ap, ◌∙◌, subst}
+use mathlib.Core.Path.{sym, ap, ◌∙◌, subst}
 use lib.Dec.{T}
-use lib.Seq.{slice}
 use borrow.Author.Rules.{rules}
 use Rattle.float.specs.Number.{abs, ◌⊕◌, ◌⊗◌}
 use Rattle.float.specs.Laws.Zero.{zero_bits}
 use Rattle.polynomial.specs.Polynomial.{zero_pair}
 use Rattle.polynomial.specs.declared.compensated.Compensated.{Compensated}
-use Rattle.polynomial.specs.Promises.Plain.{plain, scale}
 use Rattle.polynomial.specs.Operation.{pairs}
 use Rattle.polynomial.proofs.flat.Parts.{enough}
 use Rattle.polynomial.proofs.plain.Sums.{plain_none, plain_more, plain_all, scale_none, scale_more, scale_all}

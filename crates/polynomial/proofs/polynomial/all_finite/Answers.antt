@@ -1,10 +1,8 @@
 -- `polynomial::polynomial::all_finite` meets its contract. The loop's invariant: what is left decides.
-use Prim.Native.Nat.{◌-◌, ◌≤◌}
 use native.Mathlib.Omega.{arith}
 use mathlib.Core.Path.{◌≡◌, refl, sym, ap, ap₂, ◌∙◌}
 use mathlib.Core.Bool.{Bool, ◌&&◌}
-use lib.ListN.{take, get_or}
-use lib.Seq.{slice}
+use lib.ListN.{get_or}
 use lib.Ieee.Scale.{finite}
 use borrow.Author.Tests.{not-true, not-false}
 use borrow.Author.Rules.{rules}
@@ -43,16 +41,16 @@ module _ (t : lts.After-is_finite2 tie.the-claims reads.Pre reads.Post goal.the-
   tested = both _ _ t.pair_at-c.ensures t.is_finite.ensures t.is_finite-in-loop-i.ensures
 
 pub returns-then-not-is_finite : goal.returns-then-not-is_finite
-returns-then-not-is_finite c = let t = c.before in let a = (l t.before).args in
-    sym ((l t.before).loop-i.invariant.1 ∙ pair_bad every (pairs a.p.now) a.n (l t.before).loop-i.i zero_pair (search rules)
+returns-then-not-is_finite c = let t = c.before.before in let a = (l t).args in
+    sym ((l t).loop-i.invariant.1 ∙ pair_bad every (pairs a.p.now) a.n (l t).loop-i.i zero_pair (search rules)
     (enough a.n a.p.now (l t).requires.1) (tested t ∙ not-true _ c.if-not-is_finite.true-raw))
 
 pub loop-i-preserved : goal.loop-i-preserved
-loop-i-preserved c = let t = c.before in let a = (l t.before).args in (
-      search rules,
-      (l t.before).loop-i.invariant.1 ∙ pair_on every (pairs a.p.now) a.n (l t.before).loop-i.i zero_pair (search rules)
-          (enough a.n a.p.now (l t).requires.1) (tested t ∙ not-false _ c.if-not-is_finite.false-raw),
-    )
+loop-i-preserved c = let t = c.before.before in let a = (l t).args in (
+  search rules,
+  (l t).loop-i.invariant.1 ∙ pair_on every (pairs a.p.now) a.n (l t).loop-i.i zero_pair (search rules)
+      (enough a.n a.p.now (l t).requires.1) (tested t ∙ not-false _ c.if-not-is_finite.false-raw),
+)
 
 pub returns : goal.returns
 returns c = let a = c.args in

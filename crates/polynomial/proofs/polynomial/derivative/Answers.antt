@@ -3,14 +3,13 @@
 use Prim.Native.Nat.{ℕ, ◌+◌, ◌-◌, ◌≤◌, ◌<◌, ◌^◌}
 use native.Mathlib.Omega.{arith}
 use mathlib.Core.Path.{◌≡◌, refl, sym, ap, subst, ◌∙◌}
-use mathlib.Core.List.{List, ◌++◌}
-use lib.ListN.{length, take, drop, set, replicate, length-set}
-use lib.Seq.{slice}
+use mathlib.Core.List.{List}
+use lib.ListN.{take, drop, set, replicate, length-set}
 use lib.Dec.{le→leb}
 use lib.Ieee.{in_float}
 use borrow.Author.Rules.{rules}
 use Rattle.polynomial.specs.Compensated.{times}
-use Rattle.polynomial.specs.Polynomial.{zero_pair, powered, derivative}
+use Rattle.polynomial.specs.Polynomial.{zero_pair, derivative}
 use Rattle.polynomial.specs.declared.compensated.Compensated.{Compensated}
 use Rattle.polynomial.specs.Operation.{pairs}
 use Rattle.polynomial.proofs.flat.Parts.{enough}

@@ -1,13 +1,11 @@
 -- `polynomial::polynomial::evaluate` meets its contract. The loop's invariant: the sum is the value of the coefficients from i on.
-use Prim.Native.Nat.{◌≤◌}
 use native.Mathlib.Omega.{arith}
-use mathlib.Core.Path.{◌≡◌, ap, ◌∙◌}
-use lib.Seq.{slice}
+use mathlib.Core.Path.{ap, ◌∙◌}
 use borrow.Author.Rules.{rules}
 use Rattle.float.specs.Laws.Operand.{whole_of, halved_whole}
 use Rattle.float.specs.Laws.Zero.{zero_bits}
 use Rattle.polynomial.specs.Compensated.{from, plus, value}
-use Rattle.polynomial.specs.Polynomial.{zero_pair, horner, evaluate}
+use Rattle.polynomial.specs.Polynomial.{zero_pair, evaluate}
 use Rattle.polynomial.specs.Operation.{pairs}
 use Rattle.polynomial.proofs.flat.Parts.{enough}
 use Rattle.polynomial.proofs.polynomial.Horner.{horner_none, horner_more, horner_all}

@@ -1,16 +1,14 @@
 -- `polynomial::polynomial::evaluate_three` meets its contract. The loop's invariant: each sum is the value of the coefficients from i on at its point.
-use Prim.Native.Nat.{◌≤◌}
 use native.Mathlib.Omega.{arith}
 use mathlib.Core.Path.{◌≡◌, sym, ap, ◌∙◌}
 use mathlib.Core.Bool.{true, ◌&&◌}
-use lib.Seq.{slice}
 use borrow.Author.Tests.{not-false}
 use borrow.Author.Rules.{rules}
 use Rattle.float.specs.Laws.Operand.{whole_of, halved_whole}
 use Rattle.float.specs.Laws.Tests.{and_left, and_right}
 use Rattle.float.specs.Laws.Zero.{zero_bits}
 use Rattle.polynomial.specs.Compensated.{from, plus, value}
-use Rattle.polynomial.specs.Polynomial.{zero_pair, horner, evaluate}
+use Rattle.polynomial.specs.Polynomial.{zero_pair, evaluate}
 use Rattle.polynomial.specs.Operation.{pairs}
 use Rattle.polynomial.proofs.flat.Parts.{enough}
 use Rattle.polynomial.proofs.polynomial.Horner.{horner_none, horner_more, horner_all}
@@ -52,33 +50,33 @@ returns-then-not-in_range c = tt
 
 pub times_by_halves-requires : goal.times_by_halves-requires
 times_by_halves-requires c = (
-      halved_whole c.halved_operand-at_x.result c.args.x c.halved_operand-at_x.ensures,
-      sym c.in_range.ensures ∙
-          not-false _ c.if-not-in_range.false-raw,
-      (fine c.before.before.before.before.before.before.before).0.0,
-    )
+  halved_whole c.halved_operand-at_x.result c.args.x c.halved_operand-at_x.ensures,
+  sym c.in_range.ensures ∙
+      not-false _ c.if-not-in_range.false-raw,
+  (fine c.before.before.before.before.before.before.before).0.0,
+)
 
 pub returns-then-not-in_range-2 : goal.returns-then-not-in_range-2
 returns-then-not-in_range-2 c = tt
 
 pub times_by_halves-requires-in-loop-i : goal.times_by_halves-requires-in-loop-i
 times_by_halves-requires-in-loop-i c = (
-      halved_whole c.halved_operand-at_y.result c.args.y c.halved_operand-at_y.ensures,
-      sym
-          c.in_range-in-loop-i.ensures ∙ not-false _ c.if-not-in_range-2.false-raw,
-      (fine c.before.before.before.before.before.before.before.before.before.before.before).0.1,
-    )
+  halved_whole c.halved_operand-at_y.result c.args.y c.halved_operand-at_y.ensures,
+  sym
+      c.in_range-in-loop-i.ensures ∙ not-false _ c.if-not-in_range-2.false-raw,
+  (fine c.before.before.before.before.before.before.before.before.before.before.before).0.1,
+)
 
 pub returns-then-not-in_range-3 : goal.returns-then-not-in_range-3
 returns-then-not-in_range-3 c = tt
 
 pub times_by_halves-requires-in-loop-i-2 : goal.times_by_halves-requires-in-loop-i-2
 times_by_halves-requires-in-loop-i-2 c = (
-      halved_whole c.halved_operand-at_z.result c.args.z c.halved_operand-at_z.ensures,
-      sym
-          c.in_range-in-loop-i-2.ensures ∙ not-false _ c.if-not-in_range-3.false-raw,
-      (fine c.before.before.before.before.before.before.before.before.before.before.before.before.before.before.before).1,
-    )
+  halved_whole c.halved_operand-at_z.result c.args.z c.halved_operand-at_z.ensures,
+  sym
+      c.in_range-in-loop-i-2.ensures ∙ not-false _ c.if-not-in_range-3.false-raw,
+  (fine c.before.before.before.before.before.before.before.before.before.before.before.before.before.before.before).1,
+)
 
 pub loop-i-preserved : goal.loop-i-preserved
 loop-i-preserved c = let a = c.args in

@@ -1,12 +1,10 @@
 -- `polynomial::polynomial::magnitudes` meets its contract. The loop's invariant: the sum is that of the coefficients from i on.
-use Prim.Native.Nat.{◌≤◌}
 use native.Mathlib.Omega.{arith}
-use mathlib.Core.Path.{◌≡◌, ap, ◌∙◌}
-use lib.Seq.{slice}
+use mathlib.Core.Path.{ap, ◌∙◌}
 use borrow.Author.Rules.{rules}
 use Rattle.float.specs.Number.{abs}
 use Rattle.float.specs.Laws.Zero.{zero_bits}
-use Rattle.polynomial.specs.Polynomial.{zero_pair, magnitudes}
+use Rattle.polynomial.specs.Polynomial.{zero_pair}
 use Rattle.polynomial.specs.declared.compensated.Compensated.{Compensated}
 use Rattle.polynomial.specs.Operation.{pairs}
 use Rattle.polynomial.proofs.flat.Parts.{enough}

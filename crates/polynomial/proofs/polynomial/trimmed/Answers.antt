@@ -1,12 +1,10 @@
 -- `polynomial::polynomial::trimmed` meets its contract. The loop's invariant: the first m coefficients are trimmed as all are.
-use Prim.Native.Nat.{◌≤◌}
 use native.Mathlib.Omega.{arith}
-use mathlib.Core.Path.{◌≡◌, refl, sym, ap, ◌∙◌}
-use lib.ListN.{take}
+use mathlib.Core.Path.{refl, sym, ap, ◌∙◌}
 use borrow.Author.Tests.{not-true, not-false}
 use borrow.Author.Rules.{rules}
 use Rattle.polynomial.specs.Compensated.{is_zero}
-use Rattle.polynomial.specs.Polynomial.{zero_pair, trim}
+use Rattle.polynomial.specs.Polynomial.{zero_pair}
 use Rattle.polynomial.specs.Operation.{pairs}
 use Rattle.polynomial.proofs.flat.Parts.{enough}
 use Rattle.polynomial.proofs.polynomial.Trim.{trim_drops, trim_stops, trim_none}

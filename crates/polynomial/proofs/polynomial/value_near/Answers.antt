@@ -1,7 +1,6 @@
 -- `polynomial::polynomial::value_near` meets its contract.
 use mathlib.Core.Path.{◌≡◌, refl, ap₂}
 use lib.Ieee.{binary64, of_bits, mul, round, le}
-use borrow.Author.Rules.{rules}
 use Rattle.float.specs.Number.{◌⊗◌}
 use Rattle.polynomial.specs.Polynomial.{roundoff, value_near}
 use Rattle.polynomial.proofs.polynomial.value_near.Goals as goal

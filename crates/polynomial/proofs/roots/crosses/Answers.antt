@@ -2,7 +2,6 @@
 use mathlib.Core.Path.{◌≡◌, refl, ap}
 use mathlib.Core.Bool.{Bool, true, false, not, beq}
 use lib.Ieee.{of_bits}
-use borrow.Author.Rules.{rules}
 use Rattle.float.specs.Number.{negative}
 use Rattle.polynomial.proofs.roots.crosses.Goals as goal
 

@@ -1,5 +1,4 @@
 -- `polynomial::roots::keep` meets its contract.
-use borrow.Author.Rules.{rules}
 use Rattle.polynomial.proofs.roots.Kept.{kept_count, kept_room}
 use Rattle.polynomial.proofs.roots.keep.Goals as goal
 

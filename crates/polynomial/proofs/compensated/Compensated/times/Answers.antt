@@ -1,7 +1,6 @@
 -- `Compensated::times` meets its contract.
 use mathlib.Core.Path.{ap}
 use lib.Ieee.{Float}
-use borrow.Author.Rules.{rules}
 use Rattle.float.specs.Number.{◌⊕◌, ◌⊗◌}
 use Rattle.polynomial.specs.Compensated.{rounded, times}
 use Rattle.polynomial.proofs.compensated.Compensated.times.Goals as goal

@@ -1,6 +1,5 @@
 -- `Compensated::times_by` meets its contract.
 use mathlib.Core.Path.{sym, ap, ◌∙◌}
-use borrow.Author.Rules.{rules}
 use Rattle.polynomial.specs.Compensated.{times}
 use Rattle.polynomial.proofs.compensated.Compensated.times_by.Goals as goal
 

@@ -1,7 +1,6 @@
 -- `Compensated::times_by_halves` meets its contract.
 use mathlib.Core.Path.{ap₂}
 use lib.Ieee.{Float}
-use borrow.Author.Rules.{rules}
 use Rattle.float.specs.Number.{◌⊕◌, ◌⊗◌}
 use Rattle.float.specs.Laws.Zero.{zero_bits}
 use Rattle.polynomial.specs.Compensated.{rounded, times}
