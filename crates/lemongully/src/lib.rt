@@ -1,3 +1,4 @@
+#![tactic(auto)]
 // The C interface of all layers, one file for each: `rt lib` makes out/liblemongully.a, the archive
 // that a supplier links. Numbers of refusals are 01's.
 pub mod of_float;
