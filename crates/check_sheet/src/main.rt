@@ -1,26 +1,29 @@
 // Reads a sheet from standard input and prints what Check answers, as specs/Listing.antt of
 // `listing` defines it: `accepted n` and a line for each angle, `refused k`, or `too long` for more
 // than 65,536 bytes. One byte more is read, which tells such input.
-use libc::{STDERR_FILENO, STDIN_FILENO, STDOUT_FILENO};
+#![tactic(auto)]
+
 use listing::check_text::check_text;
 use listing::printed::Printed;
 use text::input::{Input, read};
 use text::report::deliver;
 
-// So many bytes always suffice: `room-suffices` of listing's Laws.
-fn answer(input: &[u8]) {
+// So many bytes always suffice: `room_suffices` of listing's Laws.
+fn answer(rt: &HostRuntime, input: &[u8]) {
     let mut text = [0u8; 147456];
     let printed = check_text(input, &mut text);
     if let Printed::Length(n) = printed {
-        deliver(STDOUT_FILENO, &text[..n]);
+        deliver(rt, &mut rt.stdout(), &text[..n]);
     }
 }
 
-fn main() {
+fn main(rt: HostRuntime) {
     let mut buffer = [0u8; 65537];
-    let input = read(STDIN_FILENO, &mut buffer);
+    let input = read(&mut rt.stdin(), &mut buffer);
     match input {
-        Input::Bytes(n) => answer(&buffer[..n]),
-        Input::Failed => deliver(STDERR_FILENO, b"not read\n"),
+        Input::Bytes(n) => answer(&rt, &buffer[..n]),
+        Input::Failed => {
+            deliver(&rt, &mut rt.stderr(), b"not read\n");
+        }
     }
 }

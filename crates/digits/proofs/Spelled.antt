@@ -1,13 +1,6 @@
 -- How large the number is that hexadecimal digits stand for.
-use Prim.Native.Nat.{ℕ, zero, suc, ◌+◌, ◌*◌, ◌-◌, ◌^◌, ◌≤◌, ◌<◌}
-use native.Mathlib.Nat.{pow-le-pow_right, pow-suc}
-use native.Mathlib.Omega.{arith}
-use mathlib.Core.Path.{◌≡◌, refl}
-use mathlib.Core.Bool.{Bool, true, false, cond}
-use mathlib.Core.List.{List}
-use lib.Dec.{leb, ltb, lit<}
-use lib.ListN.{get_or}
-use borrow.Author.Tests.{leb-true}
+use Rattle.std.proofs.Common.{ℕ, zero, suc, ◌+◌, ◌*◌, ◌-◌, ◌^◌, ◌≤◌, ◌<◌, ◌≡◌, refl, Bool, true, false, cond, List, leb, ltb, lit<, get_or, leb-true, pow-suc, arith}
+use Rattle.std.proofs.Math.Nat.{pow-le-pow_right}
 use Rattle.digits.specs.Hex.{digit, value}
 
 either : (t : Bool) (x y : ℕ) → (t ≡ true → x < 16) → y < 16 → cond t x y < 16

@@ -27,6 +27,7 @@ pub fn put_digits(out: &mut [u8], at: usize, k: usize, n: u64)
 }
 
 // The byte before the digits that are left.
+#[tactic(auto, unfolding(crate::specs::Promises::Columns::mark))]
 fn mark(neg: bool, n: u64) -> u8
     ensures { result ≡ Columns.mark neg n }
 {

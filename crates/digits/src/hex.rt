@@ -18,6 +18,7 @@ fn is_digit(b: u8) -> bool
 }
 
 // The value of a digit, and 0 for any other byte.
+#[tactic(auto, unfolding(crate::specs::Hex::digit))]
 fn digit(b: u8) -> u64
     ensures { result ≡ Hex.digit b }
 {

@@ -1,4 +1,6 @@
 // Digits and other runs of bytes, written into lent slices: hexadecimal, decimal, in columns.
+#![tactic(auto)]
+
 pub mod decimal;
 pub mod hex;
 pub mod runs;

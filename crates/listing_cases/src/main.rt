@@ -5,21 +5,22 @@
 // their order; what is not stored is zero. In this order: 01's whole sheet, the same job with a name
 // in edition 2, 01's sheet that says edition 2 (32), 17 angles, a changed angle (36), no byte (31),
 // 65,536 bytes (32), and one more (too long).
+#![tactic(auto)]
+
 ghost use Rattle.std.specs.Prelude.{◌+◌, ◌*◌, ◌≤◌, ◌<◌, length};
 
 use digits::hex::word;
-use libc::{STDERR_FILENO, STDIN_FILENO, STDOUT_FILENO};
 use listing::check_text::check_text;
 use listing::printed::Printed;
 use text::input::{Input, read};
 use text::lines::{bytes, held, line};
 use text::report::deliver;
 
-fn print(input: &[u8]) {
+fn print(rt: &HostRuntime, input: &[u8]) {
     let mut text = [0u8; 147456];
     let printed = check_text(input, &mut text);
     if let Printed::Length(n) = printed {
-        deliver(STDOUT_FILENO, &text[..n]);
+        deliver(rt, &mut rt.stdout(), &text[..n]);
     }
 }
 
@@ -36,7 +37,7 @@ fn words(s: &[u8], at: usize) -> usize
 }
 
 // The input of the line of k words at `at`.
-fn case(s: &[u8], at: usize, k: usize)
+fn case(rt: &HostRuntime, s: &[u8], at: usize, k: usize)
     requires { at + 17 * k + 2 ≤ length s.now }
 {
     if k < 2 {
@@ -49,26 +50,28 @@ fn case(s: &[u8], at: usize, k: usize)
     }
     let mut input = [0u8; 65537];
     bytes(s, at + 36, k - 2, stored, &mut input);
-    print(&input[..size]);
+    print(rt, &input[..size]);
 }
 
-fn cases(s: &[u8]) {
+fn cases(rt: &HostRuntime, s: &[u8]) {
     let mut at = 0usize;
     while at < s.len() {
         let k = words(s, at);
         if k < 1 {
             return;
         }
-        case(s, at, k);
+        case(rt, s, at, k);
         at += 17 * k + 2;
     }
 }
 
-fn main() {
-    let mut buffer = io::large_buffer();
-    let input = read(STDIN_FILENO, &mut buffer);
+fn main(rt: HostRuntime) {
+    let mut buffer = [0u8; 65536];
+    let input = read(&mut rt.stdin(), &mut buffer);
     match input {
-        Input::Bytes(n) => cases(&buffer[..n]),
-        Input::Failed => deliver(STDERR_FILENO, b"not read\n"),
+        Input::Bytes(n) => cases(&rt, &buffer[..n]),
+        Input::Failed => {
+            deliver(&rt, &mut rt.stderr(), b"not read\n");
+        }
     }
 }

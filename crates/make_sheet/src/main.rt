@@ -1,30 +1,33 @@
 // Reads a request from standard input and writes its sheet to standard output. On a refusal it
 // writes one line, `refused k` with the papers' number, to standard error, and nothing to standard output:
 // specs/Listing.antt of `listing` defines both. Sampling is lent 4,096 places and 65,536 bytes.
-use libc::{STDERR_FILENO, STDIN_FILENO, STDOUT_FILENO};
+#![tactic(auto)]
+
 use listing::make_text::make_text;
 use sheet::request::REQUEST;
 use text::input::{Input, read};
 use text::report::deliver;
 
-fn answer(request: &[u8]) {
-    let mut output = io::large_buffer();
+fn answer(rt: &HostRuntime, request: &[u8]) {
+    let mut output = [0u8; 65536];
     let mut error = [0u8; 32];
     let made = make_text(request, &mut output, &mut error);
     let sheet = made.output;
     let line = made.error;
-    deliver(STDOUT_FILENO, &output[..sheet]);
-    deliver(STDERR_FILENO, &error[..line]);
+    deliver(rt, &mut rt.stdout(), &output[..sheet]);
+    deliver(rt, &mut rt.stderr(), &error[..line]);
 }
 
 // One byte more than a request has, so that a longer one is refused.
 const ROOM: usize = REQUEST + 1;
 
-fn main() {
+fn main(rt: HostRuntime) {
     let mut request = [0u8; ROOM];
-    let input = read(STDIN_FILENO, &mut request);
+    let input = read(&mut rt.stdin(), &mut request);
     match input {
-        Input::Bytes(n) => answer(&request[..n]),
-        Input::Failed => deliver(STDERR_FILENO, b"not read\n"),
+        Input::Bytes(n) => answer(&rt, &request[..n]),
+        Input::Failed => {
+            deliver(&rt, &mut rt.stderr(), b"not read\n");
+        }
     }
 }

@@ -15,7 +15,7 @@ use polynomial::curve::{Curve, Harmonic};
 pub(crate) const CURVES: usize = 18;
 
 // Boundary curves, by value: the first `count` of them.
-#[derive(Drop)]
+#[derive(Clone, Copy)]
 pub struct Curves {
     pub count: usize,
     pub at: [Curve; CURVES],

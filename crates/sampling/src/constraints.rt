@@ -5,7 +5,7 @@ ghost use Rattle.sampling.specs.Constraints as Constraints;
 use float::number::{is_finite, rem_euclid};
 use float::trig::TWO_PI;
 
-#[derive(Drop)]
+#[derive(Clone, Copy)]
 pub struct Center {
     pub center: f64,
     pub tolerance: f64,

@@ -14,7 +14,7 @@ use polynomial::angle::wrapped_angle;
 pub(crate) const ROOT_ROUNDOFF: f64 = 1.4210854715202004e-14;
 
 // A first-harmonic polynomial of the free model angle.
-#[derive(Drop)]
+#[derive(Clone, Copy)]
 pub struct Trig {
     pub cosine: f64,
     pub sine: f64,
@@ -22,14 +22,14 @@ pub struct Trig {
 }
 
 // Radius and phase of a polynomial.
-#[derive(Drop)]
+#[derive(Clone, Copy)]
 pub struct Polar {
     pub radius: f64,
     pub phase: f64,
 }
 
 // A vector whose components are first-harmonic polynomials of the free angle.
-#[derive(Drop)]
+#[derive(Clone, Copy)]
 pub struct TrigVector {
     pub cosine: Vector,
     pub sine: Vector,
@@ -37,7 +37,7 @@ pub struct TrigVector {
 }
 
 // The columns of the arm's rotation as functions of the free angle.
-#[derive(Drop)]
+#[derive(Clone, Copy)]
 pub struct Axes {
     pub x: TrigVector,
     pub y: TrigVector,
@@ -45,7 +45,7 @@ pub struct Axes {
 }
 
 // Angles where a polynomial equals its target.
-#[derive(Drop)]
+#[derive(Clone, Copy)]
 pub enum Crossings {
     Neither,
     Both(f64, f64),

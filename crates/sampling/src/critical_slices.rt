@@ -22,7 +22,7 @@ use polynomial::cuts::Put;
 use polynomial::inner::inner_roots;
 
 // The chart u = tan((q1 - origin) / 2): its origin and its bounds.
-#[derive(Drop)]
+#[derive(Clone, Copy)]
 pub struct Chart {
     pub origin: f64,
     pub lower: f64,

@@ -13,7 +13,7 @@ use float::trig::hypot;
 use polynomial::angle::wrapped_angle;
 
 // A polynomial's sine and cosine, and the cosine of the angle between its phase and a crossing.
-#[derive(Drop)]
+#[derive(Clone, Copy)]
 pub struct Pending {
     pub sine: f64,
     pub cosine: f64,

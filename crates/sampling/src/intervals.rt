@@ -8,14 +8,14 @@ use float::trig::{P, TWO_PI};
 use polynomial::angle::wrapped_angle;
 
 // A limit interval: none, or a pair of angles.
-#[derive(Drop)]
+#[derive(Clone, Copy)]
 pub enum Range {
     Nothing,
     Between(f64, f64),
 }
 
 // Allowed displacements: the range shifted by a turn down, as it is, and by a turn up.
-#[derive(Drop)]
+#[derive(Clone, Copy)]
 pub struct Intervals {
     pub first: Range,
     pub second: Range,

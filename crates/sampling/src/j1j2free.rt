@@ -25,7 +25,7 @@ use polynomial::angle::wrapped_angle;
 use polynomial::cuts::Put;
 
 // What counts of a job whose joints 1 and 2 are free.
-#[derive(Drop)]
+#[derive(Clone, Copy)]
 pub struct Folded {
     pub matrix: Matrix,
     pub q3: f64,

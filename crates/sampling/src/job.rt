@@ -2,7 +2,7 @@
 use crate::pose::Matrix;
 
 // A joint: its sign, 1 or -1, offset, reference and limits.
-#[derive(Drop)]
+#[derive(Clone, Copy)]
 pub struct Joint {
     pub sign: f64,
     pub offset: f64,
@@ -12,7 +12,7 @@ pub struct Joint {
 }
 
 // The arm's angles.
-#[derive(Drop)]
+#[derive(Clone, Copy)]
 pub struct Arm {
     pub q1: f64,
     pub q2: f64,
@@ -20,7 +20,7 @@ pub struct Arm {
 }
 
 // Which joints are free: 1 in kind 1, 2 in kind 2, both in kind 3.
-#[derive(Drop)]
+#[derive(Clone, Copy)]
 pub enum Kind {
     J1free,
     J2free,
@@ -29,7 +29,7 @@ pub enum Kind {
 
 // The job: its kind, whether limits are present and the sixth joint is fixed, the matrix of the
 // target's rotation, the arm and the joints, but for joint 3, which no kind reads.
-#[derive(Drop)]
+#[derive(Clone, Copy)]
 pub struct Job {
     pub kind: Kind,
     pub limited: bool,

@@ -7,7 +7,7 @@ ghost use Rattle.sampling.specs.Promises.Plan.{countable};
 use crate::samples::sample_at;
 
 // How many cuts each interval has.
-#[derive(Drop)]
+#[derive(Clone, Copy)]
 pub struct Lists {
     pub first: usize,
     pub second: usize,
@@ -15,7 +15,7 @@ pub struct Lists {
 }
 
 // The cuts of both halves stand one after the other in work: how many, and joint 1's reference.
-#[derive(Drop)]
+#[derive(Clone, Copy)]
 pub struct Halves {
     pub reference: f64,
     pub first: usize,
@@ -24,7 +24,7 @@ pub struct Halves {
 
 // What came of a job's cuts: there are too few places, or the cuts of one free joint or of two are in
 // work.
-#[derive(Drop)]
+#[derive(Clone, Copy)]
 pub enum Plan {
     Short,
     Lists(Lists),

@@ -11,7 +11,7 @@ use float::trig::P;
 use polynomial::angle::wrapped_angle;
 
 // The reference and, with limits, their centre and ends.
-#[derive(Drop)]
+#[derive(Clone, Copy)]
 pub struct Marks {
     pub reference: f64,
     pub limited: bool,
@@ -20,7 +20,7 @@ pub struct Marks {
 }
 
 // Joint 6, which may be fixed.
-#[derive(Drop)]
+#[derive(Clone, Copy)]
 pub enum Sixth {
     Fixed,
     Moves(Marks),

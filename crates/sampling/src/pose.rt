@@ -5,7 +5,7 @@ ghost use Rattle.sampling.specs.Pose as Pose;
 use float::number::is_finite;
 use float::sqrt::sqrt;
 
-#[derive(Drop)]
+#[derive(Clone, Copy)]
 pub struct Quaternion {
     pub x: f64,
     pub y: f64,
@@ -13,7 +13,7 @@ pub struct Quaternion {
     pub w: f64,
 }
 
-#[derive(Drop)]
+#[derive(Clone, Copy)]
 pub struct Vector {
     pub x: f64,
     pub y: f64,
@@ -69,14 +69,14 @@ impl Vector {
 }
 
 // A rotation matrix, by its three columns.
-#[derive(Drop)]
+#[derive(Clone, Copy)]
 pub struct Matrix {
     pub x: Vector,
     pub y: Vector,
     pub z: Vector,
 }
 
-#[derive(Drop)]
+#[derive(Clone, Copy)]
 pub enum Normalized {
     Unit(Quaternion),
     NotFinite,

@@ -19,7 +19,7 @@ use float::trig::P;
 use polynomial::cuts::Put;
 
 // What counts of a job with one free joint.
-#[derive(Drop)]
+#[derive(Clone, Copy)]
 pub struct Free {
     pub near: f64,
     pub limits: Center,

@@ -128,7 +128,7 @@ fn inset(lower: f64, upper: f64) -> f64
 }
 
 // The three samples between two neighbouring cuts: near each end, and the middle.
-#[derive(Drop)]
+#[derive(Clone, Copy)]
 pub struct Three {
     pub first: f64,
     pub second: f64,

@@ -37,7 +37,7 @@ fn woven(list: &[f64], k: usize) -> f64
 
 // How many of each list's cuts and middles came, whether the reference came, and which value was
 // the last.
-#[derive(Drop)]
+#[derive(Clone, Copy)]
 pub struct Cursor {
     pub i: usize,
     pub j: usize,
@@ -45,7 +45,7 @@ pub struct Cursor {
     pub last: f64,
 }
 
-#[derive(Drop)]
+#[derive(Clone, Copy)]
 pub enum Step {
     Yield(f64, Cursor),
     Done,

@@ -7,7 +7,7 @@ use crate::continuum::{Axes, Trig};
 use crate::pose::Matrix;
 
 // A vector in the plane, whose direction is an angle of the wrist.
-#[derive(Drop)]
+#[derive(Clone, Copy)]
 pub struct Ray {
     pub x: Trig,
     pub y: Trig,
@@ -15,7 +15,7 @@ pub struct Ray {
 
 // Joint 4, joint 6, the cosine of joint 5, and the sum and the difference of joints 4 and 6 at a
 // pole.
-#[derive(Drop)]
+#[derive(Clone, Copy)]
 pub struct Wrist {
     pub q4: Ray,
     pub q6: Ray,

@@ -1,27 +1,30 @@
 // Reads a sheet from standard input and prints its pages, a form feed between, as specs/Pages.antt
 // of `listing` defines it; `refused k`, or `too long` for more than 65,536 bytes, as `check_sheet`
 // says it. One byte more is read, which tells such input.
-use libc::{STDERR_FILENO, STDIN_FILENO, STDOUT_FILENO};
+#![tactic(auto)]
+
 use listing::pages_text::pages_text;
 use listing::printed::Printed;
 use text::input::{Input, read};
 use text::lines::room;
 use text::report::deliver;
 
-// 540,672 bytes always suffice, by `pages-suffice` of listing's Laws, and `room` has more.
-fn answer(input: &[u8]) {
+// 540,672 bytes always suffice, by `pages_suffice` of listing's Laws, and `room` has more.
+fn answer(rt: &HostRuntime, input: &[u8]) {
     let mut text = room();
     let printed = pages_text(input, &mut text);
     if let Printed::Length(n) = printed {
-        deliver(STDOUT_FILENO, &text[..n]);
+        deliver(rt, &mut rt.stdout(), &text[..n]);
     }
 }
 
-fn main() {
+fn main(rt: HostRuntime) {
     let mut buffer = [0u8; 65537];
-    let input = read(STDIN_FILENO, &mut buffer);
+    let input = read(&mut rt.stdin(), &mut buffer);
     match input {
-        Input::Bytes(n) => answer(&buffer[..n]),
-        Input::Failed => deliver(STDERR_FILENO, b"not read\n"),
+        Input::Bytes(n) => answer(&rt, &buffer[..n]),
+        Input::Failed => {
+            deliver(&rt, &mut rt.stderr(), b"not read\n");
+        }
     }
 }

@@ -7,7 +7,7 @@ ghost use Rattle.text.specs.Numbered as Numbered;
 use digits::runs::put;
 
 // The digits of n, written from `at` on; how many they are.
-fn put_decimal(out: &mut [u8], at: usize, n: u64) -> usize
+pub(crate) fn put_decimal(out: &mut [u8], at: usize, n: u64) -> usize
     requires { at + 20 ≤ length out.old }
     ensures value { result ≡ length (Decimal.whole n) }
     ensures out_after { out.new ≡ sets out.old at (Decimal.whole n) }

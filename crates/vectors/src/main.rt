@@ -33,6 +33,8 @@
 // page, places, room, answer, digest of the text's 8,192 bytes afterwards, sheet.
 //
 // The input is what the five programs of oracle/ write, one after the other.
+#![tactic(auto)]
+
 mod angles;
 mod calls;
 mod digest;
@@ -45,7 +47,7 @@ mod roots;
 ghost use Rattle.std.specs.Prelude.{◌+◌, ◌*◌, ◌≤◌, length};
 
 use crate::marks::{agrees, line};
-use libc::{STDERR_FILENO, STDIN_FILENO};
+use std::io::Write;
 use text::input::{Input, read};
 use text::report::{Tally, deliver};
 
@@ -82,65 +84,67 @@ fn counted(s: &[u8], mark: u8) -> Tally {
 }
 
 // Prints the line of a mark; the bytes from the first line on that is no sample.
-fn report(s: &[u8], mark: u8, name: &[u8]) -> usize {
+fn report<W: Write>(to: &mut W, s: &[u8], mark: u8, name: &[u8]) -> usize {
     let t = counted(s, mark);
-    text::report::samples(name, t);
+    text::report::samples(to, name, t);
     t.unread
 }
 
-fn report_floor(s: &[u8]) {
-    report(s, b'B', b"bits");
-    report(s, b'F', b"is_finite");
-    report(s, b'P', b"is_sign_positive");
-    report(s, b'A', b"abs");
-    report(s, b'T', b"total_le");
-    report(s, b'R', b"rem_euclid");
-    report(s, b'N', b"minimum");
-    report(s, b'X', b"maximum");
-    report(s, b'C', b"clamp");
-    report(s, b'L', b"floor");
-    report(s, b'M', b"mul_add");
-    report(s, b'S', b"sqrt");
-    report(s, b'E', b"product_error");
+fn report_floor<W: Write>(to: &mut W, s: &[u8]) {
+    report(to, s, b'B', b"bits");
+    report(to, s, b'F', b"is_finite");
+    report(to, s, b'P', b"is_sign_positive");
+    report(to, s, b'A', b"abs");
+    report(to, s, b'T', b"total_le");
+    report(to, s, b'R', b"rem_euclid");
+    report(to, s, b'N', b"minimum");
+    report(to, s, b'X', b"maximum");
+    report(to, s, b'C', b"clamp");
+    report(to, s, b'L', b"floor");
+    report(to, s, b'M', b"mul_add");
+    report(to, s, b'S', b"sqrt");
+    report(to, s, b'E', b"product_error");
 }
 
-fn report_angles(s: &[u8]) {
-    report(s, b's', b"sin");
-    report(s, b'c', b"cos");
-    report(s, b't', b"tan");
-    report(s, b'h', b"hypot");
-    report(s, b'a', b"atan");
-    report(s, b'q', b"atan2");
-    report(s, b'o', b"acos");
-    report(s, b'i', b"asin");
+fn report_angles<W: Write>(to: &mut W, s: &[u8]) {
+    report(to, s, b's', b"sin");
+    report(to, s, b'c', b"cos");
+    report(to, s, b't', b"tan");
+    report(to, s, b'h', b"hypot");
+    report(to, s, b'a', b"atan");
+    report(to, s, b'q', b"atan2");
+    report(to, s, b'o', b"acos");
+    report(to, s, b'i', b"asin");
 }
 
-fn report_layers(s: &[u8]) -> usize {
-    report(s, b'1', b"proved");
-    report(s, b'2', b"examples");
-    report(s, b'3', b"generated");
-    report(s, b'4', b"center");
-    report(s, b'5', b"limits");
-    report(s, b'6', b"interval");
-    report(s, b'7', b"pose");
-    report(s, b'8', b"sampling");
-    report(s, b'9', b"check");
-    report(s, b'D', b"decimal");
-    report(s, b'0', b"page")
+fn report_layers<W: Write>(to: &mut W, s: &[u8]) -> usize {
+    report(to, s, b'1', b"proved");
+    report(to, s, b'2', b"examples");
+    report(to, s, b'3', b"generated");
+    report(to, s, b'4', b"center");
+    report(to, s, b'5', b"limits");
+    report(to, s, b'6', b"interval");
+    report(to, s, b'7', b"pose");
+    report(to, s, b'8', b"sampling");
+    report(to, s, b'9', b"check");
+    report(to, s, b'D', b"decimal");
+    report(to, s, b'0', b"page")
 }
 
-fn replay(s: &[u8]) {
-    report_floor(s);
-    report_angles(s);
-    let rest = report_layers(s);
-    text::report::unread(rest);
+fn replay<W: Write>(to: &mut W, s: &[u8]) {
+    report_floor(to, s);
+    report_angles(to, s);
+    let rest = report_layers(to, s);
+    text::report::unread(to, rest);
 }
 
-fn main() {
+fn main(rt: HostRuntime) {
     let mut text = text::lines::room();
-    let input = read(STDIN_FILENO, &mut text);
+    let input = read(&mut rt.stdin(), &mut text);
     match input {
-        Input::Bytes(n) => replay(&text[..n]),
-        Input::Failed => deliver(STDERR_FILENO, b"not read\n"),
+        Input::Bytes(n) => replay(&mut rt.stdout(), &text[..n]),
+        Input::Failed => {
+            deliver(&rt, &mut rt.stderr(), b"not read\n");
+        }
     }
 }

@@ -37,7 +37,7 @@ pub(crate) fn decimal_agrees(s: &[u8], at: usize, k: usize) -> bool
 }
 
 // What a line says of its call beside the sheet.
-#[derive(Drop)]
+#[derive(Clone, Copy)]
 struct Call {
     page: u64,
     places: usize,

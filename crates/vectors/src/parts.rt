@@ -29,7 +29,7 @@ pub(crate) fn words(mark: u8) -> usize
 }
 
 // The first six words of a sample, its operands among them; 0 where it has fewer.
-#[derive(Drop)]
+#[derive(Clone, Copy)]
 pub struct Six {
     pub a: u64,
     pub b: u64,

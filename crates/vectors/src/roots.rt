@@ -142,7 +142,7 @@ fn bytes_hold(s: &[u8], at: usize, m: usize, kinds: &[u8]) -> bool
 }
 
 // What a line says of its call beside the coefficients, the roots and the kinds.
-#[derive(Drop)]
+#[derive(Clone, Copy)]
 struct Stored {
     lower: u64,
     upper: u64,

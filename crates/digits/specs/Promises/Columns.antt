@@ -1,5 +1,5 @@
 -- What the code writes from the right: digits, a minus, blanks.
-use Rattle.std.specs.Prelude.{ℕ, zero, suc, ◌/◌, ◌%◌, Bool, true, cond, ◌&&◌, List, [], ◌∷◌, ◌++◌, ltb}
+use Rattle.std.specs.Prelude.{ℕ, zero, suc, ◌/◌, ◌%◌, Bool, cond, ◌&&◌, List, [], ◌∷◌, ◌++◌, ltb}
 use Rattle.digits.specs.Decimal.{figure}
 
 -- the byte before digits that are left, and none: a digit, else a minus, else a blank

@@ -1,11 +1,6 @@
 -- The fewest digits that hold a number, as `io` gives them, are its decimal.
-use Prim.Native.Nat.{ℕ, zero, suc, ◌*◌, ◌-◌, ◌/◌, ◌%◌, ◌^◌, ◌≤◌, ◌<◌}
-use native.Mathlib.Omega.{arith}
-use native.Mathlib.Nat.{pow-suc, pow-le-pow_right}
-use mathlib.Core.Path.{◌≡◌, refl, sym}
-use mathlib.Core.Bool.{Bool, true, false}
-use lib.Dec.{lit<, ltb}
-use borrow.Author.Tests.{lt-ltb, ltb-true, ltb-false}
+use Rattle.std.proofs.Common.{ℕ, zero, suc, ◌*◌, ◌-◌, ◌/◌, ◌%◌, ◌^◌, ◌≤◌, ◌<◌, ◌≡◌, refl, sym, Bool, true, false, lit<, ltb, lt-ltb, ltb-true, ltb-false, pow-suc, arith}
+use Rattle.std.proofs.Math.Nat.{pow-le-pow_right}
 use Rattle.io.specs.Digits.{last_digits, IsDigitCount}
 use Rattle.digits.specs.Decimal.{figures, whole}
 use Rattle.digits.specs.Laws.Lengths.{ten_pos, figures_one, figures_more}

@@ -1,0 +1,14 @@
+-- `sampling::boundaries::fourth_curves` meets its contract: at each return, what the calls and the tests on the way to it say.
+use borrow.Author.Rules.{rules}
+use Rattle.sampling.specs.Boundaries.{fourth_curves}
+use Rattle.sampling.proofs.Pushed.{none, then}
+use Rattle.sampling.proofs.boundaries.fourth_curves.Goals as goal
+
+pub returns-in-Nothing : goal.returns-in-Nothing
+unfolding fourth_curves
+returns-in-Nothing c = simp c.in-Nothing.is (none 2 _ _)
+
+pub returns-in-Between : goal.returns-in-Between
+unfolding fourth_curves
+returns-in-Between c = simp (c.in-Between.is, ← c.fourth_curve.ensures, ← c.fourth_curve-in-Between.ensures)
+    (then c.add-d.ensures c.add.ensures)

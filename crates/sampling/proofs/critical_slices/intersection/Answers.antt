@@ -1,0 +1,28 @@
+-- `sampling::critical_slices::intersection` meets its contract: at each return, what the calls and the tests on the way to it say.
+use Prim.Native.Nat.{◌≤◌}
+use lib.ListN.{length}
+use borrow.Author.Rules.{rules}
+use Rattle.polynomial.specs.Laws.Nine.{determinant_front}
+use Rattle.sampling.specs.CriticalSlices.{intersection}
+use Rattle.sampling.proofs.CriticalSlices.{three}
+use Rattle.sampling.proofs.critical_slices.intersection.Goals as goal
+use Rattle.sampling.proofs.critical_slices.intersection.Lts as lts
+use Rattle.sampling.proofs.critical_slices.intersection.Reads as reads
+use Rattle.sampling.proofs.critical_slices.intersection.Tie as tie
+
+threes : (s : lts.Start tie.the-claims reads.Pre reads.Post)
+    → (3 ≤ length s.args.k.a) × (3 ≤ length s.args.k.b) × (3 ≤ length s.args.k.c) × (3 ≤ length s.args.l.a) ×
+    (3 ≤ length s.args.l.b) × (3 ≤ length s.args.l.c)
+threes s = search three
+
+pub returns : goal.returns
+unfolding intersection
+returns c = let o = c.before.before.before.before.before.before.before.before.before.before in let k = o.args.k in
+    let l = o.args.l in
+    let n = threes o in
+    simp (
+      ← determinant_front c.determinant-denominator.result k.a l.b 3 3 l.a k.b c.determinant-denominator.ensures n.0 n.4 n.3 n.1,
+      ← determinant_front c.determinant-cosine.result k.b l.c 3 3 l.b k.c c.determinant-cosine.ensures n.1 n.5 n.4 n.2,
+      ← determinant_front c.determinant-sine.result k.c l.a 3 3 l.c k.a c.determinant-sine.ensures n.2 n.3 n.5 n.0,
+      ← c.squares.ensures,
+    )

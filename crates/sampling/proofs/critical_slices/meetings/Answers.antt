@@ -1,0 +1,40 @@
+-- `sampling::critical_slices::meetings` meets its contract. The loop's invariant: what the first i give is in the cuts.
+use Prim.Native.Nat.{◌-◌, ◌≤◌}
+use native.Mathlib.Omega.{arith}
+use mathlib.Core.Path.{◌≡◌, refl, ◌∙◌}
+use mathlib.Core.List.{flat_map}
+use lib.ListN.{length, take}
+use borrow.Author.Rules.{rules}
+use Rattle.sampling.specs.Promises.Curves.{most_curves}
+use Rattle.sampling.specs.Promises.Grown.{Grown}
+use Rattle.sampling.specs.Promises.Numerators.{first_three, first_threes, Threes, meetings}
+use Rattle.sampling.specs.CriticalSlices as Of
+use Rattle.sampling.proofs.Grown.{none}
+use Rattle.sampling.proofs.CriticalSlices.{three, met_grown}
+use Rattle.sampling.proofs.critical_slices.meetings.Goals as goal
+use Rattle.sampling.proofs.critical_slices.meetings.Lts as lts
+use Rattle.sampling.proofs.critical_slices.meetings.Reads as reads
+use Rattle.sampling.proofs.critical_slices.meetings.Tie as tie
+
+pub loop-earlier-init : goal.loop-earlier-init
+unfolding flat_map
+loop-earlier-init c = (search rules, search rules, refl, none)
+
+threes : (s : lts.Start tie.the-claims reads.Pre reads.Post goal.the-invariant-loop-earlier goal.the-decreases-loop-earlier) → Threes s.args.k
+threes s = search three
+
+pub loop-earlier-preserved : goal.loop-earlier-preserved
+loop-earlier-preserved c = let o = c.before.before.before.before.before.before.before.before.before in let a = o.args in
+    let r = c.chart_roots-state.ensures in
+    let t = threes o in
+    let f = c.intersection.ensures in
+    let i = c.loop-earlier.earlier in (
+      search rules,
+      c.loop-earlier.invariant.1,
+      r.same ∙ c.loop-earlier.invariant.2,
+      met_grown a.c a.at i a.later _ a.k (search rules) (omega arith) o.requires.1 t _ f c.loop-earlier.invariant.3 r,
+    )
+
+pub returns : goal.returns
+returns c = let e : c.args.later ≡ c.loop-earlier.earlier = omega arith in
+    rw e c.loop-earlier.invariant.3

@@ -1,0 +1,22 @@
+-- `sampling::j1j2free::cut` meets its contract: at each return, what the calls and the tests on the way to it say.
+use native.Mathlib.Omega.{arith}
+use mathlib.Core.Path.{refl, subst}
+use mathlib.Core.List.{[]}
+use lib.ListN.{length}
+use borrow.Author.Rules.{rules}
+use Rattle.sampling.specs.J1j2free.{cut_count}
+use Rattle.sampling.specs.Promises.Charts.{Charted}
+use Rattle.sampling.specs.Promises.Plan.{folded_plan, folded_cuts}
+use Rattle.sampling.proofs.Laid.{all_three}
+use Rattle.sampling.proofs.j1j2free.cut.Goals as goal
+
+pub cut_halves-requires : goal.cut_halves-requires
+cut_halves-requires c = subst Charted c.in-Between.is c.requires
+
+pub returns-in-Nothing : goal.returns-in-Nothing
+unfolding cut_count folded_plan folded_cuts
+returns-in-Nothing c = simp c.in-Nothing.is (all_three [] [] [] (length c.args.work.now) 0 0 0 refl refl refl (omega arith), refl)
+
+pub returns-in-Between : goal.returns-in-Between
+unfolding cut_count folded_plan folded_cuts
+returns-in-Between c = simp c.in-Between.is (c.cut_halves.ensures.value, c.cut_halves.ensures.work_after)

@@ -1,0 +1,25 @@
+-- `sampling::sample_angles::cut` meets its contract: at each return, what the calls and the tests on the way to it say.
+use mathlib.Core.Path.{refl}
+use mathlib.Core.List.{[]}
+use native.Mathlib.Omega.{arith}
+use lib.ListN.{length}
+use lib.Ieee.{of_bits}
+use borrow.Author.Rules.{rules}
+use Rattle.sampling.specs.SampleAngles.{cut_count, first_cuts, second_cuts, third_cuts, roots, intervals}
+use Rattle.sampling.specs.Promises.Plan.{free_plan, free_cuts}
+use Rattle.sampling.proofs.Laid.{all_three}
+use Rattle.sampling.proofs.sample_angles.cut.Goals as goal
+
+pub returns-then-is_finite : goal.returns-then-is_finite
+unfolding cut_count first_cuts second_cuts third_cuts free_plan free_cuts roots intervals of_bits
+returns-then-is_finite c = simp (
+      ← c.is_finite.ensures,
+      c.if-is_finite.true,
+      ← c.all_roots-n.ensures.front,
+      ← c.wrist_limit_intervals-three.ensures,
+    ) c.cut_intervals.ensures
+
+pub returns : goal.returns
+unfolding cut_count first_cuts second_cuts third_cuts free_plan free_cuts
+returns c = simp (← c.is_finite.ensures, c.if-is_finite.false)
+    (all_three [] [] [] (length c.args.work.now) 0 0 0 refl refl refl (omega arith), refl)
