@@ -1,7 +1,13 @@
 //! With the feature `linked`, links the archives of the proved library, which
-//! `rt staticlib NAME` makes at the repository's root.
+//! `rt lib` makes in each crate's folder.
 
-const ARCHIVES: [&str; 3] = ["lemongully", "float_bench", "sampling_parts"];
+/// The crates, and what their archives are called: the functions of
+/// `sampling_parts` are handed to C by a crate of their own.
+const ARCHIVES: [(&str, &str); 3] = [
+    ("lemongully", "lemongully"),
+    ("float_bench", "float_bench"),
+    ("sampling_parts_c", "sampling_parts"),
+];
 
 fn main() {
     println!("cargo:rerun-if-changed=build.rs");
@@ -9,10 +15,13 @@ fn main() {
         return;
     }
     let root = std::env::var("CARGO_MANIFEST_DIR").expect("cargo sets it");
-    let archives = format!("{root}/../target/staticlib");
-    println!("cargo:rustc-link-search=native={archives}");
-    for name in ARCHIVES {
-        println!("cargo:rerun-if-changed={archives}/lib{name}.a");
-        println!("cargo:rustc-link-lib=static={name}");
+    let folder = std::env::var("OUT_DIR").expect("cargo sets it");
+    println!("cargo:rustc-link-search=native={folder}");
+    for (name, archive) in ARCHIVES {
+        let made = format!("{root}/../crates/{name}/out/lib{name}.a");
+        println!("cargo:rerun-if-changed={made}");
+        std::fs::copy(&made, format!("{folder}/lib{archive}.a"))
+            .unwrap_or_else(|e| panic!("{made}: {e}: run `rt lib` in crates/{name} first"));
+        println!("cargo:rustc-link-lib=static={archive}");
     }
 }

@@ -1,7 +1,7 @@
 /* The roots of a polynomial between two bounds, and how each arose, for a drawing tool to colour.
  *
- *   rt staticlib lemongully
- *   cc -O2 examples/c/find_roots.c -Iinclude -Ltarget/staticlib -llemongully -o find_roots
+ *   (cd crates/lemongully && rt lib)
+ *   cc -O2 examples/c/find_roots.c -Iinclude -Lcrates/lemongully/out -llemongully -o find_roots
  *   ./find_roots -4 4 -1 0 1
  *
  * The arguments are the bounds, then the coefficients, constant first. It prints

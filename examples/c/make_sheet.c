@@ -1,7 +1,7 @@
 /* Reads a request from standard input and writes its sheet to standard output.
  *
- *   rt staticlib lemongully
- *   cc -O2 examples/c/make_sheet.c -Iinclude -Ltarget/staticlib -llemongully -o make_sheet_c
+ *   (cd crates/lemongully && rt lib)
+ *   cc -O2 examples/c/make_sheet.c -Iinclude -Lcrates/lemongully/out -llemongully -o make_sheet_c
  *   ./make_sheet_c < examples/joint_2.request | cmp - examples/joint_2.sheet
  */
 #include "lemongully/sheet.h"

@@ -1,7 +1,7 @@
 /* Reads a sheet from standard input and prints its pages, a form feed between two.
  *
- *   rt staticlib lemongully
- *   cc -O2 examples/c/show_pages.c -Iinclude -Ltarget/staticlib -llemongully -o show_pages_c
+ *   (cd crates/lemongully && rt lib)
+ *   cc -O2 examples/c/show_pages.c -Iinclude -Lcrates/lemongully/out -llemongully -o show_pages_c
  *   ./show_pages_c < examples/joint_2.sheet | cmp - examples/joint_2.page
  *
  * Each call checks the sheet anew; the first answer tells whether it is one.

@@ -1,7 +1,7 @@
 //! Reads a sheet from standard input, has it checked, and prints its name and its angles.
 //!
-//!     rt staticlib lemongully
-//!     rustc --edition 2024 -O examples/rust/check_sheet.rs -L target/staticlib -l static=lemongully -o check_sheet_rust
+//!     (cd crates/lemongully && rt lib)
+//!     rustc --edition 2024 -O examples/rust/check_sheet.rs -L crates/lemongully/out -l static=lemongully -o check_sheet_rust
 //!     ./check_sheet_rust < examples/joint_2.sheet
 
 use std::io::Read;

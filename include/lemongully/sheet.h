@@ -1,7 +1,7 @@
 /* Requests and sheets: docs/FORMAT.md has the bytes, the fields that are read, and each refusal.
  *
- * Link with target/staticlib/liblemongully.a, which `rt staticlib lemongully` makes; it needs memcpy
- * and memset and nothing else:  cc program.c -Iinclude -Ltarget/staticlib -llemongully
+ * Link with crates/lemongully/out/liblemongully.a, which `rt lib` in crates/lemongully makes; it needs
+ * memcpy and memset and nothing else:  cc program.c -Iinclude -Lcrates/lemongully/out -llemongully
  *
  * Lengths count elements, not bytes: places of double, bytes of uint8_t. Nothing is asked of a caller
  * but that each pointer lends as many elements as the number behind it says, is not null (also where

@@ -1,5 +1,5 @@
 //! The proved library, linked: a module for each crate, over the archives that
-//! `rt staticlib` makes. Nothing is asked of a caller unless a function says so.
+//! `rt lib` makes. Nothing is asked of a caller unless a function says so.
 
 /// The float floor and the trigonometry, by bits.
 pub mod float {

@@ -1,5 +1,5 @@
 //! The archive that a supplier links asks for nothing but `memcpy` and `memset`.
-//! Runs with the feature `linked`, after `rt staticlib lemongully`.
+//! Runs with the feature `linked`, after `rt lib` in `crates/lemongully`.
 
 #![cfg(feature = "linked")]
 
@@ -9,8 +9,9 @@ use std::process::Command;
 
 #[test]
 fn the_archive_asks_for_memcpy_and_memset_alone() {
-    let archive = Path::new(env!("CARGO_MANIFEST_DIR")).join("../target/staticlib/liblemongully.a");
-    assert!(archive.exists(), "run `rt staticlib lemongully` first");
+    let archive =
+        Path::new(env!("CARGO_MANIFEST_DIR")).join("../crates/lemongully/out/liblemongully.a");
+    assert!(archive.exists(), "run `rt lib` in crates/lemongully first");
     let output = Command::new("nm")
         .arg("-u")
         .arg(&archive)

@@ -65,12 +65,25 @@ fn shut(file: &Path) -> &'static [&'static str] {
     }
 }
 
-/// Whether a line imports from one of these folders.
+/// What a line imports, if it is an import: what follows `use`.
+fn import(line: &str) -> Option<&str> {
+    let line = line.trim_start();
+    line.strip_prefix("pub ")
+        .unwrap_or(line)
+        .strip_prefix("use ")
+}
+
+/// Whether a line imports from one of these folders of `specs/`, or from a crate's `proofs/`.
+/// The library's `Rattle.std.proofs` has definitions of its own.
 fn leaves(line: &str, folders: &[&str]) -> bool {
-    line.trim_start().starts_with("use ")
-        && folders
-            .iter()
-            .any(|folder| line.contains(&format!("specs.{folder}.")))
+    let Some(path) = import(line) else {
+        return false;
+    };
+    let std = path.starts_with("Rattle.std.");
+    folders
+        .iter()
+        .any(|folder| path.contains(&format!(".specs.{folder}.")))
+        || (path.contains(".proofs.") && !std)
 }
 
 #[test]
@@ -93,23 +106,47 @@ fn definitions_import_definitions_alone() {
 #[test]
 fn an_import_from_a_law_is_seen() {
     let [pose, demands] = ["Pose", "Demands"].map(|name| shut(Path::new(name)));
-    let law = "use Rattle·float.specs.Laws.Within.{Within}";
+    let law = "use Rattle.float.specs.Laws.Within.{Within}";
     assert!(leaves(law, pose) && leaves(law, demands));
-    let promise = "use Rattle·sampling·specs.specs.Promises.Plan as Plan";
+    let again = "pub use Rattle.float.specs.Laws.Within.{Within}";
+    assert!(leaves(again, pose) && leaves(again, demands));
+    let promise = "use Rattle.sampling.specs.Promises.Plan as Plan";
     assert!(leaves(promise, pose) && !leaves(promise, demands));
-    assert!(!leaves("use Rattle·float.specs.Number.{abs}", pose));
+    let proof = "use Rattle.float.proofs.Pattern.{sign}";
+    assert!(leaves(proof, pose) && leaves(proof, demands));
+    assert!(!leaves("use Rattle.float.specs.Number.{abs}", pose));
+    assert!(!leaves("use Rattle.std.proofs.Common.{sym}", pose));
 }
 
 /// The crate and the file's name, for an import of another file of `specs/`; none for the types that
-/// the code declares, and for the logic's own libraries.
-fn imported(line: &str) -> Option<(String, String)> {
-    let rest = line.split("Rattle·").nth(1)?;
-    let name = rest.split(['·', '.']).next()?;
-    let path = rest.split("specs.").last()?;
-    let path = path.split([' ', '{', ';']).next()?.trim_end_matches('.');
-    let file = path.replace('.', "/");
+/// the code declares, and for the libraries of the logic and of the language.
+fn imported(path: &str) -> Option<(String, String)> {
+    let (name, rest) = path.strip_prefix("Rattle.")?.split_once('.')?;
+    if name == "std" {
+        return None;
+    }
+    let rest = rest
+        .strip_prefix("specs.")
+        .unwrap_or_else(|| panic!("{path} is not of specs/"));
+    let file = rest.split([' ', '{', ';']).next()?.trim_end_matches('.');
+    let file = file.replace('.', "/");
     let declared = file.starts_with("declared");
     (!declared).then(|| (name.to_string(), file))
+}
+
+#[test]
+fn an_import_is_read() {
+    let found = |crate_: &str, file: &str| Some((crate_.to_string(), file.to_string()));
+    let number = imported("Rattle.float.specs.Number.{abs}");
+    assert_eq!(number, found("float", "Number"));
+    let plan = imported("Rattle.sheet.specs.Promises.Plan as Promise;");
+    assert_eq!(plan, found("sheet", "Promises/Plan"));
+    assert_eq!(
+        imported("Rattle.float.specs.declared.wide.Wide.{Wide}"),
+        None
+    );
+    assert_eq!(imported("Rattle.std.specs.Prelude.{ℕ}"), None);
+    assert_eq!(imported("lib.Ieee.{nan}"), None);
 }
 
 /// The imports that the contract of a public function names.
@@ -146,11 +183,7 @@ fn reached() -> BTreeMap<String, BTreeMap<String, usize>> {
             continue;
         }
         let text = text(&root().join(format!("crates/{name}/specs/{file}.antt")));
-        waiting.extend(
-            text.lines()
-                .filter(|line| line.starts_with("use "))
-                .filter_map(imported),
-        );
+        waiting.extend(text.lines().filter_map(import).filter_map(imported));
         found
             .entry(name)
             .or_default()

@@ -1,10 +1,5 @@
 -- A list of which the first i elements are stepped.
-use Prim.Native.Nat.{ℕ, zero, suc, ◌+◌, ◌<◌, ◌≤◌}
-use native.Mathlib.Numerals.{add-one}
-use native.Mathlib.Omega.{arith}
-use mathlib.Core.Path.{◌≡◌, refl, ap}
-use mathlib.Core.List.{List, [], ◌∷◌, ◌++◌, map}
-use lib.ListN.{length, take, drop, get_or, set}
+use Rattle.std.proofs.Common.{ℕ, zero, suc, ◌+◌, ◌<◌, ◌≤◌, add-one, arith, ◌≡◌, refl, ap, List, [], ◌∷◌, ◌++◌, map, length, take, drop, get_or, set}
 
 module _ {A : Type 0} (f : A → A) where
   abbrev pub stepped : ℕ → List A → List A

@@ -1,2 +1,2 @@
--- Module 4 one number at a time, for C: `Parts`, which a reader must believe.
+-- Module 4 one number at a time: `Parts`, which a reader must believe.
 pub mod Parts

@@ -82,7 +82,7 @@ range center tolerance = record { center = of_bits binary64 center; tolerance = 
 abbrev pub quaternion : ℕ → ℕ → ℕ → ℕ → Quaternion
 quaternion x y z w = record { x = of_bits binary64 x; y = of_bits binary64 y; z = of_bits binary64 z; w = of_bits binary64 w }
 
--- the four functions for C
+-- the four functions
 unfoldable pub center : Float → Float → ℕ → ℕ
 center from to part = of_center (compute_center from to) part
 

@@ -1,5 +1,6 @@
-// Module 4 for C, one number at a time: floats by bits, in and out, so that every NaN is
-// 7FF8000000000000. The last parameter says which number of the answer is wanted.
+// Module 4, one number at a time: floats by bits, in and out, so that every NaN is
+// 7FF8000000000000. The last parameter says which number of the answer is wanted. `sampling_parts_c`
+// has these functions for C.
 ghost use Rattle.std.specs.Prelude.{◌≡◌};
 ghost use Rattle.std.specs.Float.{binary64};
 ghost use Rattle.std.specs.Float.Ieee.{of_bits};
@@ -16,16 +17,14 @@ use sampling::pose::{Quaternion, try_normalize};
 pub mod parts;
 
 // The limits from `from` to `to`: their centre for part 0, else their tolerance.
-#[unsafe(no_mangle)]
-pub extern "C" fn parts_center(from: u64, to: u64, part: u64) -> u64
+pub fn parts_center(from: u64, to: u64, part: u64) -> u64
     ensures { result ≡ Parts.center (of_bits binary64 from) (of_bits binary64 to) part }
 {
     of_center(compute_center(of_bits(from), of_bits(to)), part)
 }
 
 // The interval of a joint's model angle, where `limited` is 0 for no limits.
-#[unsafe(no_mangle)]
-pub extern "C" fn parts_limits(
+pub fn parts_limits(
     limited: u64,
     sign: u64,
     offset: u64,
@@ -47,8 +46,7 @@ pub extern "C" fn parts_limits(
 }
 
 // One of the three intervals of allowed displacements: 0, 1, else the third.
-#[unsafe(no_mangle)]
-pub extern "C" fn parts_interval(
+pub fn parts_interval(
     center: u64,
     tolerance: u64,
     reference: u64,
@@ -67,8 +65,7 @@ pub extern "C" fn parts_interval(
 }
 
 // The normalized quaternion and its matrix.
-#[unsafe(no_mangle)]
-pub extern "C" fn parts_pose(x: u64, y: u64, z: u64, w: u64, part: u64) -> u64
+pub fn parts_pose(x: u64, y: u64, z: u64, w: u64, part: u64) -> u64
     ensures { result ≡ Parts.pose (Parts.quaternion x y z w) part }
 {
     let q = Quaternion {

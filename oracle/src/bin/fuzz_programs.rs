@@ -1,7 +1,6 @@
-//! Hostile standard input for the three programs, after `rt check make_sheet
-//! check_sheet show_pages`: `fuzz_programs COUNT [SEED] [--valgrind]`. What a program
-//! writes must be what the oracle says, and its exit status 0. With
-//! `--valgrind` programs are linked anew by the system's compiler and run under
+//! Hostile standard input for the three programs, after `rt run` in the folder of
+//! each: `fuzz_programs COUNT [SEED] [--valgrind]`. What a program writes must be
+//! what the oracle says, and its exit status 0. With `--valgrind` programs run under
 //! memcheck. Prints the answers by number; at the first fault, the input in
 //! hexadecimal, with exit status 1.
 
@@ -132,35 +131,20 @@ fn start(words: &[PathBuf], run: &Run) -> Result<(ExitStatus, Written)> {
     Ok((output.status, (output.stdout, output.stderr)))
 }
 
-/// The words that start a program: by itself, or from a folder under memcheck.
-fn words(root: &Path, memcheck: Option<&Path>, name: &str) -> Vec<PathBuf> {
-    match memcheck {
-        None => vec![root.join("target/bin").join(name)],
-        Some(folder) => {
-            let options = ["valgrind", "-q", "--error-exitcode=99"];
-            let options = options.iter().map(PathBuf::from);
-            options.chain([folder.join(name)]).collect()
-        }
-    }
+/// Where `rt run` puts a program.
+fn built(name: &str) -> PathBuf {
+    let root = Path::new(env!("CARGO_MANIFEST_DIR")).join("..");
+    root.join(format!("crates/{name}/out/{name}"))
 }
 
-/// Links the programs with the system's C library.
-fn link(root: &Path) -> Outcome<PathBuf> {
-    let folder = Path::new(env!("CARGO_MANIFEST_DIR")).join("target/memcheck");
-    std::fs::create_dir_all(&folder)?;
-    for name in NAMES {
-        let object = root.join(format!("target/obj/{name}.o"));
-        let program = folder.join(name);
-        let status = Command::new("cc")
-            .arg(object)
-            .arg("-o")
-            .arg(program)
-            .status()?;
-        if !status.success() {
-            return Err(format!("{name} is not linked").into());
-        }
-    }
-    Ok(folder)
+/// The words that start a program: by itself, or under memcheck.
+fn words(memcheck: bool, name: &str) -> Vec<PathBuf> {
+    let options: &[&str] = match memcheck {
+        true => &["valgrind", "-q", "--error-exitcode=99"],
+        false => &[],
+    };
+    let options = options.iter().map(PathBuf::from);
+    options.chain([built(name)]).collect()
 }
 
 /// How often each program gave each answer.
@@ -179,13 +163,14 @@ fn compare(run: &Run, status: ExitStatus, found: &Written, expected: &Written) -
 
 /// So many runs, or the first fault.
 fn fuzz(count: u64, seed: u64, valgrind: bool) -> Outcome<Counts> {
-    let root = Path::new(env!("CARGO_MANIFEST_DIR")).join("..");
-    let memcheck = if valgrind { Some(link(&root)?) } else { None };
+    if let Some(name) = NAMES.into_iter().find(|name| !built(name).exists()) {
+        return Err(format!("{name} is not built: `rt run` in crates/{name} first").into());
+    }
     let mut counts = Counts::new();
     for index in 0..count {
         let run = drawn(seed, index);
         let expected = expected(&run);
-        let (status, found) = start(&words(&root, memcheck.as_deref(), run.name), &run)?;
+        let (status, found) = start(&words(valgrind, run.name), &run)?;
         compare(&run, status, &found, &expected)?;
         *counts.entry((run.name, answer(&expected))).or_default() += 1;
     }

@@ -1,12 +1,8 @@
 -- The operation's number is at most 2 ^ 9 - 3 in magnitude, since there are at most nine coefficients.
-use Prim.Native.Nat.{ℕ, ◌+◌, ◌%◌, ◌≤◌, zero-le}
-use native.Mathlib.Omega.{arith}
-use mathlib.Core.Path.{◌≡◌, refl, sym}
-use mathlib.Core.Bool.{Bool, true, false, cond, ◌&&◌, ◌||◌, false≢true}
-use mathlib.Core.List.{List, [], ◌∷◌}
+use Rattle.std.proofs.Common.{ℕ, ◌+◌, ◌%◌, ◌≤◌, zero-le, arith, ◌≡◌, refl, sym, Bool, true, false, cond, ◌&&◌, ◌||◌, List, [], ◌∷◌, length}
+use mathlib.Core.Bool.{false≢true}
 use lib.IntN.{nat_abs}
 use lib.Dec.{ltb, leb, eqb, lit≤}
-use lib.ListN.{length}
 use lib.Ieee.{Float}
 use borrow.Author.Tests.{ltb-false}
 use Rattle.polynomial.specs.Roots.{roots}
