@@ -38,9 +38,9 @@ module _ (origin : Float) (l : List Float) (i n : ℕ) where
 
 -- ---- polynomials in nine places
 
--- a field of nine places has three: it is as long as what it is mapped to
-pub three : (A B : Type 0) (f : A → B) (l : List A) → length (map f l) ≡ 9 → 3 ≤ length l
-three A B f l e = let h = length-map l f in omega arith
+-- a field of nine places has three
+pub three : (l : List Compensated) → length l ≡ 9 → 3 ≤ length l
+three l e = omega arith
 
 nine_long : (l : List Compensated) → 9 ≤ length (nine l)
 unfolding nine

@@ -12,9 +12,6 @@ use Rattle.sampling.specs.CriticalSlices as Of
 use Rattle.sampling.proofs.Grown.{none}
 use Rattle.sampling.proofs.CriticalSlices.{three, met_grown}
 use Rattle.sampling.proofs.critical_slices.meetings.Goals as goal
-use Rattle.sampling.proofs.critical_slices.meetings.Lts as lts
-use Rattle.sampling.proofs.critical_slices.meetings.Reads as reads
-use Rattle.sampling.proofs.critical_slices.meetings.Tie as tie
 
 pub loop-earlier-init : goal.loop-earlier-init
 unfolding flat_map
@@ -23,7 +20,11 @@ loop-earlier-init c = (search rules, search rules, refl, none)
 pub loop-earlier-preserved : goal.loop-earlier-preserved
 loop-earlier-preserved c = let a = c.args in
     let r = c.chart_roots-state.ensures in
-    let t : Threes a.k = search three in
+    let t : Threes a.k = (
+      three a.k.a c.well_formed.1.1.1.1.1.0.1.1.0.1.0.1,
+      three a.k.b c.well_formed.1.1.1.1.1.0.1.1.1.0.1.0.1,
+      three a.k.c c.well_formed.1.1.1.1.1.0.1.1.1.1.0.1.0.1,
+    ) in
     let f = c.intersection.ensures in
     let i = c.loop-earlier.earlier in (
       search rules,
