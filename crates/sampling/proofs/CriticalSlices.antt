@@ -4,8 +4,8 @@ use native.Mathlib.Nat.{not-suc-le-zero, le_of_suc-le-suc}
 use native.Mathlib.Omega.{arith}
 use native.Mathlib.Numerals.{add-one}
 use mathlib.Core.Path.{◌≡◌, refl, sym, ap, subst, ◌∙◌}
-use mathlib.Core.List.{List, [], ◌∷◌, ◌++◌, map, flat_map, map-append, append-nil}
-use lib.ListN.{length, take, get_or, set, replicate, length-append, length-map, length-replicate}
+use mathlib.Core.List.{List, [], ◌∷◌, ◌++◌, flat_map, map-append, append-nil}
+use lib.ListN.{length, take, get_or, set, replicate, length-append, length-replicate}
 use lib.Seq.{slice, slice-cons, slice_empty, take-suc, take-suc-set, length-take-le, get_or-take}
 use lib.Ieee.{Float, nan, neg}
 use Rattle.float.specs.Number.{◌⊕◌, ◌⊗◌, one_float, two_float}

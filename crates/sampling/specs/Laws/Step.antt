@@ -1,6 +1,6 @@
 -- A step of the stream: it gives the first of what is to come, and one value fewer is left behind it.
-use Prim.Native.Nat.{ℕ, zero, suc, ◌+◌, ◌-◌, ◌≤◌, ◌<◌}
-use Rattle.std.proofs.Common.{le_of_suc-le-suc, not-suc-le-zero, arith, sym, subst, ◌∙◌}
+use Prim.Native.Nat.{ℕ, zero, suc, ◌+◌, ◌-◌, ◌≤◌}
+use Rattle.std.proofs.Common.{le_of_suc-le-suc, not-suc-le-zero, arith, sym, subst}
 use Rattle.std.specs.Prelude.{◌≡◌, Bool, not, cond, ◌&&◌, T, length, drop}
 use Rattle.std.proofs.Math.Path.{refl}
 use Rattle.std.proofs.Math.Bool.{true, false}

@@ -1,6 +1,5 @@
 -- `sampling::bend_slices::axis_angles` meets its contract: at each return, what the calls and the tests on the way to it say.
 use lib.Ieee.{of_bits}
-use borrow.Author.Rules.{rules}
 use Rattle.sampling.specs.BendSlices.{axis_angles}
 use Rattle.sampling.proofs.Pushed.{then}
 use Rattle.sampling.proofs.bend_slices.axis_angles.Goals as goal

@@ -1,5 +1,4 @@
 -- `sampling::bend_slices::bend_slice` meets its contract: at each return, what the calls and the tests on the way to it say.
-use borrow.Author.Rules.{rules}
 use Rattle.sampling.specs.BendSlices.{bend_slice}
 use Rattle.sampling.proofs.Pushed.{then}
 use Rattle.sampling.proofs.bend_slices.bend_slice.Goals as goal

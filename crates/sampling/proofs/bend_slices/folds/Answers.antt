@@ -1,5 +1,4 @@
 -- `sampling::bend_slices::folds` meets its contract: at each return, what the calls and the tests on the way to it say.
-use borrow.Author.Rules.{rules}
 use Rattle.sampling.specs.BendSlices.{folds}
 use Rattle.sampling.proofs.bend_slices.folds.Goals as goal
 

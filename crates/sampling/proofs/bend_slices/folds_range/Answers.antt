@@ -1,5 +1,4 @@
 -- `sampling::bend_slices::folds_range` meets its contract: at each return, what the calls and the tests on the way to it say.
-use borrow.Author.Rules.{rules}
 use Rattle.sampling.specs.BendSlices.{folds_range}
 use Rattle.sampling.proofs.Pushed.{none, then}
 use Rattle.sampling.proofs.bend_slices.folds_range.Goals as goal

@@ -1,5 +1,4 @@
 -- `sampling::bends::bend_at` meets its contract: at each return, what the calls and the tests on the way to it say.
-use borrow.Author.Rules.{rules}
 use Rattle.sampling.specs.Bends.{bend_at}
 use Rattle.sampling.proofs.Pushed.{none}
 use Rattle.sampling.proofs.bends.bend_at.Goals as goal

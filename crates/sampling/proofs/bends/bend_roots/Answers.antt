@@ -10,13 +10,13 @@ roots_by-m-requires c = record { n_in_bounds = search rules; polar_value = searc
 pub returns-then-narrow : goal.returns-then-narrow
 unfolding bend_roots
 returns-then-narrow c = simp (
-      ← c.sin_cos-a.ensures,
-      ← c.abs-sine.ensures,
-      ← c.narrow.ensures,
-      c.if-narrow.true,
-      ← c.harmonic.ensures,
-      ← c.harmonic-then-narrow.ensures,
-    )
+  ← c.sin_cos-a.ensures,
+  ← c.abs-sine.ensures,
+  ← c.narrow.ensures,
+  c.if-narrow.true,
+  ← c.harmonic.ensures,
+  ← c.harmonic-then-narrow.ensures,
+)
     (then c.roots_by-m.ensures c.norm_roots.ensures)
 
 pub returns : goal.returns

@@ -11,5 +11,4 @@ overflow_add-result c = let a = c.args in
 
 pub returns : goal.returns
 returns c = let a = c.args in
-    
     behind 58 a.n (search rules) (squared_norm_few a.x a.y a.norm) c.squared_norm_roots.ensures.value c.squared_norm_roots.ensures.out_after

@@ -1,5 +1,4 @@
 -- `sampling::boundaries::add` meets its contract: at each return, what the calls and the tests on the way to it say.
-use borrow.Author.Rules.{rules}
 use Rattle.sampling.proofs.boundaries.add.Goals as goal
 
 pub returns : goal.returns

@@ -1,5 +1,4 @@
 -- `sampling::boundaries::bend_curve` meets its contract: at each return, what the calls and the tests on the way to it say.
-use borrow.Author.Rules.{rules}
 use Rattle.sampling.specs.Boundaries.{bend_curve}
 use Rattle.sampling.proofs.boundaries.bend_curve.Goals as goal
 

@@ -1,7 +1,6 @@
 -- `sampling::boundaries::boundaries` meets its contract: at each return, what the calls and the tests on the way to it say.
 use native.Mathlib.Omega.{arith}
 use mathlib.Core.Path.{◌∙◌}
-use borrow.Author.Rules.{rules}
 use Rattle.sampling.specs.Boundaries.{boundaries}
 use Rattle.sampling.proofs.Pushed.{then}
 use Rattle.sampling.proofs.boundaries.boundaries.Goals as goal

@@ -1,6 +1,5 @@
 -- `sampling::boundaries::corner_curves` meets its contract: at each return, what the calls and the tests on the way to it say.
 use lib.Ieee.{of_bits}
-use borrow.Author.Rules.{rules}
 use Rattle.sampling.specs.Boundaries.{corner_curves}
 use Rattle.sampling.proofs.Pushed.{none, then}
 use Rattle.sampling.proofs.boundaries.corner_curves.Goals as goal

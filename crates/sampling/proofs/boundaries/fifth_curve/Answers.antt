@@ -1,5 +1,4 @@
 -- `sampling::boundaries::fifth_curve` meets its contract: at each return, what the calls and the tests on the way to it say.
-use borrow.Author.Rules.{rules}
 use Rattle.sampling.specs.Boundaries.{fifth_curve}
 use Rattle.sampling.proofs.boundaries.fifth_curve.Goals as goal
 

@@ -1,6 +1,5 @@
 -- `sampling::boundaries::pole_curves` meets its contract: at each return, what the calls and the tests on the way to it say.
 use lib.Ieee.{of_bits}
-use borrow.Author.Rules.{rules}
 use Rattle.sampling.specs.Boundaries.{pole_curves}
 use Rattle.sampling.proofs.Pushed.{then}
 use Rattle.sampling.proofs.boundaries.pole_curves.Goals as goal

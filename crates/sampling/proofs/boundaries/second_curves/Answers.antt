@@ -1,5 +1,4 @@
 -- `sampling::boundaries::second_curves` meets its contract: at each return, what the calls and the tests on the way to it say.
-use borrow.Author.Rules.{rules}
 use Rattle.sampling.specs.Boundaries.{second_curves}
 use Rattle.sampling.proofs.Pushed.{none, then}
 use Rattle.sampling.proofs.boundaries.second_curves.Goals as goal

@@ -1,5 +1,4 @@
 -- `sampling::boundaries::sixth_curves` meets its contract: at each return, what the calls and the tests on the way to it say.
-use borrow.Author.Rules.{rules}
 use Rattle.sampling.specs.Boundaries.{sixth_curves}
 use Rattle.sampling.proofs.Pushed.{none, then}
 use Rattle.sampling.proofs.boundaries.sixth_curves.Goals as goal

@@ -1,5 +1,4 @@
 -- `sampling::boundaries::wrist_limits` meets its contract: at each return, what the calls and the tests on the way to it say.
-use borrow.Author.Rules.{rules}
 use Rattle.sampling.specs.Boundaries.{wrist_limits}
 use lib.Ieee.{of_bits}
 use Rattle.sampling.proofs.boundaries.wrist_limits.Goals as goal

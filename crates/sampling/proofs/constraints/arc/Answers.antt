@@ -1,7 +1,5 @@
 -- `sampling::constraints::arc` meets its contract: at each return, what the calls and the tests on the way to it say.
 use lib.Ieee.{of_bits}
-use borrow.Author.Rules.{rules}
-use Rattle.sampling.specs.Constraints.{arc}
 use Rattle.sampling.proofs.constraints.arc.Goals as goal
 
 pub returns : goal.returns

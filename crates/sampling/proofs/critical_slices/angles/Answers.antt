@@ -1,13 +1,9 @@
 -- `sampling::critical_slices::angles` meets its contract. The loop's invariant: where the angles of the roots that are left come to a slice, all come to it.
 use borrow.Author.Rules.{rules}
-use mathlib.Core.Path.{◌≡◌, refl, ◌∙◌}
-use Prim.Native.Nat.{◌-◌, ◌≤◌}
+use mathlib.Core.Path.{refl, ◌∙◌}
 use native.Mathlib.Omega.{arith}
-use lib.ListN.{length, take}
-use lib.Seq.{slice}
 use lib.Ieee.{of_bits}
-use Rattle.sampling.specs.CriticalSlices as Of
-use Rattle.sampling.proofs.Grown.{Leads, leads_all, leads_next, leads_end}
+use Rattle.sampling.proofs.Grown.{leads_all, leads_next, leads_end}
 use Rattle.sampling.proofs.CriticalSlices.{angles_next, angles_end}
 use Rattle.sampling.proofs.critical_slices.angles.Goals as goal
 
@@ -17,11 +13,11 @@ loop-i-init c = (search rules, refl, leads_all)
 pub loop-i-preserved : goal.loop-i-preserved
 unfolding of_bits
 loop-i-preserved c = let a = c.args in (
-      search rules,
-      c.push-state.ensures.same ∙ c.loop-i.invariant.1,
-      leads_next c.loop-i.invariant.2 (angles_next a.origin a.roots.now c.loop-i.i a.n (search rules) (search rules)
-          ∙ rw (← c.atan.ensures)) c.push-state.ensures,
-    )
+  search rules,
+  c.push-state.ensures.same ∙ c.loop-i.invariant.1,
+  leads_next c.loop-i.invariant.2 (angles_next a.origin a.roots.now c.loop-i.i a.n (search rules) (search rules)
+      ∙ rw (← c.atan.ensures)) c.push-state.ensures,
+)
 
 pub returns : goal.returns
 returns c = let a = c.args in

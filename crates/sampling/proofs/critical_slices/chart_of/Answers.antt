@@ -1,5 +1,4 @@
 -- `sampling::critical_slices::chart_of` meets its contract: at each return, what the calls and the tests on the way to it say.
-use borrow.Author.Rules.{rules}
 use lib.Ieee.{of_bits}
 use Rattle.sampling.specs.CriticalSlices.{chart}
 use Rattle.sampling.proofs.critical_slices.chart_of.Goals as goal

@@ -7,7 +7,6 @@ use lib.ListN.{length, take, drop, length-append}
 use lib.Pow.{pow_mono}
 use lib.Seq.{take_at}
 use lib.Ieee.{Float}
-use borrow.Author.Rules.{rules}
 use Rattle.polynomial.specs.Roots.{roots}
 use Rattle.polynomial.specs.declared.compensated.Compensated.{Compensated}
 use Rattle.sampling.specs.CriticalSlices.{chart_roots}

@@ -1,15 +1,10 @@
 -- `sampling::critical_slices::critical` meets its contract. The loop's invariant: what the first j curves give is in the cuts, and their polynomials are kept.
-use Prim.Native.Nat.{◌-◌, ◌≤◌}
 use native.Mathlib.Omega.{arith}
 use mathlib.Core.Path.{◌≡◌, refl, ◌∙◌}
-use lib.ListN.{length, take}
 use borrow.Author.Rules.{rules}
 use Rattle.sampling.specs.Laws.CriticalSlices.{critical_nil}
-use Rattle.sampling.specs.Promises.Curves.{most_curves}
-use Rattle.sampling.specs.Promises.Grown.{Grown}
-use Rattle.sampling.specs.CriticalSlices as Of
 use Rattle.sampling.proofs.Grown.{none}
-use Rattle.sampling.proofs.CriticalSlices.{Known, known_none, known_more, critical_grown}
+use Rattle.sampling.proofs.CriticalSlices.{known_none, known_more, critical_grown}
 use Rattle.sampling.proofs.critical_slices.critical.Goals as goal
 
 pub loop-j-init : goal.loop-j-init

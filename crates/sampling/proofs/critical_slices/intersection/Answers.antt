@@ -1,7 +1,6 @@
 -- `sampling::critical_slices::intersection` meets its contract: at each return, what the calls and the tests on the way to it say.
 use Prim.Native.Nat.{◌≤◌}
 use lib.ListN.{length}
-use borrow.Author.Rules.{rules}
 use Rattle.polynomial.specs.Laws.Nine.{determinant_front}
 use Rattle.sampling.specs.CriticalSlices.{intersection}
 use Rattle.sampling.proofs.CriticalSlices.{three}

@@ -1,14 +1,9 @@
 -- `sampling::critical_slices::meetings` meets its contract. The loop's invariant: what the first i give is in the cuts.
-use Prim.Native.Nat.{◌-◌, ◌≤◌}
 use native.Mathlib.Omega.{arith}
 use mathlib.Core.Path.{◌≡◌, refl, ◌∙◌}
 use mathlib.Core.List.{flat_map}
-use lib.ListN.{length, take}
 use borrow.Author.Rules.{rules}
-use Rattle.sampling.specs.Promises.Curves.{most_curves}
-use Rattle.sampling.specs.Promises.Grown.{Grown}
-use Rattle.sampling.specs.Promises.Numerators.{first_three, first_threes, Threes, meetings}
-use Rattle.sampling.specs.CriticalSlices as Of
+use Rattle.sampling.specs.Promises.Numerators.{Threes}
 use Rattle.sampling.proofs.Grown.{none}
 use Rattle.sampling.proofs.CriticalSlices.{three, met_grown}
 use Rattle.sampling.proofs.critical_slices.meetings.Goals as goal

@@ -2,7 +2,6 @@
 use Prim.Native.Nat.{◌+◌, ◌-◌}
 use native.Mathlib.Omega.{arith}
 use lib.Ieee.{of_bits}
-use borrow.Author.Rules.{rules}
 use Rattle.polynomial.specs.Laws.Nine.{add_front, multiply_front}
 use Rattle.sampling.specs.CriticalSlices.{squares}
 use Rattle.sampling.proofs.critical_slices.squares.Goals as goal

@@ -1,5 +1,4 @@
 -- `sampling::critical_slices::tangency` meets its contract: at each return, what the calls and the tests on the way to it say.
-use borrow.Author.Rules.{rules}
 use Rattle.sampling.specs.CriticalSlices.{tangency}
 use Rattle.sampling.proofs.critical_slices.tangency.Goals as goal
 

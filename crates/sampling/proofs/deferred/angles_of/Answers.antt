@@ -1,10 +1,9 @@
 -- `sampling::deferred::angles_of` meets its contract. The loop's invariant: the angles of those before i are worked out.
-use Prim.Native.Nat.{◌+◌, ◌-◌, ◌≤◌}
+use Prim.Native.Nat.{◌+◌}
 use native.Mathlib.Omega.{arith}
-use mathlib.Core.Path.{◌≡◌}
-use lib.ListN.{length, drop, length-drop}
+use lib.ListN.{length-drop}
 use borrow.Author.Rules.{rules}
-use Rattle.sampling.proofs.Deferrals.{Part, start, next, next_two, finish, at, at_two}
+use Rattle.sampling.proofs.Deferrals.{start, next, next_two, finish, at, at_two}
 use Rattle.sampling.proofs.deferred.angles_of.Goals as goal
 
 pub loop-i-init : goal.loop-i-init
@@ -15,11 +14,11 @@ push_two-k-requires c = omega (arith, c.loop-i.invariant.0.put.most, c.loop-i.in
 
 pub loop-i-preserved : goal.loop-i-preserved
 loop-i-preserved c = let a = c.args in (
-      next_two c.pending_at-p.result c.pending_at-q.result c.loop-i.invariant.0
-          (at_two a.deferred.now c.loop-i.i _ _ c.pending_at-p.ensures c.pending_at-q.ensures) c.push_two-k.ensures,
-      search rules,
-      search rules,
-    )
+  next_two c.pending_at-p.result c.pending_at-q.result c.loop-i.invariant.0
+      (at_two a.deferred.now c.loop-i.i _ _ c.pending_at-p.ensures c.pending_at-q.ensures) c.push_two-k.ensures,
+  search rules,
+  search rules,
+)
 
 pub push_one-requires : goal.push_one-requires
 push_one-requires c = omega (arith, c.loop-i.invariant.0.put.most, c.loop-i.invariant.2, c.if-i-count.true, c.requires)

@@ -2,7 +2,6 @@
 use mathlib.Core.Path.{◌≡◌, ap, ◌∙◌}
 use mathlib.Core.List.{List, [], ◌∷◌, ◌++◌}
 use lib.Ieee.{Float}
-use borrow.Author.Rules.{rules}
 use Rattle.float.specs.Number.{◌⊕◌, ◌⊖◌}
 use Rattle.float.specs.declared.arc.Four.{Four}
 use Rattle.polynomial.specs.Angle.{wrapped_angle}

@@ -1,6 +1,5 @@
 -- `sampling::deferred::defer` meets its contract: at each return, what the calls and the tests on the way to it say.
 use native.Mathlib.Omega.{arith}
-use borrow.Author.Rules.{rules}
 use Rattle.sampling.proofs.Deferrals.{one, dropped}
 use Rattle.sampling.proofs.Pushed.{then}
 use Rattle.sampling.proofs.continuum.Steps.{met_roots, missed_roots}

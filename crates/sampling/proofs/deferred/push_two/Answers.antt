@@ -1,5 +1,4 @@
 -- `sampling::deferred::push_two` meets its contract: at each return, what the calls and the tests on the way to it say.
-use borrow.Author.Rules.{rules}
 use Rattle.sampling.proofs.Pushed.{same, then}
 use Rattle.sampling.proofs.deferred.push_two.Goals as goal
 

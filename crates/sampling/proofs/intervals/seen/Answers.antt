@@ -1,6 +1,5 @@
 -- `sampling::intervals::seen` meets its contract: at each return, what the calls and the tests on the way to it say.
 use lib.Ieee.{of_bits}
-use borrow.Author.Rules.{rules}
 use Rattle.sampling.specs.Intervals.{seen}
 use Rattle.sampling.proofs.intervals.seen.Goals as goal
 

@@ -1,6 +1,5 @@
 -- `sampling::intervals::wrist_limit_intervals` meets its contract: at each return, what the calls and the tests on the way to it say.
 use lib.Ieee.{of_bits, neg}
-use borrow.Author.Rules.{rules}
 use Rattle.sampling.specs.Intervals.{wrist_limit_intervals}
 use Rattle.sampling.proofs.intervals.wrist_limit_intervals.Goals as goal
 

@@ -3,7 +3,6 @@ use native.Mathlib.Omega.{arith}
 use mathlib.Core.Path.{refl, subst}
 use mathlib.Core.List.{[]}
 use lib.ListN.{length}
-use borrow.Author.Rules.{rules}
 use Rattle.sampling.specs.J1j2free.{cut_count}
 use Rattle.sampling.specs.Promises.Charts.{Charted}
 use Rattle.sampling.specs.Promises.Plan.{folded_plan, folded_cuts}

@@ -1,5 +1,4 @@
 -- `sampling::j1j2free::halves_of` meets its contract: at each return, what the calls and the tests on the way to it say.
-use borrow.Author.Rules.{rules}
 use Rattle.sampling.proofs.j1j2free.halves_of.Goals as goal
 
 pub returns-in-Count-second : goal.returns-in-Count-second

@@ -1,5 +1,4 @@
 -- `sampling::j1j2free::model_reference` meets its contract: at each return, what the calls and the tests on the way to it say.
-use borrow.Author.Rules.{rules}
 use Rattle.sampling.specs.J1j2free.{model_reference}
 use Rattle.sampling.proofs.j1j2free.model_reference.Goals as goal
 

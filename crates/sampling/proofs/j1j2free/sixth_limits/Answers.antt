@@ -1,5 +1,4 @@
 -- `sampling::j1j2free::sixth_limits` meets its contract: at each return, what the calls and the tests on the way to it say.
-use borrow.Author.Rules.{rules}
 use Rattle.sampling.specs.J1j2free.{sixth_limits}
 use Rattle.sampling.proofs.j1j2free.sixth_limits.Goals as goal
 

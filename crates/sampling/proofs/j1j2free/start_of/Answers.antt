@@ -1,5 +1,4 @@
 -- `sampling::j1j2free::start_of` meets its contract: at each return, what the calls and the tests on the way to it say.
-use borrow.Author.Rules.{rules}
 use Rattle.sampling.proofs.j1j2free.start_of.Goals as goal
 
 pub returns-in-Count : goal.returns-in-Count

@@ -1,6 +1,5 @@
 -- `sampling::limits::centered` meets its contract: at each return, what the calls and the tests on the way to it say.
 use lib.Ieee.{of_bits}
-use borrow.Author.Rules.{rules}
 use Rattle.sampling.specs.Limits.{centered}
 use Rattle.sampling.proofs.limits.centered.Goals as goal
 

@@ -1,5 +1,4 @@
 -- `sampling::limits::limits_of` meets its contract: at each return, what the calls and the tests on the way to it say.
-use borrow.Author.Rules.{rules}
 use Rattle.sampling.specs.Limits.{limits_of}
 use lib.Ieee.{of_bits}
 use mathlib.Core.Path.{sym}
@@ -13,10 +12,10 @@ returns-then-c-is_finite c = simp (sym (ne_self c.args.c.tolerance), ← c.is_fi
 pub returns : goal.returns
 unfolding limits_of of_bits
 returns c = simp (
-      sym (ne_self c.args.c.tolerance),
-      ← c.is_finite.ensures,
-      c.if-c-is_finite.false,
-      ← c.wrapped_angle.ensures,
-      ← c.wrapped_angle-center.ensures,
-      ← c.minimum-half_width.ensures,
-    )
+  sym (ne_self c.args.c.tolerance),
+  ← c.is_finite.ensures,
+  c.if-c-is_finite.false,
+  ← c.wrapped_angle.ensures,
+  ← c.wrapped_angle-center.ensures,
+  ← c.minimum-half_width.ensures,
+)

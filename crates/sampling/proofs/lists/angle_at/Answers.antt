@@ -6,7 +6,6 @@ use mathlib.Core.List.{List}
 use lib.ListN.{length, get_or, take, drop, length-drop}
 use lib.Seq.{length-take-le}
 use lib.Ieee.{Float, nan}
-use borrow.Author.Rules.{rules}
 use Rattle.sampling.specs.Samples.{samples, sample_count, three_samples}
 use Rattle.sampling.specs.Laws.Samples.{sample_count_most, three_first, three_second, three_third}
 use Rattle.sampling.proofs.lists.angle_at.Goals as goal

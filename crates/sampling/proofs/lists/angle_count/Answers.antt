@@ -1,18 +1,17 @@
 -- `sampling::lists::angle_count` meets its contract: at each return, what the calls and the tests on the way to it say.
 use native.Mathlib.Omega.{arith}
-use borrow.Author.Rules.{rules}
 use Rattle.sampling.specs.Laws.Samples.{sample_count_most}
 use Rattle.sampling.proofs.lists.angle_count.Goals as goal
 
 pub overflow_add-result : goal.overflow_add-result
 overflow_add-result c = omega (
-      arith,
-      c.requires,
-      c.sample_count.ensures,
-      c.sample_count-2.ensures,
-      sample_count_most c.args.n.first,
-      sample_count_most c.args.n.second,
-    )
+  arith,
+  c.requires,
+  c.sample_count.ensures,
+  c.sample_count-2.ensures,
+  sample_count_most c.args.n.first,
+  sample_count_most c.args.n.second,
+)
 
 pub overflow_add-result-2 : goal.overflow_add-result-2
 overflow_add-result-2 c = let n = c.args.n in

@@ -1,6 +1,5 @@
 -- `sampling::lists::sample_count` meets its contract: at each return, what the calls and the tests on the way to it say.
 use native.Mathlib.Omega.{arith}
-use borrow.Author.Rules.{rules}
 use Rattle.sampling.specs.Laws.Samples.{sample_count_is}
 use Rattle.sampling.proofs.lists.sample_count.Goals as goal
 

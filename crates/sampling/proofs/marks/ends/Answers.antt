@@ -1,5 +1,4 @@
 -- `sampling::marks::ends` meets its contract: at each return, what the calls and the tests on the way to it say.
-use borrow.Author.Rules.{rules}
 use Rattle.sampling.specs.Marks.{ends}
 use lib.Ieee.{of_bits}
 use Rattle.sampling.proofs.marks.ends.Goals as goal

@@ -1,6 +1,5 @@
 -- `sampling::marks::marks_of` meets its contract: at each return, what the calls and the tests on the way to it say.
 use lib.Ieee.{of_bits}
-use borrow.Author.Rules.{rules}
 use Rattle.sampling.specs.Marks.{marks}
 use Rattle.sampling.proofs.marks.marks_of.Goals as goal
 

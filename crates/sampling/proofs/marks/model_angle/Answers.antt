@@ -1,5 +1,4 @@
 -- `sampling::marks::model_angle` meets its contract: at each return, what the calls and the tests on the way to it say.
-use borrow.Author.Rules.{rules}
 use Rattle.sampling.specs.Marks.{model_angle}
 use Rattle.sampling.proofs.marks.model_angle.Goals as goal
 

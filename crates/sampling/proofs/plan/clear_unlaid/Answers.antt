@@ -1,5 +1,4 @@
 -- `sampling::plan::clear_unlaid` meets its contract: by what came of the cuts.
-use borrow.Author.Rules.{rules}
 use Rattle.sampling.proofs.plan.clear_unlaid.Goals as goal
 
 pub returns-in-Short : goal.returns-in-Short

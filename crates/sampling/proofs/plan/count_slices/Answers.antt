@@ -1,5 +1,4 @@
 -- `sampling::plan::count_slices` meets its contract: what `count` says of the two parts.
-use borrow.Author.Rules.{rules}
 use mathlib.Core.Path.{sym, ap, subst, ◌∙◌}
 use Prim.Native.Nat.{ℕ}
 use native.Mathlib.Omega.{arith}
@@ -22,8 +21,12 @@ pub slice_bounds-count-end-2 : goal.slice_bounds-count-end-2
 slice_bounds-count-end-2 c = omega (arith, c.requires.room)
 
 pub count-requires : goal.count-requires
-count-requires c = let a = c.args in record { woven = c.requires.first; woven_2 = subst (λ (k : ℕ). Woven (take k (drop a.h.first a.work.now))) (sym (add-sub_cancel_left a.h.first a.h.second))
-            c.requires.second; t = c.requires.number }
+count-requires c = let a = c.args in record {
+  woven = c.requires.first;
+  woven_2 = subst (λ (k : ℕ). Woven (take k (drop a.h.first a.work.now))) (sym (add-sub_cancel_left a.h.first a.h.second))
+      c.requires.second;
+  t = c.requires.number;
+}
 
 pub returns : goal.returns
 returns c = let a = c.args in

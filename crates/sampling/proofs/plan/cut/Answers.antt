@@ -1,6 +1,5 @@
 -- `sampling::plan::cut` meets its contract: by the job's kind.
 use mathlib.Core.Path.{sym, subst}
-use borrow.Author.Rules.{rules}
 use Rattle.sampling.specs.J1j2free.{folded}
 use Rattle.sampling.specs.Promises.Charts.{Charted}
 use Rattle.sampling.specs.declared.j1j2free.Folded.{Folded}

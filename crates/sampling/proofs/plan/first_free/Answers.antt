@@ -1,5 +1,4 @@
 -- `sampling::plan::first_free` meets its contract: at each return, what the calls and the tests on the way to it say.
-use borrow.Author.Rules.{rules}
 use Rattle.sampling.specs.Angles.{first_free}
 use Rattle.sampling.proofs.plan.first_free.Goals as goal
 

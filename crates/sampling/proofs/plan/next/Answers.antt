@@ -1,6 +1,5 @@
 -- `sampling::plan::next` meets its contract: by what came of the cuts.
 use mathlib.Core.Path.{sym, ap, subst, ◌∙◌}
-use borrow.Author.Rules.{rules}
 use Rattle.sampling.specs.Promises.Plan.{Ready, step}
 use Rattle.sampling.specs.declared.lists.Plan.{Plan}
 use Rattle.sampling.proofs.plan.next.Goals as goal

@@ -1,5 +1,4 @@
 -- `sampling::plan::next_sample` meets its contract.
-use borrow.Author.Rules.{rules}
 use borrow.Author.Tests.{lt-ltb, le-ltb}
 use Prim.Native.Nat.{◌<◌}
 use native.Mathlib.Omega.{arith}

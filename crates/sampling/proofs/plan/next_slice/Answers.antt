@@ -1,5 +1,4 @@
 -- `sampling::plan::next_slice` meets its contract: what `next` says of the two parts.
-use borrow.Author.Rules.{rules}
 use mathlib.Core.Path.{sym, ap, ◌∙◌}
 use Prim.Native.Nat.{ℕ}
 use native.Mathlib.Omega.{arith}

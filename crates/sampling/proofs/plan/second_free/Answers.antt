@@ -1,5 +1,4 @@
 -- `sampling::plan::second_free` meets its contract: at each return, what the calls and the tests on the way to it say.
-use borrow.Author.Rules.{rules}
 use Rattle.sampling.specs.Angles.{second_free}
 use Rattle.sampling.proofs.plan.second_free.Goals as goal
 

@@ -1,5 +1,4 @@
 -- `sampling::pose::quaternion_length` meets its contract: at each return, what the calls and the tests on the way to it say.
-use borrow.Author.Rules.{rules}
 use Rattle.sampling.specs.Pose.{quaternion_length}
 use Rattle.sampling.proofs.pose.quaternion_length.Goals as goal
 

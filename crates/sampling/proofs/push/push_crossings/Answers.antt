@@ -1,5 +1,4 @@
 -- `sampling::push::push_crossings` meets its contract: at each return, what the calls and the tests on the way to it say.
-use borrow.Author.Rules.{rules}
 use Rattle.sampling.proofs.Pushed.{none, then}
 use Rattle.sampling.proofs.push.push_crossings.Goals as goal
 

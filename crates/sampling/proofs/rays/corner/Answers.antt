@@ -1,5 +1,4 @@
 -- `sampling::rays::corner` meets its contract: at each return, what the calls and the tests on the way to it say.
-use borrow.Author.Rules.{rules}
 use Rattle.sampling.specs.Rays.{corner}
 use Rattle.sampling.proofs.rays.corner.Goals as goal
 

@@ -1,5 +1,4 @@
 -- `sampling::rays::corners` meets its contract: at each return, what the calls and the tests on the way to it say.
-use borrow.Author.Rules.{rules}
 use Rattle.sampling.proofs.Deferrals.{none, then}
 use Rattle.sampling.specs.Rays.{corners}
 use Rattle.sampling.proofs.rays.corners.Goals as goal

@@ -1,5 +1,4 @@
 -- `sampling::rays::phase_roots` meets its contract: at each return, what the calls and the tests on the way to it say.
-use borrow.Author.Rules.{rules}
 use Rattle.sampling.proofs.Deferrals.{then}
 use Rattle.sampling.specs.Rays.{phase_roots}
 use Rattle.sampling.proofs.rays.phase_roots.Goals as goal

@@ -1,6 +1,5 @@
 -- `sampling::rays::phases` meets its contract: at each return, what the calls and the tests on the way to it say.
 use lib.Ieee.{of_bits}
-use borrow.Author.Rules.{rules}
 use Rattle.sampling.proofs.Deferrals.{then}
 use Rattle.sampling.specs.Rays.{phases}
 use Rattle.sampling.proofs.rays.phases.Goals as goal

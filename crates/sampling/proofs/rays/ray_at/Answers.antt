@@ -1,5 +1,4 @@
 -- `sampling::rays::ray_at` meets its contract: at each return, what the calls and the tests on the way to it say.
-use borrow.Author.Rules.{rules}
 use Rattle.sampling.proofs.Deferrals.{none}
 use Rattle.sampling.specs.Rays.{ray_at}
 use Rattle.sampling.proofs.rays.ray_at.Goals as goal

@@ -1,5 +1,4 @@
 -- `sampling::rays::ray_marks` meets its contract: at each return, what the calls and the tests on the way to it say.
-use borrow.Author.Rules.{rules}
 use Rattle.sampling.proofs.Deferrals.{none, then}
 use Rattle.sampling.specs.Rays.{ray_marks}
 use Rattle.sampling.proofs.rays.ray_marks.Goals as goal

@@ -1,6 +1,5 @@
 -- `sampling::rays::ray_roots` meets its contract: at each return, what the calls and the tests on the way to it say.
 use lib.Ieee.{of_bits}
-use borrow.Author.Rules.{rules}
 use Rattle.sampling.specs.Continuum.{ray_roots}
 use Rattle.sampling.proofs.rays.ray_roots.Goals as goal
 

@@ -1,5 +1,4 @@
 -- `sampling::rays::roots_by` meets its contract: at each return, what the calls and the tests on the way to it say.
-use borrow.Author.Rules.{rules}
 use Rattle.sampling.specs.Continuum.{roots}
 use Rattle.sampling.proofs.rays.roots_by.Goals as goal
 

@@ -1,6 +1,5 @@
 -- `sampling::rays::sixth_angles` meets its contract: at each return, what the calls and the tests on the way to it say.
 use native.Mathlib.Omega.{arith}
-use borrow.Author.Rules.{rules}
 use Rattle.sampling.proofs.Deferrals.{worked, deferred_count, deferred_length}
 use Rattle.sampling.proofs.rays.sixth_angles.Goals as goal
 

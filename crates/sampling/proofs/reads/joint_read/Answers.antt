@@ -1,5 +1,4 @@
 -- `sampling::reads::joint_read` meets its contract: at each return, what the calls and the tests on the way to it say.
-use borrow.Author.Rules.{rules}
 use Rattle.sampling.specs.Reads.{joint_read}
 use Rattle.sampling.proofs.reads.joint_read.Goals as goal
 

@@ -1,5 +1,4 @@
 -- `sampling::reads::reference_read` meets its contract: at each return, what the calls and the tests on the way to it say.
-use borrow.Author.Rules.{rules}
 use Rattle.sampling.specs.Reads.{reference_read}
 use Rattle.sampling.proofs.reads.reference_read.Goals as goal
 

@@ -4,7 +4,6 @@ use mathlib.Core.List.{[]}
 use native.Mathlib.Omega.{arith}
 use lib.ListN.{length}
 use lib.Ieee.{of_bits}
-use borrow.Author.Rules.{rules}
 use Rattle.sampling.specs.SampleAngles.{cut_count, first_cuts, second_cuts, third_cuts, roots, intervals}
 use Rattle.sampling.specs.Promises.Plan.{free_plan, free_cuts}
 use Rattle.sampling.proofs.Laid.{all_three}

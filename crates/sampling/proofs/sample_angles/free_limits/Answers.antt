@@ -1,6 +1,5 @@
 -- `sampling::sample_angles::free_limits` meets its contract: at each return, what the calls and the tests on the way to it say.
 use lib.Ieee.{of_bits}
-use borrow.Author.Rules.{rules}
 use Rattle.sampling.specs.SampleAngles.{free_limits}
 use Rattle.sampling.proofs.sample_angles.free_limits.Goals as goal
 

@@ -1,5 +1,4 @@
 -- `sampling::sample_angles::sixth_of` meets its contract: at each return, what the calls and the tests on the way to it say.
-use borrow.Author.Rules.{rules}
 use Rattle.sampling.specs.SampleAngles.{sixth}
 use Rattle.sampling.proofs.sample_angles.sixth_of.Goals as goal
 

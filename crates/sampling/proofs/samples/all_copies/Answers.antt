@@ -1,11 +1,10 @@
 -- `sampling::samples::all_copies` meets its contract. The loop's invariant: where those of the angles that are left come to a slice, all come to it.
-use Prim.Native.Nat.{ℕ, ◌-◌, ◌≤◌}
+use Prim.Native.Nat.{ℕ}
 use native.Mathlib.Omega.{arith}
-use mathlib.Core.Path.{◌≡◌, refl, sym, subst₂, ◌∙◌}
-use lib.ListN.{length, take}
-use lib.Seq.{slice}
+use mathlib.Core.Path.{refl, sym, subst₂, ◌∙◌}
+use lib.ListN.{take}
 use borrow.Author.Rules.{rules}
-use Rattle.sampling.proofs.Grown.{Leads, leads_all, leads_next, leads_end, from_number}
+use Rattle.sampling.proofs.Grown.{leads_all, leads_next, leads_end, from_number}
 use Rattle.sampling.specs.Promises.Grown.{Grown, counted}
 use Rattle.polynomial.specs.declared.cuts.Put.{Put}
 use Rattle.sampling.specs.Laws.Samples.{copies_next, copies_end}
@@ -17,10 +16,10 @@ loop-i-init c = (search rules, refl, leads_all)
 
 pub loop-i-preserved : goal.loop-i-preserved
 loop-i-preserved c = let a = c.args in (
-      search rules,
-      c.copies-state.ensures.same ∙ c.loop-i.invariant.1,
-      leads_next c.loop-i.invariant.2 (copies_next a.lower a.upper a.angles.now c.loop-i.i a.n (search rules) (search rules)) c.copies-state.ensures,
-    )
+  search rules,
+  c.copies-state.ensures.same ∙ c.loop-i.invariant.1,
+  leads_next c.loop-i.invariant.2 (copies_next a.lower a.upper a.angles.now c.loop-i.i a.n (search rules) (search rules)) c.copies-state.ensures,
+)
 
 pub returns : goal.returns
 returns c = let a = c.args in

@@ -1,5 +1,5 @@
 -- `sampling::samples::all_windings` meets its contract. The loop's invariant: the cuts grew by those of the roots before i.
-use Prim.Native.Nat.{ℕ, ◌-◌, ◌≤◌}
+use Prim.Native.Nat.{ℕ}
 use native.Mathlib.Omega.{arith}
 use mathlib.Core.Path.{◌≡◌, subst}
 use mathlib.Core.List.{List}

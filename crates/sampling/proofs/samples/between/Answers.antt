@@ -1,5 +1,4 @@
 -- `sampling::samples::between` meets its contract: what the calls on the way say.
-use borrow.Author.Rules.{rules}
 use Rattle.sampling.specs.Samples.{between}
 use Rattle.sampling.proofs.samples.between.Goals as goal
 

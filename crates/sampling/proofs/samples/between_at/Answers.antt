@@ -1,7 +1,6 @@
 -- `sampling::samples::between_at` meets its contract: at each return, what the calls and the tests on the way to it say.
 use native.Mathlib.Omega.{arith}
 use mathlib.Core.Path.{◌≡◌}
-use borrow.Author.Rules.{rules}
 use Rattle.sampling.specs.Samples.{between}
 use Rattle.sampling.proofs.samples.between_at.Goals as goal
 

@@ -3,7 +3,6 @@ use mathlib.Core.Path.{◌≡◌, refl, sym, ap, ap₂, ◌∙◌, subst}
 use mathlib.Core.Bool.{Bool, true, false, not, cond, ◌&&◌, false≢true}
 use mathlib.Core.List.{List, [], ◌∷◌, ◌++◌, append-nil}
 use lib.Ieee.{Float, of_bits, le}
-use borrow.Author.Rules.{rules}
 use Rattle.polynomial.specs.declared.cuts.Put.{Put}
 use Rattle.sampling.specs.Promises.Grown.{Grown}
 use Rattle.sampling.proofs.Grown.{then}
@@ -31,7 +30,6 @@ alone lower upper below same above h =
     sym (ap₂ (λ (x y : List Float). (x ++ m) ++ y) first last ∙ append-nil m)
 
 for_same : {x y a b : List Float} {s t : Put} → x ≡ y → Grown x a s b t → Grown y a s b t
-
 for_same {x} {y} {a} {b} {s} {t} e g = subst (λ (l : List Float). Grown l a s b t) e g
 
 pub returns-then-lower-below : goal.returns-then-lower-below

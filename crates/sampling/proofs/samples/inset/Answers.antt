@@ -1,6 +1,5 @@
 -- `sampling::samples::inset` meets its contract: at each return, what the calls and the tests on the way to it say.
 use lib.Ieee.{of_bits}
-use borrow.Author.Rules.{rules}
 use Rattle.sampling.specs.Samples.{inset}
 use Rattle.sampling.proofs.samples.inset.Goals as goal
 

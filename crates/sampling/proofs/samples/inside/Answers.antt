@@ -1,5 +1,4 @@
 -- `sampling::samples::inside` meets its contract: at each return, what the calls and the tests on the way to it say.
-use borrow.Author.Rules.{rules}
 use Rattle.sampling.proofs.Grown.{none}
 use Rattle.sampling.specs.Samples.{inside}
 use Rattle.sampling.proofs.samples.inside.Goals as goal

@@ -1,5 +1,4 @@
 -- `sampling::samples::interval_cuts` meets its contract: at each return, what the calls and the tests on the way to it say.
-use borrow.Author.Rules.{rules}
 use Rattle.polynomial.specs.Laws.Held.{kept_none}
 use Rattle.sampling.proofs.Grown.{then, whole_counted}
 use Rattle.sampling.specs.Samples.{interval_values}

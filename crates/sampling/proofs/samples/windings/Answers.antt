@@ -1,5 +1,4 @@
 -- `sampling::samples::windings` meets its contract: at each return, what the calls and the tests on the way to it say.
-use borrow.Author.Rules.{rules}
 use Rattle.sampling.proofs.Grown.{none}
 use Rattle.sampling.specs.Samples.{windings}
 use Rattle.sampling.proofs.samples.windings.Goals as goal

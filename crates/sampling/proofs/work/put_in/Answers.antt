@@ -1,7 +1,6 @@
 -- `sampling::work::put_in` meets its contract: at each return, what the calls and the tests on the way to it say.
 use mathlib.Core.Path.{refl, sym, subst, ◌∙◌}
 use lib.Dec.{T}
-use borrow.Author.Rules.{rules}
 use Rattle.sampling.proofs.Grown.{one_beyond, one_put, one_full}
 use Rattle.sampling.proofs.work.put_in.Goals as goal
 

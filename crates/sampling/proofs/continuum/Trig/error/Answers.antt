@@ -1,6 +1,5 @@
 -- `sampling::continuum::Trig::error` meets its contract: at each return, what the calls and the tests on the way to it say.
 use lib.Ieee.{of_bits}
-use borrow.Author.Rules.{rules}
 use Rattle.sampling.specs.Continuum.{error}
 use Rattle.sampling.proofs.continuum.Trig.error.Goals as goal
 

@@ -1,9 +1,7 @@
 -- `sampling::continuum::Trig::meets` meets its contract: at each return, what the calls and the tests on the way to it say.
 use mathlib.Core.Bool.{not, ◌&&◌}
 use lib.Ieee.{eq, lt, of_bits}
-use borrow.Author.Rules.{rules}
-use Rattle.float.specs.Number.{◌⊕◌, abs, zero_float}
-use Rattle.sampling.specs.Continuum.{error}
+use Rattle.float.specs.Number.{◌⊕◌, zero_float}
 use Rattle.sampling.specs.Promises.Polar.{meets}
 use Rattle.sampling.proofs.continuum.Trig.meets.Goals as goal
 

@@ -1,5 +1,4 @@
 -- `sampling::continuum::Trig::polar` meets its contract: at each return, what the calls and the tests on the way to it say.
-use borrow.Author.Rules.{rules}
 use Rattle.sampling.specs.Promises.Polar.{polar}
 use Rattle.sampling.proofs.continuum.Trig.polar.Goals as goal
 

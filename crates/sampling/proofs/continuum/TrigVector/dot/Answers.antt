@@ -1,5 +1,4 @@
 -- `sampling::continuum::TrigVector::dot` meets its contract: at each return, what the calls and the tests on the way to it say.
-use borrow.Author.Rules.{rules}
 use Rattle.sampling.specs.Continuum.{dot}
 use Rattle.sampling.proofs.continuum.TrigVector.dot.Goals as goal
 
