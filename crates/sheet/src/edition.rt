@@ -3,14 +3,14 @@ ghost use Rattle.std.specs.Prelude.{◌≡◌};
 ghost use Rattle.sheet.specs.Edition as Editions;
 
 // The editions, oldest first.
-#[derive(Drop)]
+#[derive(Clone, Copy)]
 pub enum Edition {
     One,
     Two,
 }
 
 // What a number stands for: an edition, or none that is known.
-#[derive(Drop)]
+#[derive(Clone, Copy)]
 pub enum Said {
     Known(Edition),
     Unknown,

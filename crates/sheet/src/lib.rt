@@ -1,3 +1,4 @@
+#![tactic(auto)]
 // Requests and sheets, document 01's module 7. specs/Lib.antt says which files define what.
 pub mod angles;
 pub mod bytes;

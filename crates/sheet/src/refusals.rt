@@ -3,7 +3,7 @@ ghost use Rattle.std.specs.Prelude.{◌≡◌};
 ghost use Rattle.sheet.specs.Refusals as Refusals;
 
 // The refusals of Sampling, in their order.
-#[derive(Drop)]
+#[derive(Clone, Copy)]
 pub enum Refusal {
     Length,
     Head,
@@ -37,7 +37,7 @@ pub fn refusal_number(r: Refusal) -> u64
 }
 
 // The refusals of Check, in their order.
-#[derive(Drop)]
+#[derive(Clone, Copy)]
 pub enum Fault {
     Length,
     Trailer,

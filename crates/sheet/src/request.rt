@@ -40,14 +40,14 @@ pub(crate) const FROM: usize = 168;
 pub(crate) const TO: usize = 216;
 
 // What kind, limits present and sixth joint fixed say; `Bad` where one of the three is wrong.
-#[derive(Drop)]
+#[derive(Clone, Copy)]
 pub enum Shape {
     Bad,
     Right(Kind, bool, bool),
 }
 
 // The classes of fields that are not always read.
-#[derive(Drop)]
+#[derive(Clone, Copy)]
 pub enum Field {
     Sign,
     Arm,

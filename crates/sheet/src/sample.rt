@@ -25,7 +25,7 @@ use sampling::stream::Step;
 use sampling::work::clear;
 
 // The number of angles, or a refusal.
-#[derive(Drop)]
+#[derive(Clone, Copy)]
 pub enum Sampled {
     Angles(usize),
     Refused(Refusal),

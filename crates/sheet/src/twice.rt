@@ -6,7 +6,7 @@ ghost use Rattle.sheet.specs.Demands.{Together};
 
 use crate::sample::{Sampled, sample};
 
-#[derive(Drop)]
+#[derive(Clone, Copy)]
 pub struct Both(pub Sampled, pub Sampled);
 
 // Two requests, r and s, with work v and w and outputs x and y, one after the other.

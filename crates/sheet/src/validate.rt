@@ -17,7 +17,7 @@ use sampling::pose::{Normalized, Quaternion, try_normalize};
 
 // The rotation, normalized, of a request that meets none of refusals 1 to 8 and 41; or the first
 // that it meets.
-#[derive(Drop)]
+#[derive(Clone, Copy)]
 pub enum Tested {
     Passed(Quaternion),
     Refused(Refusal),

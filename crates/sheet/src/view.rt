@@ -9,7 +9,7 @@ use crate::fields::job_of;
 use sampling::job::Job;
 use sampling::pose::Matrix;
 
-#[derive(Drop)]
+#[derive(Clone, Copy)]
 pub struct View<'a> {
     pub request: &'a [u8],
 }

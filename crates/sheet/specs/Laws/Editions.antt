@@ -13,7 +13,7 @@ use Rattle.sampling.specs.Pose.{try_normalize}
 use Rattle.sheet.specs.Validate.{head_right, is_name, name_right, signs_right, rotation_finite, rotation_nonzero, arm_within, references_finite}
 use Rattle.sheet.specs.Validate.{offsets_within, validate}
 use Rattle.sheet.specs.Refusals.{Answer, accepted, refused, need}
-use Rattle.sheet.specs.Sheet.{trailer, trailer_size}
+use Rattle.sheet.specs.Sheet.{trailer_size}
 use Rattle.sheet.specs.Sampling.{angles, sheet}
 use Rattle.sheet.specs.Check.{edition_of, formed, by_said, by_edition}
 use Rattle.sheet.specs.Demands.{EarlierRefuses, OlderAsBefore, ByNameAlone, Unnamed}
