@@ -29,7 +29,7 @@ fn scaled(q: u64, s: u64) -> u64
 }
 
 // A finite |x| in billionths, and its sign.
-#[derive(Drop)]
+#[derive(Clone, Copy)]
 pub struct Fixed {
     pub neg: bool,
     pub n: u64,

@@ -3,7 +3,7 @@ use sheet::refusals::Fault;
 
 // How many bytes the text has, or a refusal: the check's, that there is no such page, or that fewer
 // bytes are lent. `answer-of` of specs/Operation.antt gives 02's numbers.
-#[derive(Drop)]
+#[derive(Clone, Copy)]
 pub enum Laid {
     Text(usize),
     Refused(Fault),

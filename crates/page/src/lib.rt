@@ -1,3 +1,4 @@
+#![tactic(auto)]
 // Pages of angles as text. specs/Lib.antt says which files define what.
 pub mod decimal;
 pub mod laid;
