@@ -1,3 +1,4 @@
+#![tactic(auto)]
 // What the programs print of sheets and requests, as functions on slices. specs/Listing.antt and specs/Pages.antt
 // define the texts.
 pub mod check_text;

@@ -8,7 +8,7 @@ use sheet::trailer::FRAME;
 use text::decimal::put_number;
 
 // How many bytes go to standard output, and how many to standard error.
-#[derive(Drop)]
+#[derive(Clone, Copy)]
 pub struct Made {
     pub output: usize,
     pub error: usize,

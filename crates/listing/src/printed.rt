@@ -9,7 +9,7 @@ use digits::runs::put;
 use sheet::bytes::word;
 
 // How many bytes the text has, or that fewer were lent.
-#[derive(Drop)]
+#[derive(Clone, Copy)]
 pub enum Printed {
     Length(usize),
     Short,

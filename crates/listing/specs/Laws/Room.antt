@@ -1,5 +1,5 @@
 -- What `check_sheet` prints has at most 147,456 bytes, which the program lends.
-use Rattle.std.specs.Prelude.{ℕ, zero, suc, ◌+◌, ◌*◌, ◌≤◌, ◌≡◌, refl, Bool, true, false, cond, List, T, leb, ltb, length}
+use Rattle.std.specs.Prelude.{ℕ, zero, suc, ◌*◌, ◌≤◌, ◌≡◌, refl, Bool, true, false, cond, List, T, leb, ltb, length}
 use Rattle.std.proofs.Common.{arith, sym, lit≤, length-append, leb-true, ltb-false}
 use Rattle.std.specs.Float.Ieee.Bits.{is_true}
 use Rattle.std.specs.Float.Ieee.Fits.{and_r}
