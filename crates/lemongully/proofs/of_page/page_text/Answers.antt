@@ -1,0 +1,24 @@
+-- `lemongully::of_page::page_text` meets its contract.
+use native.Mathlib.Omega.{arith}
+use mathlib.Core.Path.{ap, ◌∙◌}
+use lib.ListN.{length}
+use mir.Syntax.{w64}
+use mir.ValLaws.{to_z-of_z}
+use Rattle.sheet.specs.Refusals.{Answer, signed}
+use Rattle.page.specs.Operation.{text, text_after}
+use Rattle.lemongully.proofs.of_page.Room.{text_fits}
+use Rattle.lemongully.proofs.of_page.page_text.Goals as goal
+
+pub laid_number-requires : goal.laid_number-requires
+laid_number-requires c n e = let a = c.args in
+    omega (
+      arith,
+      text_fits a.sheet.now a.page (length a.work.now) (length a.text.now) n c.page_text-a.ensures.result_value e,
+      c.well_formed,
+    )
+
+pub returns : goal.returns
+returns c = let a = c.args in
+    let e = c.page_text-a.ensures in
+    let n = to_z-of_z w64 c.laid_number.result (record { sfits = c.laid_number.type_inv }) ∙ c.laid_number.ensures in
+    let o = e.text_after ∙ ap (λ (v : Answer). text_after v (text a.sheet.now a.page) a.text.now) e.result_value in record { value = n ∙ ap signed e.result_value; text_after = o; work_after = e.work_after }

@@ -1,0 +1,28 @@
+-- `lemongully::of_sheet::sampled_number` meets its contract: at each return, what the calls and the tests on the way to it say.
+use Prim.Native.Nat.{ℕ, ◌<◌}
+use mathlib.Core.Path.{sym, ap, subst⁻¹, ◌∙◌}
+use lib.IntN.{pos, neg_ℤ}
+use mir.Syntax.{w64}
+use mir.ValLaws.{to_z-of_z}
+use Rattle.sheet.specs.Refusals.{signed}
+use Rattle.sheet.specs.Sampling.{answer_of}
+use Rattle.sheet.specs.declared.sample.Sampled.{Sampled}
+use Rattle.lemongully.proofs.Signed.{number_small, fits_pos, fits_negative, reads_negative}
+use Rattle.lemongully.proofs.of_sheet.sampled_number.Goals as goal
+
+pub overflow_cast-result : goal.overflow_cast-result
+overflow_cast-result c = record { sfits = c.requires _ (ap answer_of c.in-Angles.is) }
+
+pub overflow_cast-result-in-Refused : goal.overflow_cast-result-in-Refused
+overflow_cast-result-in-Refused c = fits_pos _ (subst⁻¹ (λ (n : ℕ). n < 64) c.refusal_number.ensures (number_small c.in-Refused.k))
+
+pub overflow_sub-result : goal.overflow_sub-result
+overflow_sub-result c = fits_negative _ (subst⁻¹ (λ (n : ℕ). n < 64) c.refusal_number.ensures (number_small c.in-Refused.k))
+
+pub returns-in-Angles : goal.returns-in-Angles
+returns-in-Angles c = to_z-of_z w64 (pos c.in-Angles.n) (overflow_cast-result c) ∙ sym (ap (λ (x : Sampled). signed (answer_of x)) c.in-Angles.is)
+
+pub returns-in-Refused : goal.returns-in-Refused
+returns-in-Refused c = let e = c.refusal_number.ensures in
+    reads_negative _ (subst⁻¹ (λ (n : ℕ). n < 64) e (number_small c.in-Refused.k)) ∙ ap (λ (n : ℕ). neg_ℤ (pos n)) e
+    ∙ sym (ap (λ (x : Sampled). signed (answer_of x)) c.in-Refused.is)
