@@ -1,5 +1,5 @@
 -- The three demands, what the editions promise, that the order of pairs changed no answer and that refusal 9 never came, as statements about the definitions
--- that the contracts of Sampling and Check cite; `Laws.Demands`, `Laws.Editions`, `Laws.RustOrder` and `Laws.InnerCalls` prove each. What stays with the
+-- that the contracts of Sampling and Check cite; `Laws.Demands`, `Laws.Editions`, `Laws.RustOrder` and `proofs/InnerCalls` prove each. What stays with the
 -- contracts: that the code's answer, output and work are these definitions' (`sample::sample`, `check::check`).
 use Rattle.std.specs.Prelude.{ℕ, ◌+◌, ◌*◌, ◌≤◌, ◌<◌, ◌≡◌, List, Bool, true, ◌&&◌, ◌||◌, ◌↔◌, T, eqb, leb, length, take, drop, get_or}
 use Rattle.sampling.specs.declared.job.Job.{Job}

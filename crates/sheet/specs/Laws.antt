@@ -9,7 +9,7 @@
 -- angles),
 -- `Alike` (two requests that agree in what is read have the same angles and the same answers), `Demands` (the demands, proved), `Editions`
 -- (what the editions promise, proved), `Listed` (an accepted sheet lists the items of the request inside), `RustOrder` (every answer is what it was with the
--- pairs of curves in the Rust's order), `InnerCalls` (every inner call of the root finder is fair, so every answer is what it was with refusal 9).
+-- pairs of curves in the Rust's order). What no upper file cites, that every inner call is fair, is proved in `proofs/InnerCalls`.
 
 pub mod Bytes
 pub mod Blank
@@ -30,5 +30,4 @@ pub mod Demands
 pub mod Editions
 pub mod Listed
 pub mod RustOrder
-pub mod InnerCalls
 pub mod Sheet
