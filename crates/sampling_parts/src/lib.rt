@@ -1,6 +1,8 @@
 // Module 4, one number at a time: floats by bits, in and out, so that every NaN is
 // 7FF8000000000000. The last parameter says which number of the answer is wanted. `sampling_parts_c`
 // has these functions for C.
+#![tactic(auto)]
+
 ghost use Rattle.std.specs.Prelude.{◌≡◌};
 ghost use Rattle.std.specs.Float.{binary64};
 ghost use Rattle.std.specs.Float.Ieee.{of_bits};
