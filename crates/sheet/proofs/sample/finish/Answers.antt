@@ -17,9 +17,11 @@ returns-then-is_short c = let a = c.args in record { result_value = rw (fits_no 
 pub count-n-requires : goal.count-n-requires
 count-n-requires c = c.requires.planned_for.ready
 
-pub fill-requires : goal.fill-requires
-fill-requires c = let r = leb-true _ _ (sym c.has_room.ensures ∙ c.if-has_room.true) in
-    record { request_len = c.requires.request_len; ready = c.requires.planned_for.ready; n_value = c.count-n.ensures; n_in_bounds = r }
+pub fill-requires-clause-n_value : goal.fill-requires-clause-n_value
+fill-requires-clause-n_value c = c.count-n.ensures
+
+pub fill-requires-clause-n_in_bounds : goal.fill-requires-clause-n_in_bounds
+fill-requires-clause-n_in_bounds c = leb-true _ _ (sym c.has_room.ensures ∙ c.if-has_room.true)
 
 pub returns-then-has_room : goal.returns-then-has_room
 unfolding planned_answer need
