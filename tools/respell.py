@@ -24,8 +24,8 @@ WORDS = {"abbrev", "unfoldable", "pub", "data", "record", "mutual", "module", "u
 
 
 def files(*suffixes):
-    out = subprocess.run(["git", "ls-files", "-z"], capture_output=True, text=True, check=True).stdout.split("\0")
-    return [f for f in out if f.endswith(suffixes)]
+    out = subprocess.run(["git", "ls-files", "-z", "--cached", "--others", "--exclude-standard"], capture_output=True, text=True, check=True).stdout
+    return sorted({f for f in out.split("\0") if f.endswith(suffixes) and os.path.exists(f)})
 
 
 def read(f):
