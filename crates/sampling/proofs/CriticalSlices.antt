@@ -21,7 +21,7 @@ use Rattle.polynomial.specs.declared.cuts.Put.{Put}
 use Rattle.polynomial.specs.declared.curve.Harmonic.{Harmonic}
 use Rattle.polynomial.specs.declared.curve.Numerators.{Numerators}
 use Rattle.sampling.specs.CriticalSlices.{angles, chart_roots, critical, Polynomials, polynomials, all_polynomials, squares, tangency, intersection}
-use Rattle.sampling.specs.Laws.CriticalSlices.{roots_append, critical_more}
+use Rattle.sampling.proofs.Laws.CriticalSlices.{roots_append, critical_more}
 use Rattle.sampling.specs.Promises.Grown.{Grown}
 use Rattle.sampling.specs.Promises.Numerators.{first_three, first_threes, Threes, meetings}
 use Rattle.sampling.specs.declared.critical_slices.Chart.{Chart}

@@ -7,7 +7,7 @@
 -- of both, `Angles` (a job's angles by its kind) and `Reads` (which fields of a job each kind reads).
 -- `RustOrder`: the order of pairs before 02's change 3 and what went by it, to compare with; nothing is promised by it.
 -- `InnerCalls`: the inner calls of the root finder that a job makes, to say what is proved of each.
--- `Promises`: what functions promise one another, and `plan_of` its callers. `Laws`: theorems that upper crates cite.
+-- `Promises`: what functions promise one another, and `plan_of` its callers. The theorems that upper crates cite are `Laws` of `proofs`.
 pub mod Constraints
 pub mod Intervals
 pub mod Pose
@@ -31,5 +31,4 @@ pub mod Angles
 pub mod Reads
 pub mod RustOrder
 pub mod InnerCalls
-pub mod Laws
 pub mod Promises

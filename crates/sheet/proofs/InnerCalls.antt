@@ -20,9 +20,9 @@ use Rattle.sampling.specs.Reads.{joint_read, arm_read}
 use Rattle.sampling.specs.InnerCalls.{free_calls, inner_calls}
 use Rattle.sampling.specs.SampleAngles.{free}
 use Rattle.sampling.specs.J1j2free.{folded, all_slices}
-use Rattle.sampling.specs.Laws.AngleBounds.{folded_small}
-use Rattle.sampling.specs.Laws.InnerCalls.{Steady, Domain, calls_fair, rows_fair}
-use Rattle.sampling.specs.Laws.Pose.{seventeen, Quaternion-fits, Vector-within, Matrix-within, normalize_within, from_quat_within}
+use Rattle.sampling.proofs.Laws.AngleBounds.{folded_small}
+use Rattle.sampling.proofs.Laws.InnerCalls.{Steady, Domain, calls_fair, rows_fair}
+use Rattle.sampling.proofs.Laws.Pose.{seventeen, Quaternion-fits, Vector-within, Matrix-within, normalize_within, from_quat_within}
 use Rattle.sampling.specs.declared.job.Kind.{Kind}
 use Rattle.sampling.specs.declared.job.Kind.TheVariants.{J1free, J2free, J1j2free}
 use Rattle.sampling.specs.declared.pose.Quaternion.{Quaternion}

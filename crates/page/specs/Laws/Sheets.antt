@@ -26,8 +26,8 @@ use Rattle.sheet.specs.Check as Check
 use Rattle.float.specs.Laws.Tests.{and_left, and_right}
 use Rattle.float.specs.Laws.Within.{weaken}
 use Rattle.polynomial.specs.Promises.Lists.{All, Fit}
-use Rattle.sampling.specs.Laws.Woven.{Small}
-use Rattle.sampling.specs.Laws.Fit.{angles_fit}
+use Rattle.sampling.proofs.Laws.Woven.{Small}
+use Rattle.sampling.proofs.Laws.Fit.{angles_fit}
 use Rattle.page.specs.Page.{letter, on_page}
 use Rattle.page.specs.Operation.{name_by, name_of, text}
 use Rattle.page.specs.Promises.Sheets.{Paged, angles_on}

@@ -20,7 +20,7 @@ use Rattle.polynomial.specs.declared.cuts.Put.TheVariants.{Count, Full}
 use Rattle.sampling.specs.J1j2free.{curves, bends, first_half, second_half}
 use Rattle.sampling.specs.Promises.Halves.{half_values, start, both}
 use Rattle.sampling.specs.Promises.Plan.{halves_of, granted, where_laid}
-use Rattle.sampling.specs.Laws.J1j2free.{half_cuts_are}
+use Rattle.sampling.proofs.Laws.J1j2free.{half_cuts_are}
 use Rattle.sampling.specs.declared.j1j2free.Folded.{Folded}
 use Rattle.sampling.specs.declared.lists.Plan.{Plan}
 

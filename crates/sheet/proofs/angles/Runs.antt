@@ -7,7 +7,7 @@ use lib.ListN.{length, get_or, take, drop, length-drop, length-append}
 use lib.Seq.{sets, drop-cons, length-take-le}
 use lib.Ieee.{Float, nan}
 use Rattle.sampling.specs.Samples.{between, all_between, samples, sample_count, three_samples}
-use Rattle.sampling.specs.Laws.Samples.{samples_length}
+use Rattle.sampling.proofs.Laws.Samples.{samples_length}
 use Rattle.sheet.specs.Promises.Floats.{float_bytes, floats_bytes}
 use Rattle.sheet.specs.Laws.Bytes.{sets_append, floats_bytes_cons, floats_bytes_nil, length_floats_bytes}
 use Rattle.sheet.specs.Laws.Sampling.{floats_step, floats_end}

@@ -24,7 +24,7 @@ use Rattle.sheet.specs.Sheet.{sheet_size}
 use Rattle.sheet.specs.declared.edition.Edition.{Edition}
 use Rattle.sheet.specs.Laws.Agree.{Core, same_shape, same_sign, same_float}
 use Rattle.sheet.specs.Laws.Validate.{rotation_same, validate_same}
-use Rattle.sampling.specs.Laws.Reads as Reads
+use Rattle.sampling.proofs.Laws.Reads as Reads
 
 -- ---- what the job's kind and flags read is what the shape reads
 

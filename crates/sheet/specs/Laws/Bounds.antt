@@ -1,8 +1,8 @@
 -- The angles of a request that passes its tests lie within ±32, by sampling's law.
 use Rattle.std.specs.Prelude.{ℕ, List}
 use Rattle.polynomial.specs.Promises.Lists.{All}
-use Rattle.sampling.specs.Laws.AngleBounds.{angles_small}
-use Rattle.sampling.specs.Laws.Woven.{Small}
+use Rattle.sampling.proofs.Laws.AngleBounds.{angles_small}
+use Rattle.sampling.proofs.Laws.Woven.{Small}
 use Rattle.sheet.specs.declared.edition.Edition.{Edition}
 use Rattle.sheet.specs.Fields.{job_of}
 use Rattle.sheet.specs.Sampling.{angles}

@@ -2,7 +2,7 @@
 use Rattle.std.specs.Prelude.{ℕ, ◌+◌, ◌-◌, ◌*◌, ◌≤◌, ◌<◌, ◌≡◌, refl, ◌↔◌, List, Bool, true, false, length, take, drop, T, eqb, leb, ltb}
 use Rattle.std.proofs.Common.{arith, sym, ap, ◌∙◌, take_at, length-take-le}
 use Rattle.float.specs.Laws.Tests.{and_right}
-use Rattle.sampling.specs.Laws.Angles.{angles_few}
+use Rattle.sampling.proofs.Laws.Angles.{angles_few}
 use Rattle.sheet.specs.Bytes.{words_bytes, same_bytes}
 use Rattle.sheet.specs.Edition.{number, newest, known}
 use Rattle.sheet.specs.Request.{core_size, request_size, blank, Agree}

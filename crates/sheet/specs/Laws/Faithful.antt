@@ -15,7 +15,7 @@ use Rattle.sheet.specs.declared.edition.Edition.{Edition}
 use Rattle.sheet.specs.Sampling.{angles, items, sheet}
 use Rattle.sheet.specs.Laws.Bytes.{length_bytes, little_endian_bytes}
 use Rattle.sheet.specs.Laws.Sampling.{length_items}
-use Rattle.sampling.specs.Laws.Fit.{angles_fit}
+use Rattle.sampling.proofs.Laws.Fit.{angles_fit}
 
 -- the i-th of several words
 word_in : (ws rest : List ℕ) (i d : ℕ) → i < length ws → part (8 * i) 8 (words_bytes ws ++ rest) ≡ bytes 8 (get_or ws i d)

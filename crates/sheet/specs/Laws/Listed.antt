@@ -7,8 +7,8 @@ use Rattle.std.specs.Float.{binary64}
 use Rattle.std.specs.Float.Ieee.{to_bits}
 use Rattle.std.specs.Float.Ieee.Bits.{to_bits-lt}
 use Rattle.polynomial.specs.Promises.Lists.{All, Fit}
-use Rattle.sampling.specs.Laws.Angles.{most_angles, angles_most}
-use Rattle.sampling.specs.Laws.Fit.{angles_fit}
+use Rattle.sampling.proofs.Laws.Angles.{most_angles, angles_most}
+use Rattle.sampling.proofs.Laws.Fit.{angles_fit}
 use Rattle.sheet.specs.Bytes.{little_endian, bytes, part, words_bytes, words}
 use Rattle.sheet.specs.Edition.{known}
 use Rattle.sheet.specs.Request.{blank}

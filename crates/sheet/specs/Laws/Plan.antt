@@ -17,8 +17,8 @@ use Rattle.polynomial.specs.Angle.{two_pi}
 use Rattle.sampling.specs.Reads.{joint_read, reference_read}
 use Rattle.sampling.specs.Promises.Stream.{start}
 use Rattle.sampling.specs.Promises.Plan.{Moderate, Drawable, plan, work_after, to_come, Ready, Gives, step}
-use Rattle.sampling.specs.Laws.Charts.{moderate_drawable}
-use Rattle.sampling.specs.Laws.Plan.{plan_by, plan_ready, plan_yields, step_gives}
+use Rattle.sampling.proofs.Laws.Charts.{moderate_drawable}
+use Rattle.sampling.proofs.Laws.Plan.{plan_by, plan_ready, plan_yields, step_gives}
 use Rattle.sampling.specs.declared.lists.Plan.{Plan}
 use Rattle.sampling.specs.declared.stream.Cursor.{Cursor}
 use Rattle.sampling.specs.declared.stream.Step.{Step}

@@ -3,7 +3,7 @@ use Rattle.std.specs.Prelude.{ℕ, ◌≡◌, refl, List, map}
 use Rattle.std.proofs.Common.{ap}
 use Rattle.std.specs.Float.{binary64}
 use Rattle.std.specs.Float.Ieee.{to_bits}
-use Rattle.sampling.specs.Laws.RustOrder.{angles_same, cut_count_same}
+use Rattle.sampling.proofs.Laws.RustOrder.{angles_same, cut_count_same}
 use Rattle.sheet.specs.Fields.{job_of}
 use Rattle.sheet.specs.Edition.{known}
 use Rattle.sheet.specs.Refusals.{Answer, accepted, refused}

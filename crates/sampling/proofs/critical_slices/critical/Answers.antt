@@ -2,7 +2,7 @@
 use native.Mathlib.Omega.{arith}
 use mathlib.Core.Path.{◌≡◌, refl, ◌∙◌}
 use borrow.Author.Rules.{rules}
-use Rattle.sampling.specs.Laws.CriticalSlices.{critical_nil}
+use Rattle.sampling.proofs.Laws.CriticalSlices.{critical_nil}
 use Rattle.sampling.proofs.Grown.{none}
 use Rattle.sampling.proofs.CriticalSlices.{known_none, known_more, critical_grown}
 use Rattle.sampling.proofs.critical_slices.critical.Goals as goal

@@ -7,7 +7,7 @@ use lib.ListN.{length, get_or, take, drop, length-drop}
 use lib.Seq.{length-take-le}
 use lib.Ieee.{Float, nan}
 use Rattle.sampling.specs.Samples.{samples, sample_count, three_samples}
-use Rattle.sampling.specs.Laws.Samples.{sample_count_most, three_first, three_second, three_third}
+use Rattle.sampling.proofs.Laws.Samples.{sample_count_most, three_first, three_second, three_third}
 use Rattle.sampling.proofs.lists.angle_at.Goals as goal
 
 -- the three lists in w, of x, y and z cuts, where k and m are the numbers of samples of the first two; r is what `part_at` gave

@@ -1,6 +1,6 @@
 -- `sampling::lists::angle_count` meets its contract: at each return, what the calls and the tests on the way to it say.
 use native.Mathlib.Omega.{arith}
-use Rattle.sampling.specs.Laws.Samples.{sample_count_most}
+use Rattle.sampling.proofs.Laws.Samples.{sample_count_most}
 use Rattle.sampling.proofs.lists.angle_count.Goals as goal
 
 pub overflow_add-result : goal.overflow_add-result

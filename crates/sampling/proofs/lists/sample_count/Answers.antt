@@ -1,6 +1,6 @@
 -- `sampling::lists::sample_count` meets its contract: at each return, what the calls and the tests on the way to it say.
 use native.Mathlib.Omega.{arith}
-use Rattle.sampling.specs.Laws.Samples.{sample_count_is}
+use Rattle.sampling.proofs.Laws.Samples.{sample_count_is}
 use Rattle.sampling.proofs.lists.sample_count.Goals as goal
 
 pub returns-then-n-eq0 : goal.returns-then-n-eq0

@@ -4,7 +4,7 @@ use mathlib.Core.Path.{sym, ap, subst, ◌∙◌}
 use lib.ListN.{length}
 use Rattle.sampling.specs.Promises.Stream.{start}
 use Rattle.sampling.specs.Promises.Plan.{to_come, Ready}
-use Rattle.sampling.specs.Laws.Plan.{all_samples_length}
+use Rattle.sampling.proofs.Laws.Plan.{all_samples_length}
 use Rattle.sampling.specs.declared.lists.Plan.{Plan}
 use Rattle.sampling.proofs.plan.count.Goals as goal
 

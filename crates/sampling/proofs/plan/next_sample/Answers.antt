@@ -4,7 +4,7 @@ use Prim.Native.Nat.{◌<◌}
 use native.Mathlib.Omega.{arith}
 use lib.ListN.{length}
 use Rattle.sampling.specs.Promises.Plan.{all_samples, sample_step}
-use Rattle.sampling.specs.Laws.Plan.{all_samples_length}
+use Rattle.sampling.proofs.Laws.Plan.{all_samples_length}
 use Rattle.sampling.proofs.plan.next_sample.Goals as goal
 
 pub returns-then-i-angle_count : goal.returns-then-i-angle_count

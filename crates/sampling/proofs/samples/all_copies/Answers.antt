@@ -7,7 +7,7 @@ use borrow.Author.Rules.{rules}
 use Rattle.sampling.proofs.Grown.{leads_all, leads_next, leads_end, from_number}
 use Rattle.sampling.specs.Promises.Grown.{Grown, counted}
 use Rattle.polynomial.specs.declared.cuts.Put.{Put}
-use Rattle.sampling.specs.Laws.Samples.{copies_next, copies_end}
+use Rattle.sampling.proofs.Laws.Samples.{copies_next, copies_end}
 use Rattle.sampling.specs.Samples as Of
 use Rattle.sampling.proofs.samples.all_copies.Goals as goal
 

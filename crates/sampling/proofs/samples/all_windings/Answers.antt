@@ -9,7 +9,7 @@ use borrow.Author.Rules.{rules}
 use Rattle.sampling.specs.Promises.Grown.{Grown, counted}
 use Rattle.sampling.specs.Samples.{all_windings}
 use Rattle.sampling.proofs.Grown.{none, then}
-use Rattle.sampling.specs.Laws.Samples.{windings_more}
+use Rattle.sampling.proofs.Laws.Samples.{windings_more}
 use Rattle.sampling.proofs.samples.all_windings.Goals as goal
 
 pub loop-i-init : goal.loop-i-init

@@ -5,7 +5,7 @@ use mathlib.Core.Path.{sym, ◌∙◌}
 use lib.Ieee.{div, of_bits}
 use lib.ListN.{length}
 use borrow.Author.Rules.{rules}
-use Rattle.sampling.specs.Laws.Samples.{sample_cut, sample_between, sample_behind}
+use Rattle.sampling.proofs.Laws.Samples.{sample_cut, sample_between, sample_behind}
 use Rattle.sampling.proofs.samples.sample_at.Goals as goal
 
 pub returns-then-i-n : goal.returns-then-i-n

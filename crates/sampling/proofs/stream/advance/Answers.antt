@@ -10,8 +10,8 @@ use lib.Ieee.{Float, nan, is_nan, ne}
 use Rattle.float.specs.Number.{total_le}
 use Rattle.float.specs.Laws.Tests.{number_of}
 use Rattle.sampling.specs.Promises.Stream.{weave, least, advance}
-use Rattle.sampling.specs.Laws.Weave.{weave_length}
-use Rattle.sampling.specs.Laws.Heads.{number_index}
+use Rattle.sampling.proofs.Laws.Weave.{weave_length}
+use Rattle.sampling.proofs.Laws.Heads.{number_index}
 use Rattle.sampling.specs.declared.stream.Cursor.{Cursor}
 use Rattle.sampling.specs.declared.stream.Step.{Step}
 use Rattle.sampling.proofs.stream.Steps.{first_none, first_some, second_none, second_some, third_none, third_some}

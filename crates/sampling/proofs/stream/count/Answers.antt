@@ -10,8 +10,8 @@ use lib.Ieee.{Float, is_nan, fits, binary64}
 use Rattle.sampling.specs.declared.stream.Cursor.{Cursor}
 use Rattle.sampling.specs.declared.stream.Step.TheVariants.{Yield, Done}
 use Rattle.sampling.specs.Promises.Stream.{distinct, Steps, Woven, next}
-use Rattle.sampling.specs.Laws.Step.{next_steps}
-use Rattle.sampling.specs.Laws.Slices.{distinct_few}
+use Rattle.sampling.proofs.Laws.Step.{next_steps}
+use Rattle.sampling.proofs.Laws.Slices.{distinct_few}
 use Rattle.sampling.proofs.stream.Steps.{step_less}
 use Rattle.sampling.proofs.stream.count.Goals as goal
 

@@ -8,7 +8,7 @@ use lib.Ieee.{Float}
 use Rattle.sampling.specs.declared.stream.Cursor.{Cursor}
 use Rattle.sampling.specs.declared.stream.Step.TheVariants.{Yield}
 use Rattle.sampling.specs.Promises.Stream as Of
-use Rattle.sampling.specs.Laws.Step.{Drops, advance_drops}
+use Rattle.sampling.proofs.Laws.Step.{Drops, advance_drops}
 use Rattle.sampling.proofs.stream.Steps.{next_end, next_keep, next_skip}
 use Rattle.sampling.proofs.stream.next.Goals as goal
 

@@ -4,7 +4,7 @@ use native.Mathlib.Omega.{arith}
 use mathlib.Core.Path.{sym, ◌∙◌}
 use lib.ListN.{get_or-eq_default}
 use lib.Ieee.{nan}
-use Rattle.sampling.specs.Laws.Weave.{weave_length, weave_even, weave_odd, weave_past}
+use Rattle.sampling.proofs.Laws.Weave.{weave_length, weave_even, weave_odd, weave_past}
 use Rattle.sampling.specs.Promises.Stream.{weave}
 use Rattle.sampling.proofs.stream.woven.Goals as goal
 

@@ -8,7 +8,7 @@ use lib.Ieee.{Float}
 use Rattle.sampling.specs.declared.lists.Lists.{Lists}
 use Rattle.sampling.specs.Promises.Plan.{all_samples}
 use Rattle.sampling.specs.Samples.{sample_count}
-use Rattle.sampling.specs.Laws.Plan.{all_samples_length}
+use Rattle.sampling.proofs.Laws.Plan.{all_samples_length}
 use Rattle.sheet.proofs.angles.Runs.{lists_laid}
 use Rattle.sheet.proofs.angles.put_lists.Goals as goal
 

@@ -4,7 +4,7 @@ use native.Mathlib.Omega.{arith}
 use mathlib.Core.Path.{refl}
 use lib.ListN.{length}
 use Rattle.sampling.specs.Samples.{all_between, samples}
-use Rattle.sampling.specs.Laws.Samples.{sample_count_is}
+use Rattle.sampling.proofs.Laws.Samples.{sample_count_is}
 use Rattle.sheet.proofs.angles.Runs.{runs}
 use Rattle.sheet.proofs.angles.put_samples.Goals as goal
 

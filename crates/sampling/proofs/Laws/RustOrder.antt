@@ -16,8 +16,8 @@ use Rattle.sampling.specs.CriticalSlices.{Polynomials, polynomials, all_polynomi
 use Rattle.sampling.specs.CriticalSlices.{chart_roots, calls, critical}
 use Rattle.sampling.specs.J1j2free.{folded, curves, critical_slices, half_cuts, first_half, second_half, on_interval, all_slices}
 use Rattle.sampling.specs.Angles.{angles, cut_count}
-use Rattle.sampling.specs.Laws.J1j2free.{critical_fit}
-use Rattle.sampling.specs.Laws.CriticalSlices.{asked_own, asked_pair}
+use Rattle.sampling.proofs.Laws.J1j2free.{critical_fit}
+use Rattle.sampling.proofs.Laws.CriticalSlices.{asked_own, asked_pair}
 use Rattle.sampling.specs.declared.critical_slices.Chart.{Chart}
 use Rattle.sampling.specs.declared.intervals.Range.{Range}
 use Rattle.sampling.specs.declared.intervals.Range.TheVariants.{Nothing, Between}

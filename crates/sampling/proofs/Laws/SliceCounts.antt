@@ -28,7 +28,7 @@ use Rattle.sampling.specs.CriticalSlices.{chart, angles, chart_roots, Polynomial
 use Rattle.sampling.specs.CriticalSlices.{squares, tangency, intersection, critical}
 use Rattle.sampling.specs.J1j2free.{curves, bends, critical_slices, half_cuts, first_half, second_half, on_interval, cut_count}
 use Rattle.sampling.specs.Promises.Curves.{most_curves}
-use Rattle.sampling.specs.Laws.AngleCounts.{both, either, all_copies_few}
+use Rattle.sampling.proofs.Laws.AngleCounts.{both, either, all_copies_few}
 use Rattle.sampling.specs.declared.critical_slices.Chart.{Chart}
 use Rattle.sampling.specs.declared.intervals.Range.{Range}
 use Rattle.sampling.specs.declared.intervals.Range.TheVariants.{Nothing, Between}

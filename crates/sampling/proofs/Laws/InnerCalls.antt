@@ -49,13 +49,13 @@ use Rattle.sampling.specs.declared.job.Kind.TheVariants.{J1free, J2free, J1j2fre
 use Rattle.sampling.specs.declared.marks.Marks.{Marks}
 use Rattle.sampling.specs.declared.pose.Vector.{Vector}
 use Rattle.sampling.specs.declared.wrist.Ray.{Ray}
-use Rattle.sampling.specs.Laws.Limits.{ends_span, limits_ends}
-use Rattle.sampling.specs.Laws.Charts.{limits_charted}
-use Rattle.sampling.specs.Laws.SliceBounds.{eight}
-use Rattle.sampling.specs.Laws.Pairs.{Placed, order_placed}
-use Rattle.sampling.specs.Laws.Pose.{seventeen, Vector-within, Matrix-within}
-use Rattle.sampling.specs.Laws.SmallCurves.{Curve-under, tangency_length, tangency_small, intersection_length, intersection_small}
-use Rattle.sampling.specs.Laws.SmallBoundaries.{sine_under, cosine_under, Ranged, none, some, boundaries_small, slices_fair}
+use Rattle.sampling.proofs.Laws.Limits.{ends_span, limits_ends}
+use Rattle.sampling.proofs.Laws.Charts.{limits_charted}
+use Rattle.sampling.proofs.Laws.SliceBounds.{eight}
+use Rattle.sampling.proofs.Laws.Pairs.{Placed, order_placed}
+use Rattle.sampling.proofs.Laws.Pose.{seventeen, Vector-within, Matrix-within}
+use Rattle.sampling.proofs.Laws.SmallCurves.{Curve-under, tangency_length, tangency_small, intersection_length, intersection_small}
+use Rattle.sampling.proofs.Laws.SmallBoundaries.{sine_under, cosine_under, Ranged, none, some, boundaries_small, slices_fair}
 use Rattle.sampling.specs.Pose as Pose
 use Rattle.sampling.specs.Continuum as Continuum
 use Rattle.sampling.specs.J1free as J1free

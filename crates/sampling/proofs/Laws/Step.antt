@@ -13,8 +13,8 @@ use Rattle.float.specs.Number.{total_le}
 use Rattle.float.specs.Laws.Total.{total_le_total, total_le_trans, total_le_refl}
 use Rattle.polynomial.specs.Cuts.{sort, rest}
 use Rattle.sampling.specs.Promises.Stream.{weave, pending, stream, distinct, Woven, Steps, yielded, least, advance, on_step, next_of, left, next}
-use Rattle.sampling.specs.Laws.Least.{head, no_head}
-use Rattle.sampling.specs.Laws.Heads.{Heads, number_index, first, second, third, done}
+use Rattle.sampling.proofs.Laws.Least.{head, no_head}
+use Rattle.sampling.proofs.Laws.Heads.{Heads, number_index, first, second, third, done}
 use Rattle.sampling.specs.declared.stream.Cursor.{Cursor}
 use Rattle.sampling.specs.declared.stream.Step.{Step}
 use Rattle.sampling.specs.declared.stream.Step.TheVariants.{Yield, Done}

@@ -33,13 +33,13 @@ use Rattle.sampling.specs.Promises.Plan.{Moderate}
 use Rattle.sampling.specs.SampleAngles.{free, roots, intervals, first_cuts, second_cuts, third_cuts, sample_angles}
 use Rattle.sampling.specs.Samples.{copies, windings, all_windings, interval_values, interval_cuts, inset, between, all_between, samples, three_samples}
 use Rattle.sampling.specs.Slices.{mids, slices}
-use Rattle.sampling.specs.Laws.Charts.{limits_charted}
-use Rattle.sampling.specs.Laws.Intervals.{Cut, interval_cut}
-use Rattle.sampling.specs.Laws.J1j2free.{half_fit, half_cuts_are}
-use Rattle.sampling.specs.Laws.Limits.{Ends, ends_span, limits_ends}
-use Rattle.sampling.specs.Laws.Reference.{reference_within}
-use Rattle.sampling.specs.Laws.SliceBounds.{eight, all_small, copies_within, half_small}
-use Rattle.sampling.specs.Laws.Woven.{Small, neighbours}
+use Rattle.sampling.proofs.Laws.Charts.{limits_charted}
+use Rattle.sampling.proofs.Laws.Intervals.{Cut, interval_cut}
+use Rattle.sampling.proofs.Laws.J1j2free.{half_fit, half_cuts_are}
+use Rattle.sampling.proofs.Laws.Limits.{Ends, ends_span, limits_ends}
+use Rattle.sampling.proofs.Laws.Reference.{reference_within}
+use Rattle.sampling.proofs.Laws.SliceBounds.{eight, all_small, copies_within, half_small}
+use Rattle.sampling.proofs.Laws.Woven.{Small, neighbours}
 use Rattle.sampling.specs.declared.constraints.Center.{Center}
 use Rattle.sampling.specs.declared.continuum.Axes.{Axes}
 use Rattle.sampling.specs.declared.intervals.Range.{Range}

@@ -20,14 +20,14 @@ use Rattle.sampling.specs.Promises.Charts.{Charted}
 use Rattle.sampling.specs.Promises.Stream.{distinct, start, next, Woven, Steps}
 use Rattle.sampling.specs.Promises.Plan.{Moderate, lists_of, halves_of, free_plan, folded_plan, laid, free_cuts, folded_cuts, all_cuts, granted, plan}
 use Rattle.sampling.specs.Promises.Plan.{by_plan, filled, zeros, where_laid, work_after, all_samples, to_come, Ready, sample_step, step, Gives}
-use Rattle.sampling.specs.Laws.Charts.{moderate_drawable}
-use Rattle.sampling.specs.Laws.Samples.{samples_length}
-use Rattle.sampling.specs.Laws.J1j2free.{half_fit, half_cuts_are}
-use Rattle.sampling.specs.Laws.Limits.{Ends, limits_ends}
-use Rattle.sampling.specs.Laws.Reference.{reference_fits, reference_number}
-use Rattle.sampling.specs.Laws.Slices.{halves_slices}
-use Rattle.sampling.specs.Laws.SliceBounds.{halves_woven}
-use Rattle.sampling.specs.Laws.Step.{next_steps}
+use Rattle.sampling.proofs.Laws.Charts.{moderate_drawable}
+use Rattle.sampling.proofs.Laws.Samples.{samples_length}
+use Rattle.sampling.proofs.Laws.J1j2free.{half_fit, half_cuts_are}
+use Rattle.sampling.proofs.Laws.Limits.{Ends, limits_ends}
+use Rattle.sampling.proofs.Laws.Reference.{reference_fits, reference_number}
+use Rattle.sampling.proofs.Laws.Slices.{halves_slices}
+use Rattle.sampling.proofs.Laws.SliceBounds.{halves_woven}
+use Rattle.sampling.proofs.Laws.Step.{next_steps}
 use Rattle.sampling.specs.declared.intervals.Range.{Range}
 use Rattle.sampling.specs.declared.intervals.Range.TheVariants.{Nothing, Between}
 use Rattle.sampling.specs.declared.j1j2free.Folded.{Folded}

@@ -16,7 +16,7 @@ use Rattle.sampling.specs.Bends.{harmonic, narrow, bend_roots, bend_at, bend_ran
 use Rattle.sampling.specs.Samples.{inside, copies, all_copies, windings, all_windings}
 use Rattle.sampling.specs.Samples.{interval_values, interval_cuts, samples, sample_count, three_samples}
 use Rattle.sampling.specs.SampleAngles as SampleAngles
-use Rattle.sampling.specs.Laws.Samples.{samples_length, sample_count_most}
+use Rattle.sampling.proofs.Laws.Samples.{samples_length, sample_count_most}
 use Rattle.sampling.specs.declared.continuum.Trig.{Trig}
 use Rattle.sampling.specs.declared.continuum.Crossings.{Crossings}
 use Rattle.sampling.specs.declared.continuum.Crossings.TheVariants.{Neither, Both}

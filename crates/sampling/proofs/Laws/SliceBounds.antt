@@ -29,9 +29,9 @@ use Rattle.sampling.specs.Promises.Charts.{Bounded, Charted}
 use Rattle.sampling.specs.Promises.Halves.{half_values}
 use Rattle.sampling.specs.J1j2free.{curves, bends, half_cuts, first_half, second_half}
 use Rattle.sampling.specs.Promises.Stream.{Woven}
-use Rattle.sampling.specs.Laws.J1j2free.{half_fit, half_cuts_are}
-use Rattle.sampling.specs.Laws.Limits.{Ends, ends_span}
-use Rattle.sampling.specs.Laws.Woven.{Small, cuts_woven}
+use Rattle.sampling.proofs.Laws.J1j2free.{half_fit, half_cuts_are}
+use Rattle.sampling.proofs.Laws.Limits.{Ends, ends_span}
+use Rattle.sampling.proofs.Laws.Woven.{Small, cuts_woven}
 use Rattle.sampling.specs.declared.critical_slices.Chart.{Chart}
 use Rattle.sampling.specs.declared.intervals.Range.TheVariants.{Between}
 use Rattle.sampling.specs.declared.j1j2free.Folded.{Folded}

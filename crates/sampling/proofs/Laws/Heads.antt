@@ -10,8 +10,8 @@ use Rattle.polynomial.specs.Cuts.{sort}
 use Rattle.polynomial.specs.Promises.Lists.{Sorted, Fit}
 use Rattle.polynomial.specs.Laws.Cuts.{fit_drop}
 use Rattle.sampling.specs.Promises.Stream.{weave, pending, Woven}
-use Rattle.sampling.specs.Laws.Weave.{weave_fit}
-use Rattle.sampling.specs.Laws.Least.{head, Numbers, take_first, take_second, take_third, all_empty, sorted_drop, numbers_drop, head_drop, no_head}
+use Rattle.sampling.proofs.Laws.Weave.{weave_fit}
+use Rattle.sampling.proofs.Laws.Least.{head, Numbers, take_first, take_second, take_third, all_empty, sorted_drop, numbers_drop, head_drop, no_head}
 
 -- a number at k: the list reaches there
 pub number_index : (l : List Float) (k : ℕ) → T (not (is_nan (get_or l k nan))) → k < length l

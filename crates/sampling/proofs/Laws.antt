@@ -1,6 +1,6 @@
 -- Laws of the definitions, for upper files to cite.
 -- `Intervals` (a limit interval is in order and lies within P), `Limits` (the ends of a joint's interval are in order and lie within a turn),
--- `Charts` (the root finder takes the bounds of both halves' charts of such an interval),
+-- `ChartBounds` and `Charts` (the root finder takes the bounds of both halves' charts of such an interval),
 -- `Pose` (the parts of a normalized quaternion lie within 2, the entries of its matrix within 17),
 -- `Samples` (roots one by one, the sample at each position), `AngleCounts` (how many boundary angles, cuts and
 -- angles of one free joint at most), `Pairs` (each pair stands in the order once, nothing else does, a curve more only adds at
@@ -20,6 +20,7 @@
 -- so every angle and number of cuts is that of before).
 pub mod Intervals
 pub mod Limits
+pub mod ChartBounds
 pub mod Charts
 pub mod Pose
 pub mod Samples

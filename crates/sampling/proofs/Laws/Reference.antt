@@ -14,7 +14,7 @@ use Rattle.polynomial.specs.Angle.{two_pi}
 use Rattle.polynomial.specs.Laws.Wrapped.{wrapped_fits, wrapped_within}
 use Rattle.sampling.specs.J1j2free.{model_reference}
 use Rattle.sampling.specs.Promises.Plan.{Moderate}
-use Rattle.sampling.specs.Laws.Limits.{unit_sign}
+use Rattle.sampling.proofs.Laws.Limits.{unit_sign}
 use Rattle.sampling.specs.declared.job.Joint.{Joint}
 
 -- a value of the format times 1 or -1, less one within a turn, is of the format

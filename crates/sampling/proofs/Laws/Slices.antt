@@ -18,7 +18,7 @@ use Rattle.polynomial.specs.Laws.Enclosed.{cuts_short}
 use Rattle.sampling.specs.Slices.{mids, slices}
 use Rattle.polynomial.specs.Kinds.{among}
 use Rattle.sampling.specs.Promises.Stream.{weave, stream, distinct, start}
-use Rattle.sampling.specs.Laws.Weave.{weave_perm, weave_fit, weave_length, mids_length}
+use Rattle.sampling.proofs.Laws.Weave.{weave_perm, weave_fit, weave_length, mids_length}
 
 -- ---- from the start: nothing equals a NaN
 

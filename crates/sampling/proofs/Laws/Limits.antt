@@ -16,7 +16,7 @@ use Rattle.polynomial.specs.Angle.{two_pi, wrapped_angle}
 use Rattle.polynomial.specs.Laws.Wrapped.{wrapped_fits, wrapped_within}
 use Rattle.sampling.specs.Constraints.{arc, compute_center}
 use Rattle.sampling.specs.Limits.{centered, limits_of, limits}
-use Rattle.sampling.specs.Laws.Intervals.{minimum_fits, nothing_between}
+use Rattle.sampling.proofs.Laws.Intervals.{minimum_fits, nothing_between}
 use Rattle.sampling.specs.declared.constraints.Center.{Center}
 use Rattle.sampling.specs.declared.intervals.Range.TheVariants.{Nothing, Between}
 use Rattle.sampling.specs.declared.job.Joint.{Joint}

@@ -10,10 +10,10 @@ use Rattle.sampling.specs.Promises.Plan.{Moderate}
 use Rattle.sampling.specs.SampleAngles.{sample_angles}
 use Rattle.sampling.specs.Slices.{slices}
 use Rattle.polynomial.specs.Kinds.{among}
-use Rattle.sampling.specs.Laws.AngleCounts.{sample_angles_few}
-use Rattle.sampling.specs.Laws.SliceCounts.{most_both_cuts, both_cuts_few}
-use Rattle.sampling.specs.Laws.Reference.{reference_number}
-use Rattle.sampling.specs.Laws.Slices.{slices_few, reference_in}
+use Rattle.sampling.proofs.Laws.AngleCounts.{sample_angles_few}
+use Rattle.sampling.proofs.Laws.SliceCounts.{most_both_cuts, both_cuts_few}
+use Rattle.sampling.proofs.Laws.Reference.{reference_number}
+use Rattle.sampling.proofs.Laws.Slices.{slices_few, reference_in}
 use Rattle.sampling.specs.declared.intervals.Range.{Range}
 use Rattle.sampling.specs.declared.intervals.Range.TheVariants.{Nothing, Between}
 use Rattle.sampling.specs.declared.j1j2free.Folded.{Folded}

@@ -18,7 +18,7 @@ use Rattle.sampling.specs.Limits.{centered, limits_of, limits}
 use Rattle.sampling.specs.J1j2free.{model_reference, folded, curves, bends, half_cuts, first_half, second_half, on_interval, all_slices}
 use Rattle.sampling.specs.Angles.{first_free, second_free, by_kind, angles}
 use Rattle.sampling.specs.Promises.Halves.{half_values}
-use Rattle.sampling.specs.Laws.J1j2free.{picked, copies_fit, half_fit, half_cuts_are}
+use Rattle.sampling.proofs.Laws.J1j2free.{picked, copies_fit, half_fit, half_cuts_are}
 use Rattle.sampling.specs.declared.constraints.Center.{Center}
 use Rattle.sampling.specs.declared.intervals.Range.{Range}
 use Rattle.sampling.specs.declared.intervals.Range.TheVariants.{Nothing, Between}

@@ -32,9 +32,9 @@ use Rattle.sampling.specs.declared.intervals.Range.TheVariants.{Nothing, Between
 use Rattle.sampling.specs.declared.j1j2free.Folded.{Folded}
 use Rattle.sampling.specs.declared.pose.Vector.{Vector}
 use Rattle.sampling.specs.declared.pose.Matrix.{Matrix}
-use Rattle.sampling.specs.Laws.Pose.{seventeen, Vector-within, Matrix-within}
-use Rattle.sampling.specs.Laws.SliceBounds.{eight}
-use Rattle.sampling.specs.Laws.SmallCurves.{Curve-under}
+use Rattle.sampling.proofs.Laws.Pose.{seventeen, Vector-within, Matrix-within}
+use Rattle.sampling.proofs.Laws.SliceBounds.{eight}
+use Rattle.sampling.proofs.Laws.SmallCurves.{Curve-under}
 use Rattle.sampling.specs.Pose as Pose
 
 -- ---- numbers
