@@ -1,7 +1,10 @@
 -- The bit pattern of what `units` gives at binary64: q * 2 ^ k units, with q having all its 53 digits where
 -- k is above 0, has the pattern k * 2 ^ 52 + q, cut to an infinity's, with its sign.
 -- And what `closest` gives at 2 ^ 11, as a program computes it.
-use Rattle.std.proofs.Common.{◌≡◌, ℕ, suc, ◌+◌, ◌-◌, ◌*◌, ◌/◌, ◌%◌, ◌^◌, ◌<◌, ◌≤◌, min, Bool, true, false, cond, not, T, ltb, ◌⊎◌, sym, refl, ap, ◌∙◌, subst, inl, inr, le_trans, le_of_eq, le_refl, lt_of_lt_of_le, le_of_suc-le-suc, lt_of_le_of_lt, mul-le-mul_right, zero-lt-suc, mul_assoc, eq-or-lt_of_le, mul-le-mul_left, mul-lt-mul_of_pos_right, lt_of_not-le, not-le_of_lt, le_of_mul-le-mul_right, mul-div_cancel, arith, lit<, ltb→lt, nltb→le, pow_pos, pow_mono, pow-add}
+use Rattle.std.proofs.Common.{◌≡◌, ℕ, suc, ◌+◌, ◌-◌, ◌*◌, ◌/◌, ◌%◌, ◌^◌, ◌<◌, ◌≤◌, min, Bool, true, false, cond, not, T, ltb, ◌⊎◌, sym, refl, ap, ◌∙◌}
+use Rattle.std.proofs.Common.{subst, inl, inr, le_trans, le_of_eq, le_refl, lt_of_lt_of_le, le_of_suc-le-suc, lt_of_le_of_lt, mul-le-mul_right}
+use Rattle.std.proofs.Common.{zero-lt-suc, mul_assoc, eq-or-lt_of_le, mul-le-mul_left, mul-lt-mul_of_pos_right, lt_of_not-le, not-le_of_lt}
+use Rattle.std.proofs.Common.{le_of_mul-le-mul_right, mul-div_cancel, arith, lit<, ltb→lt, nltb→le, pow_pos, pow_mono, pow-add}
 use Prim.Native.Nat.{compare, Ordering}
 use native.Mathlib.Nat.{pow-succ'}
 use lib.Pow.{pow-lt}
@@ -104,7 +107,8 @@ units_pattern s q k a b = go (ltb (q * 2 ^ k) (2 ^ 2098)) (ltb→lt (q * 2 ^ k) 
         (digits_up_to q k a b ∙ whole k q (below q k b (h tt)) a)
     go false h g = inf_pattern ∙ ap (λ (x : ℕ). sign s + x) (cut (k * 2 ^ 52 + q) (from_there q k a b (g tt)))
 
-pub units_is : (s : Bool) (q k : ℕ) → q ≤ 2 ^ 53 → (0 < k → 2 ^ 52 ≤ q) → of_bits binary64 (sign s + min (k * 2 ^ 52 + q) (2047 * 2 ^ 52)) ≡ units binary64 s q k
+pub units_is : (s : Bool) (q k : ℕ) → q ≤ 2 ^ 53 → (0 < k → 2 ^ 52 ≤ q) → of_bits binary64 (sign s + min (k * 2 ^ 52 + q) (2047 * 2 ^ 52))
+    ≡ units binary64 s q k
 units_is s q k a b = ap (λ (x : ℕ). of_bits binary64 x) (sym (units_pattern s q k a b)) ∙ of_bits-to_bits binary64 (units binary64 s q k) (units_fits s q k a)
 
 -- ---- such a pattern is no NaN's

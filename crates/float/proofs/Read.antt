@@ -1,5 +1,6 @@
 -- A finite binary64's sign, digits and place, read from its bit pattern.
-use Rattle.std.proofs.Common.{◌≡◌, ℕ, zero, suc, ◌+◌, ◌*◌, ◌/◌, ◌%◌, ◌^◌, ◌<◌, ◌≤◌, Bool, true, false, cond, T, eqb, leb, sym, refl, ap, ◌∙◌, subst, lt_irrefl, mod-lt, add_comm, le-add_left, arith, pow_pos}
+use Rattle.std.proofs.Common.{◌≡◌, ℕ, zero, suc, ◌+◌, ◌*◌, ◌/◌, ◌%◌, ◌^◌, ◌<◌, ◌≤◌, Bool, true, false, cond, T, eqb, leb, sym, refl, ap, ◌∙◌, subst}
+use Rattle.std.proofs.Common.{lt_irrefl, mod-lt, add_comm, le-add_left, arith, pow_pos}
 use lib.Dec.{eqb_refl}
 use lib.Pow.{field}
 use lib.Ieee.{Float, nan, inf, binary64, odd, fits, of_fields, of_bits, to_bits}

@@ -1,7 +1,9 @@
 -- `round` at binary64 from a number cut to 64 digits: a fraction S * 2 ^ e / 2 ^ c whose S is cut by `jam` to
 -- a w below 2 ^ 64 rounds to w's upper 53 digits, moved up where the lower 11 say so.
 --
-use Rattle.std.proofs.Common.{◌≡◌, ℕ, zero, suc, ◌+◌, ◌-◌, ◌*◌, ◌/◌, ◌%◌, ◌^◌, ◌<◌, ◌≤◌, min, Bool, sym, ap, ◌∙◌, subst, le_trans, le_of_eq, lt_of_lt_of_le, mul-le-mul_right, mod-lt, zero-lt-suc, mul_assoc, mul_comm, div-lt_iff_lt-mul, mul-lt-mul_of_pos_right, mul-pos, div-add-mod', le-div_iff_mul-le, mul_left_comm, arith, pow_pos, pow-add}
+use Rattle.std.proofs.Common.{◌≡◌, ℕ, zero, suc, ◌+◌, ◌-◌, ◌*◌, ◌/◌, ◌%◌, ◌^◌, ◌<◌, ◌≤◌, min, Bool, sym, ap, ◌∙◌, subst, le_trans, le_of_eq}
+use Rattle.std.proofs.Common.{lt_of_lt_of_le, mul-le-mul_right, mod-lt, zero-lt-suc, mul_assoc, mul_comm, div-lt_iff_lt-mul, mul-lt-mul_of_pos_right}
+use Rattle.std.proofs.Common.{mul-pos, div-add-mod', le-div_iff_mul-le, mul_left_comm, arith, pow_pos, pow-add}
 use lib.Ieee.{binary64, size, units, round}
 use lib.Ieee.Digits.{size-le}
 use lib.Ieee.Fits.{round_is}

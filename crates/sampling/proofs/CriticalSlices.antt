@@ -168,8 +168,10 @@ module _ (c : Chart) (l : List Curve) (r : List Numerators) (j : ℕ) (d : Curve
   met_own : meetings (first_threes (take j r)) (first_three k) ≡ meetings (all_polynomials c.origin (take j l)) own
   met_own = λ i. meetings (known.are i) (numerators_are k (get_or l j d) c.origin e i)
 
-  pub critical_grown : {w w' w'' w''' : List Float} {s s' s'' s''' : Put} → Grown (critical c (take j l)) w s w' s' → Grown (chart_roots c (take 5 p)) w' s' w'' s''
-      → Grown (flat_map (chart_roots c) (meetings (first_threes (take j r)) (first_three k))) w'' s'' w''' s''' → Grown (critical c (take (j + 1) l)) w s w''' s'''
+  pub critical_grown : {w w' w'' w''' : List Float} {s s' s'' s''' : Put} → Grown (critical c (take j l)) w s w' s'
+      → Grown (chart_roots c (take 5 p)) w' s' w'' s''
+      → Grown (flat_map (chart_roots c) (meetings (first_threes (take j r)) (first_three k))) w'' s'' w''' s'''
+      → Grown (critical c (take (j + 1) l)) w s w''' s'''
   critical_grown {w} {w'} {w''} {w'''} {s} {s'} {s''} {s'''} x y z =
       let new = chart_roots c (take 5 p) ++ flat_map (chart_roots c) (meetings (first_threes (take j r)) (first_three k)) in
       let e : critical c (take (j + 1) l) ≡ critical c (take j l) ++ new =

@@ -1,7 +1,9 @@
 -- Two numbers at two places, X * 2 ^ d and Y, of which Y is cut to X's place by `jam`: for an even X, the
 -- sum and the difference of X and what is left of Y are the exact ones, cut by `jam`.
 --
-use Rattle.std.proofs.Common.{◌≡◌, ℕ, zero, suc, ◌+◌, ◌-◌, ◌*◌, ◌/◌, ◌%◌, ◌^◌, ◌<◌, ◌≤◌, min, ◌⊎◌, sym, ap, ◌∙◌, subst, inl, inr, le_trans, le_of_eq, lt_of_lt_of_le, mul-le-mul_right, mod-lt, mul_assoc, mul_comm, add-sub_of_le, eq-zero-or-pos, eq-or-lt_of_le, mul-le-mul_left, div-add-mod', arith, pow_pos}
+use Rattle.std.proofs.Common.{◌≡◌, ℕ, zero, suc, ◌+◌, ◌-◌, ◌*◌, ◌/◌, ◌%◌, ◌^◌, ◌<◌, ◌≤◌, min, ◌⊎◌, sym, ap, ◌∙◌, subst, inl, inr, le_trans, le_of_eq}
+use Rattle.std.proofs.Common.{lt_of_lt_of_le, mul-le-mul_right, mod-lt, mul_assoc, mul_comm, add-sub_of_le, eq-zero-or-pos, eq-or-lt_of_le}
+use Rattle.std.proofs.Common.{mul-le-mul_left, div-add-mod', arith, pow_pos}
 use native.Mathlib.Nat.{pow-succ'}
 use Rattle.float.specs.Promises.Jam.{jam}
 use Rattle.float.proofs.wide.Words.{jam_at}

@@ -1,7 +1,10 @@
 -- What `finish` rounds is the exact number: D is the exact S cut by `jam`, and shifting D to the left before
 -- the next cut is shifting S, if nothing was lost of S or the shift is by a word at most.
 --
-use Rattle.std.proofs.Common.{◌≡◌, ℕ, suc, ◌+◌, ◌-◌, ◌*◌, ◌/◌, ◌%◌, ◌^◌, ◌<◌, ◌≤◌, min, Bool, ◌⊎◌, sym, ap, ◌∙◌, subst, inl, inr, le_trans, le_of_eq, le_of_suc-le-suc, mul-le-mul_right, mod-lt, mul_assoc, mul_comm, eq-zero-or-pos, mul-le-mul_left, mul-lt-mul_of_pos_right, mul-pos, one-mul, lt_of_not-le, div-add-mod', sub-add_cancel, mul_right_comm, not-le_of_lt, arith, pow_pos, pow_mono, pow-add}
+use Rattle.std.proofs.Common.{◌≡◌, ℕ, suc, ◌+◌, ◌-◌, ◌*◌, ◌/◌, ◌%◌, ◌^◌, ◌<◌, ◌≤◌, min, Bool, ◌⊎◌, sym, ap, ◌∙◌, subst, inl, inr, le_trans, le_of_eq}
+use Rattle.std.proofs.Common.{le_of_suc-le-suc, mul-le-mul_right, mod-lt, mul_assoc, mul_comm, eq-zero-or-pos, mul-le-mul_left}
+use Rattle.std.proofs.Common.{mul-lt-mul_of_pos_right, mul-pos, one-mul, lt_of_not-le, div-add-mod', sub-add_cancel, mul_right_comm, not-le_of_lt}
+use Rattle.std.proofs.Common.{arith, pow_pos, pow_mono, pow-add}
 use lib.Arith.{digits_lt}
 use lib.Ieee.{Float, binary64, round}
 use lib.Ieee.Scale.{round_same}

@@ -1,7 +1,10 @@
 -- The two ways of `mul_add` from the parts of three finite operands: the product p, 2 ^ 20 times that of the
 -- digits, at the place m, and the addend h, 2 ^ 73 times its digits, at the place l.
 -- The one at the lower place is cut to the other's.
-use Rattle.std.proofs.Common.{◌≡◌, ℕ, suc, ◌+◌, ◌-◌, ◌*◌, ◌%◌, ◌^◌, ◌<◌, ◌≤◌, Bool, ◌⊎◌, sym, refl, ap, ◌∙◌, subst, inl, inr, le_trans, le_of_eq, lt_of_lt_of_le, le-add_right, lt_of_le_of_lt, le_of_lt, mul-le-mul_right, mul_assoc, mul_comm, eq-zero-or-pos, lt_of_mul-lt-mul_right, mul-le-mul_left, mul-lt-mul_of_pos_right, mul-pos, one-mul, mul-one, sub-add_cancel, mul_left_comm, le-add_left, arith, lit≤, pow_pos, pow_mono, pow-add}
+use Rattle.std.proofs.Common.{◌≡◌, ℕ, suc, ◌+◌, ◌-◌, ◌*◌, ◌%◌, ◌^◌, ◌<◌, ◌≤◌, Bool, ◌⊎◌, sym, refl, ap, ◌∙◌, subst, inl, inr, le_trans, le_of_eq}
+use Rattle.std.proofs.Common.{lt_of_lt_of_le, le-add_right, lt_of_le_of_lt, le_of_lt, mul-le-mul_right, mul_assoc, mul_comm, eq-zero-or-pos}
+use Rattle.std.proofs.Common.{lt_of_mul-lt-mul_right, mul-le-mul_left, mul-lt-mul_of_pos_right, mul-pos, one-mul, mul-one, sub-add_cancel}
+use Rattle.std.proofs.Common.{mul_left_comm, le-add_left, arith, lit≤, pow_pos, pow_mono, pow-add}
 use native.Mathlib.Nat.{mul-mod_left}
 use lib.Ieee.{Float, binary64, unlike, sum}
 use Rattle.float.specs.MulAdd.{mul_add}

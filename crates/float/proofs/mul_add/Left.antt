@@ -1,5 +1,8 @@
 -- A number of two words, shifted to the left within two words, and its lower word cut off by `jam`.
-use Rattle.std.proofs.Common.{◌≡◌, ℕ, ◌+◌, ◌-◌, ◌*◌, ◌/◌, ◌%◌, ◌^◌, ◌<◌, ◌≤◌, min, max, sym, ap, ◌∙◌, subst, le_trans, le_of_eq, lt_of_lt_of_le, le-add_right, lt_of_le_of_lt, add-zero, mul-le-mul_right, mod-lt, mod-eq_of_lt, mul_assoc, lt_of_mul-lt-mul_right, mul-le-mul_left, one-mul, lt_of_not-le, div-add-mod', le-div_iff_mul-le, mul-one, mul_right_comm, not-le_of_lt, arith, pow_pos, pow_mono, pow-add, shr_lt}
+use Rattle.std.proofs.Common.{◌≡◌, ℕ, ◌+◌, ◌-◌, ◌*◌, ◌/◌, ◌%◌, ◌^◌, ◌<◌, ◌≤◌, min, max, sym, ap, ◌∙◌, subst, le_trans, le_of_eq, lt_of_lt_of_le}
+use Rattle.std.proofs.Common.{le-add_right, lt_of_le_of_lt, add-zero, mul-le-mul_right, mod-lt, mod-eq_of_lt, mul_assoc, lt_of_mul-lt-mul_right}
+use Rattle.std.proofs.Common.{mul-le-mul_left, one-mul, lt_of_not-le, div-add-mod', le-div_iff_mul-le, mul-one, mul_right_comm, not-le_of_lt, arith}
+use Rattle.std.proofs.Common.{pow_pos, pow_mono, pow-add, shr_lt}
 use native.Mathlib.Nat.{mul-div-mul_right}
 use lib.Bits.{bit_or, or_shifted}
 use Rattle.float.specs.Promises.Jam.{jam}

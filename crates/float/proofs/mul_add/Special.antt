@@ -1,5 +1,6 @@
 -- `mul-add` at binary64 by the parts of its three operands; and where one of them is not finite or is a zero.
-use Rattle.std.proofs.Common.{◌≡◌, ℕ, ◌*◌, ◌^◌, ◌<◌, Bool, true, false, not, T, ◌⊎◌, ℤ, pos, sym, refl, ap, ◌∙◌, inl, inr, true≢false, zero-lt-suc, mul_assoc, eq-zero-or-pos, mul-pos, zero-mul, mul-one, mul_right_comm, arith, pow_pos}
+use Rattle.std.proofs.Common.{◌≡◌, ℕ, ◌*◌, ◌^◌, ◌<◌, Bool, true, false, not, T, ◌⊎◌, ℤ, pos, sym, refl, ap, ◌∙◌, inl, inr, true≢false, zero-lt-suc}
+use Rattle.std.proofs.Common.{mul_assoc, eq-zero-or-pos, mul-pos, zero-mul, mul-one, mul_right_comm, arith, pow_pos}
 use native.Mathlib.Nat.{mul-mul-mul_comm, eq_of_mul-eq-mul_right}
 use lib.Ieee.{Float, nan, inf, fin, binary64, unlike, up, down, sum, add, mul, eq, of_bits}
 use lib.Ieee.Fits.{down_pos}

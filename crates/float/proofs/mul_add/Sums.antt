@@ -1,5 +1,6 @@
 -- `sum` of `lib.Ieee` of equal fractions; and what `combine` gives is it.
-use Rattle.std.proofs.Common.{◌≡◌, ℕ, suc, ◌+◌, ◌-◌, ◌*◌, ◌%◌, ◌^◌, ◌<◌, ◌≤◌, Bool, true, false, ◌⊎◌, sym, refl, ap, ◌∙◌, subst, inl, inr, le_of_eq, lt_of_lt_of_le, lt_of_le_of_lt, mul_comm, add-mul, lt_of_mul-lt-mul_right, mul-lt-mul_of_pos_right, arith, pow_pos}
+use Rattle.std.proofs.Common.{◌≡◌, ℕ, suc, ◌+◌, ◌-◌, ◌*◌, ◌%◌, ◌^◌, ◌<◌, ◌≤◌, Bool, true, false, ◌⊎◌, sym, refl, ap, ◌∙◌, subst, inl, inr, le_of_eq}
+use Rattle.std.proofs.Common.{lt_of_lt_of_le, lt_of_le_of_lt, mul_comm, add-mul, lt_of_mul-lt-mul_right, mul-lt-mul_of_pos_right, arith, pow_pos}
 use mathlib.Core.Bool.{beq}
 use Prim.Native.Nat.{compare, Ordering}
 use native.Mathlib.Nat.{mul-sub}

@@ -1,5 +1,8 @@
 -- What `floor` gives: of x cut to a whole number toward zero, one less where x is below that number.
-use Rattle.std.proofs.Common.{◌≡◌, ℕ, zero, suc, ◌+◌, ◌-◌, ◌*◌, ◌/◌, ◌%◌, ◌^◌, ◌<◌, ◌≤◌, min, Bool, true, false, T, eqb, ltb, ℤ, pos, negsuc, ◌-ℤ◌, neg_ℤ, sym, refl, ap, ◌∙◌, subst, true≢false, le_trans, le_of_eq, lt_of_lt_of_le, lt_of_le_of_lt, le_of_lt, lt_irrefl, zero-lt-suc, lt_of_mul-lt-mul_right, mul-pos, one-mul, div-add-mod', zero-mul, mul-one, div-le_self, mul_right_comm, le_of_mul-le-mul_right, arith, eqb→eq, ltb→lt, le-ltb, lt-ltb}
+use Rattle.std.proofs.Common.{◌≡◌, ℕ, zero, suc, ◌+◌, ◌-◌, ◌*◌, ◌/◌, ◌%◌, ◌^◌, ◌<◌, ◌≤◌, min, Bool, true, false, T, eqb, ltb, ℤ, pos, negsuc, ◌-ℤ◌}
+use Rattle.std.proofs.Common.{neg_ℤ, sym, refl, ap, ◌∙◌, subst, true≢false, le_trans, le_of_eq, lt_of_lt_of_le, lt_of_le_of_lt, le_of_lt, lt_irrefl}
+use Rattle.std.proofs.Common.{zero-lt-suc, lt_of_mul-lt-mul_right, mul-pos, one-mul, div-add-mod', zero-mul, mul-one, div-le_self, mul_right_comm}
+use Rattle.std.proofs.Common.{le_of_mul-le-mul_right, arith, eqb→eq, ltb→lt, le-ltb, lt-ltb}
 use mathlib.Core.Bool.{false≢true}
 use native.Mathlib.Nat.{eq_of_mul-eq-mul_right, mod-one}
 use lib.Signed.{mag}

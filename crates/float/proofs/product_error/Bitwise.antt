@@ -1,7 +1,9 @@
 -- For a zero or from 2 ^ -(k + 1) to 2 ^ 400 in size, and b zero or from 2 ^ -(l + 1), where k + l is at most 968, Dekker's
 -- error equals the fused product of a, b and minus their rounded product, sign of a zero included.
 -- Signs: both forms are odd in a and in b (`Opp`). Zeros: neither form ever gives -0.
-use Rattle.std.proofs.Common.{◌≡◌, ℕ, zero, suc, ◌+◌, ◌-◌, ◌*◌, ◌^◌, ◌<◌, ◌≤◌, Bool, true, false, cond, not, ◌&&◌, T, ltb, ◌⊎◌, ℤ, pos, negsuc, sym, refl, ap, ◌∙◌, subst, ap₂, inl, inr, le_of_eq, lt_of_lt_of_le, lt_irrefl, zero-lt-suc, mul_assoc, mul-pos, one-mul, mul-zero, zero-mul, mul-one, mul_right_comm, mul_left_comm, arith, eqb→eq, pow_pos, pow-add}
+use Rattle.std.proofs.Common.{◌≡◌, ℕ, zero, suc, ◌+◌, ◌-◌, ◌*◌, ◌^◌, ◌<◌, ◌≤◌, Bool, true, false, cond, not, ◌&&◌, T, ltb, ◌⊎◌, ℤ, pos, negsuc, sym}
+use Rattle.std.proofs.Common.{refl, ap, ◌∙◌, subst, ap₂, inl, inr, le_of_eq, lt_of_lt_of_le, lt_irrefl, zero-lt-suc, mul_assoc, mul-pos, one-mul}
+use Rattle.std.proofs.Common.{mul-zero, zero-mul, mul-one, mul_right_comm, mul_left_comm, arith, eqb→eq, pow_pos, pow-add}
 use native.Mathlib.Nat.{eq_of_mul-eq-mul_right}
 use mathlib.Core.Bool.{beq}
 use lib.Ieee.{Float, nan, inf, fin, binary64, unlike, up, down, round, neg, sum, add, sub, mul, fits}

@@ -1,7 +1,9 @@
 -- Dekker's product: for a = A * 2 ^ i and b = B * 2 ^ j units with A and B of 53 digits, every
 -- step of (((ah·bh − p) + ah·bl) + al·bh) + al·bl but the last is exact,
 -- and the last rounds the exact error a·b − p, which the fused product of a, b and −p rounds too.
-use Rattle.std.proofs.Common.{◌≡◌, ℕ, ◌+◌, ◌-◌, ◌*◌, ◌^◌, ◌<◌, ◌≤◌, Bool, true, false, not, T, ltb, leb, sym, ◌∙◌, subst, ap₂, le_trans, le_of_eq, mul-le-mul_right, mul_assoc, add-mul, mul-le-mul, mul-le-mul_left, mul-add, mul_right_comm, arith, ltb→lt, leb→le, nltb→le, pow_pos}
+use Rattle.std.proofs.Common.{◌≡◌, ℕ, ◌+◌, ◌-◌, ◌*◌, ◌^◌, ◌<◌, ◌≤◌, Bool, true, false, not, T, ltb, leb, sym, ◌∙◌, subst, ap₂, le_trans, le_of_eq}
+use Rattle.std.proofs.Common.{mul-le-mul_right, mul_assoc, add-mul, mul-le-mul, mul-le-mul_left, mul-add, mul_right_comm, arith, ltb→lt, leb→le}
+use Rattle.std.proofs.Common.{nltb→le, pow_pos}
 use lib.Dec.{nleb→lt}
 use lib.Ieee.{Float, Format, binary64, add, sub, mul}
 use lib.Ieee.Nearest.{closest}

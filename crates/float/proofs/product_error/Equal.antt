@@ -1,6 +1,7 @@
 -- Dekker's error of a product and the fused product of a, b and minus the rounded product are one value, for a and b above zero in the range: `positive-equal`.
 --
-use Rattle.std.proofs.Common.{◌≡◌, ℕ, ◌+◌, ◌*◌, ◌^◌, ◌<◌, ◌≤◌, sym, ap, ◌∙◌, mul_assoc, mul_comm, add-mul, mul-pos, mul_right_comm, mul_left_comm, arith, pow_pos}
+use Rattle.std.proofs.Common.{◌≡◌, ℕ, ◌+◌, ◌*◌, ◌^◌, ◌<◌, ◌≤◌, sym, ap, ◌∙◌, mul_assoc, mul_comm, add-mul, mul-pos, mul_right_comm, mul_left_comm}
+use Rattle.std.proofs.Common.{arith, pow_pos}
 use native.Mathlib.Nat.{eq_of_mul-eq-mul_right}
 use lib.Ieee.{Float, binary64, neg, mul}
 use lib.Ieee.Positive.{den, den_pos}

@@ -1,7 +1,10 @@
 -- A binary64 value from 2 ^ -(k + 1) to 2 ^ 400 is A * 2 ^ i units with 2 ^ 52 ≤ A < 2 ^ 53 and 1021 - k ≤ i ≤ 1422. So
 -- Dekker's error equals the fused one for all such a and b above zero, where the two k are small enough.
 --
-use Rattle.std.proofs.Common.{◌≡◌, ℕ, zero, suc, ◌+◌, ◌-◌, ◌*◌, ◌^◌, ◌<◌, ◌≤◌, true, false, ◌&&◌, T, ltb, leb, negsuc, sym, ap, ◌∙◌, subst, le_trans, le_of_eq, lt_of_lt_of_le, lt_of_le_of_lt, add-zero, lt_irrefl, mul-le-mul_right, mul_assoc, mul_comm, mul-lt-mul_of_pos_right, one-mul, lt_of_not-le, zero-mul, mul-one, mul_right_comm, not-le_of_lt, le_of_mul-le-mul_right, mul_left_comm, arith, ltb→lt, leb→le, pow_pos, pow_mono, pow-add}
+use Rattle.std.proofs.Common.{◌≡◌, ℕ, zero, suc, ◌+◌, ◌-◌, ◌*◌, ◌^◌, ◌<◌, ◌≤◌, true, false, ◌&&◌, T, ltb, leb, negsuc, sym, ap, ◌∙◌, subst, le_trans}
+use Rattle.std.proofs.Common.{le_of_eq, lt_of_lt_of_le, lt_of_le_of_lt, add-zero, lt_irrefl, mul-le-mul_right, mul_assoc, mul_comm}
+use Rattle.std.proofs.Common.{mul-lt-mul_of_pos_right, one-mul, lt_of_not-le, zero-mul, mul-one, mul_right_comm, not-le_of_lt, le_of_mul-le-mul_right}
+use Rattle.std.proofs.Common.{mul_left_comm, arith, ltb→lt, leb→le, pow_pos, pow_mono, pow-add}
 use lib.Ieee.{Float, nan, inf, fin, binary64, up, down, size, neg, mul}
 use lib.Ieee.Digits.{size-lt, size-le, size_reaches}
 use lib.Ieee.Fits.{and_l, and_r, down_pos}

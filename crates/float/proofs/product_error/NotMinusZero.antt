@@ -1,5 +1,7 @@
 -- When a sum or a product of two values of binary64 is not -0, and the sign of each operation.
-use Rattle.std.proofs.Common.{◌≡◌, ℕ, zero, suc, ◌+◌, ◌-◌, ◌*◌, ◌^◌, ◌<◌, ◌≤◌, Bool, true, false, cond, not, ◌&&◌, T, ltb, leb, ◌⊎◌, ℤ, negsuc, sym, refl, ap, ◌∙◌, subst, ap₂, inl, inr, le_trans, le_of_eq, lt_of_lt_of_le, lt_irrefl, zero-lt-suc, mul_assoc, mul_comm, add-mul, mul-pos, one-mul, zero-mul, mul_right_comm, arith, ltb→lt, leb→le, pow_pos}
+use Rattle.std.proofs.Common.{◌≡◌, ℕ, zero, suc, ◌+◌, ◌-◌, ◌*◌, ◌^◌, ◌<◌, ◌≤◌, Bool, true, false, cond, not, ◌&&◌, T, ltb, leb, ◌⊎◌, ℤ, negsuc, sym}
+use Rattle.std.proofs.Common.{refl, ap, ◌∙◌, subst, ap₂, inl, inr, le_trans, le_of_eq, lt_of_lt_of_le, lt_irrefl, zero-lt-suc, mul_assoc, mul_comm}
+use Rattle.std.proofs.Common.{add-mul, mul-pos, one-mul, zero-mul, mul_right_comm, arith, ltb→lt, leb→le, pow_pos}
 use native.Mathlib.Nat.{mul-sub}
 use lib.Ieee.{Float, nan, inf, fin, binary64, unlike, up, down, round, neg, sum, add, mul}
 use lib.Ieee.Fits.{up_pos, down_pos, and_l, and_r}

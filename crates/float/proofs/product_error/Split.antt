@@ -1,7 +1,8 @@
 -- Veltkamp's split of a binary64 value by 2 ^ 27 + 1 is exact. For a = A * 2 ^ i units with 2 ^ 52
 -- ≤ A < 2 ^ 53 the high half is h * 2 ^ 27 * 2 ^ i units with h ≤ 2 ^ 26,
 -- and the low half is the rest, A - h * 2 ^ 27, of size at most 2 ^ 26.
-use Rattle.std.proofs.Common.{◌≡◌, ℕ, suc, ◌+◌, ◌-◌, ◌*◌, ◌^◌, ◌<◌, ◌≤◌, Bool, true, false, not, T, ltb, sym, refl, subst, inl, inr, le_of_suc-le-suc, lt_irrefl, mul_assoc, le_antisymm, eq-or-lt_of_le, lt_of_not-le, arith, ltb→lt, nltb→le, pow_pos}
+use Rattle.std.proofs.Common.{◌≡◌, ℕ, suc, ◌+◌, ◌-◌, ◌*◌, ◌^◌, ◌<◌, ◌≤◌, Bool, true, false, not, T, ltb, sym, refl, subst, inl, inr, le_of_suc-le-suc}
+use Rattle.std.proofs.Common.{lt_irrefl, mul_assoc, le_antisymm, eq-or-lt_of_le, lt_of_not-le, arith, ltb→lt, nltb→le, pow_pos}
 use lib.Ieee.{Float, binary64, sub, mul}
 use lib.Ieee.Nearest.{closest}
 use Rattle.float.specs.Promises.Halves.{splitter, high_half, low_half}

@@ -1,5 +1,8 @@
 -- `rem` of two finite values by their units: the remainder of two whole numbers; and a whole number of units that is a value rounds to it.
-use Rattle.std.proofs.Common.{◌≡◌, ℕ, ◌+◌, ◌-◌, ◌*◌, ◌/◌, ◌%◌, ◌^◌, ◌<◌, ◌≤◌, Bool, cond, T, ◌⊎◌, ℤ, sym, refl, ap, ◌∙◌, subst, inl, inr, le_trans, le_of_eq, lt_of_lt_of_le, lt_irrefl, mul-le-mul_right, mod-lt, mod-eq_of_lt, mul_assoc, mul_comm, add-mul, eq-zero-or-pos, mul-lt-mul_of_pos_right, mul-pos, div-add-mod', zero-mul, mul_right_comm, arith, pow_pos, pow_mono, pow-add, shl_lt, ne_eqb}
+use Rattle.std.proofs.Common.{◌≡◌, ℕ, ◌+◌, ◌-◌, ◌*◌, ◌/◌, ◌%◌, ◌^◌, ◌<◌, ◌≤◌, Bool, cond, T, ◌⊎◌, ℤ, sym, refl, ap, ◌∙◌, subst, inl, inr, le_trans}
+use Rattle.std.proofs.Common.{le_of_eq, lt_of_lt_of_le, lt_irrefl, mul-le-mul_right, mod-lt, mod-eq_of_lt, mul_assoc, mul_comm, add-mul}
+use Rattle.std.proofs.Common.{eq-zero-or-pos, mul-lt-mul_of_pos_right, mul-pos, div-add-mod', zero-mul, mul_right_comm, arith, pow_pos, pow_mono}
+use Rattle.std.proofs.Common.{pow-add, shl_lt, ne_eqb}
 use lib.Arith.{digits_mod}
 use lib.Ieee.{Float, nan, inf, fin, binary64, up, down, round, rem, fits, of_bits}
 use lib.Ieee.Fits.{down_pos, round-fits}

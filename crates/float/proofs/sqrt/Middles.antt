@@ -1,5 +1,6 @@
 -- Where m * 2 ^ 52 lies to the middles beside q, by the distance d = m * 2 ^ 52 - q * q + 3 * 2 ^ 52; and the value that the nearest whole number makes.
-use Rattle.std.proofs.Common.{◌≡◌, ℕ, zero, suc, ◌+◌, ◌-◌, ◌*◌, ◌^◌, ◌<◌, ◌≤◌, false, ◌⊎◌, sym, subst, inl, inr, mul-le-mul_right, mul-le-mul, mul-lt-mul_of_pos_right, lt_of_not-le, arith, pow_pos}
+use Rattle.std.proofs.Common.{◌≡◌, ℕ, zero, suc, ◌+◌, ◌-◌, ◌*◌, ◌^◌, ◌<◌, ◌≤◌, false, ◌⊎◌, sym, subst, inl, inr, mul-le-mul_right, mul-le-mul}
+use Rattle.std.proofs.Common.{mul-lt-mul_of_pos_right, lt_of_not-le, arith, pow_pos}
 use native.Mathlib.Numerals.{unary_clauses}
 use lib.Ieee.{binary64, units}
 use Rattle.float.specs.Sqrt.{root_of}

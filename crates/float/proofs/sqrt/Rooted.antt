@@ -1,6 +1,9 @@
 -- `sqrt` at binary64: the whole number nearest to the root of n, an n of 105 or 106 digits, is what `sqrt` keeps of n * 4 ^ K.
 --
-use Rattle.std.proofs.Common.{◌≡◌, ℕ, zero, suc, ◌+◌, ◌-◌, ◌*◌, ◌/◌, ◌^◌, ◌<◌, ◌≤◌, Bool, true, false, not, T, ◌⊎◌, ℤ, pos, sym, refl, ap, ◌∙◌, subst, inl, inr, true≢false, le_trans, le_of_eq, lt_of_lt_of_le, le_of_suc-le-suc, lt_of_le_of_lt, le_of_lt, lt_irrefl, mul-le-mul_right, mul_assoc, mul-le-mul, mul-le-mul_left, mul-lt-mul_of_pos_right, mul-pos, lt_of_not-le, zero-mul, mul_right_comm, not-le_of_lt, le-mul_of_pos_right, mul-div_cancel, add-one, arith, pow_pos, pow-add, ltb-true, lt-ltb}
+use Rattle.std.proofs.Common.{◌≡◌, ℕ, zero, suc, ◌+◌, ◌-◌, ◌*◌, ◌/◌, ◌^◌, ◌<◌, ◌≤◌, Bool, true, false, not, T, ◌⊎◌, ℤ, pos, sym, refl, ap, ◌∙◌, subst}
+use Rattle.std.proofs.Common.{inl, inr, true≢false, le_trans, le_of_eq, lt_of_lt_of_le, le_of_suc-le-suc, lt_of_le_of_lt, le_of_lt, lt_irrefl}
+use Rattle.std.proofs.Common.{mul-le-mul_right, mul_assoc, mul-le-mul, mul-le-mul_left, mul-lt-mul_of_pos_right, mul-pos, lt_of_not-le, zero-mul}
+use Rattle.std.proofs.Common.{mul_right_comm, not-le_of_lt, le-mul_of_pos_right, mul-div_cancel, add-one, arith, pow_pos, pow-add, ltb-true, lt-ltb}
 use mathlib.Core.Bool.{false≢true}
 use Prim.Native.Nat.{compare, Ordering}
 use native.Mathlib.Nat.{div-eq_of_lt-le}

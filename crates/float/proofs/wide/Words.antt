@@ -1,5 +1,7 @@
 -- `jam` as a program computes it, of a number of two words: the digits that stay, with the last one set by `bit_or`.
-use Rattle.std.proofs.Common.{◌≡◌, ℕ, zero, suc, ◌+◌, ◌-◌, ◌*◌, ◌/◌, ◌%◌, ◌^◌, ◌<◌, ◌≤◌, min, max, sym, ap, ◌∙◌, subst, suc-le-suc, le_refl, lt_of_lt_of_le, add-zero, le_of_lt, mod-lt, zero-lt-suc, mul_assoc, pow-suc, div-add-mod', sub-add_cancel, mul-div_cancel, arith, pow_pos, pow_mono, pow-add, shr_lt}
+use Rattle.std.proofs.Common.{◌≡◌, ℕ, zero, suc, ◌+◌, ◌-◌, ◌*◌, ◌/◌, ◌%◌, ◌^◌, ◌<◌, ◌≤◌, min, max, sym, ap, ◌∙◌, subst, suc-le-suc, le_refl}
+use Rattle.std.proofs.Common.{lt_of_lt_of_le, add-zero, le_of_lt, mod-lt, zero-lt-suc, mul_assoc, pow-suc, div-add-mod', sub-add_cancel}
+use Rattle.std.proofs.Common.{mul-div_cancel, arith, pow_pos, pow_mono, pow-add, shr_lt}
 use native.Mathlib.Nat.{mul-mod_left, pow-succ'}
 use lib.Arith.{digits_lt, digits_div, digits_mod, mod-mul}
 use lib.Bits.{bit_or, or_step, or_zero_r, or_shifted, or_add_and, and_le_l, and_le_r}

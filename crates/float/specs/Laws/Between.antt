@@ -1,8 +1,11 @@
 -- The middle of an interval whose ends differ stands between them in the order of `total_cmp`, in which the
 -- sign of a zero counts: where the lower end has no minus sign the middle has none,
 -- and where the upper end has one the middle has one, since half of what lies between is less than the lower end's size.
-use Rattle.std.specs.Prelude.{◌≡◌, ℕ, zero, suc, ◌+◌, ◌-◌, ◌*◌, ◌^◌, ◌<◌, ◌≤◌, Bool, true, false, not, ◌&&◌, ◌||◌, T, ltb, leb, ◌⊎◌, ℤ, pos, negsuc, nat_le, nat_lt, refl, Float}
-use Rattle.std.proofs.Common.{suc-le-suc, le_of_eq, le_trans, lt_of_le_of_lt, lt_of_lt_of_le, mul-pos, mul-le-mul_right, mul-lt-mul_of_pos_right, lt_of_mul-lt-mul_right, mul_right_comm, mul_assoc, mul-one, lt_trans, lt-suc_self, pow-suc, mul-le-mul_left, sub-le, not-suc-le-zero, arith, sym, ap, subst, ◌∙◌, inl, inr, leb→le, ltb→lt, lt→ltb, le→leb, lit<, pow_mono, pow_pos}
+use Rattle.std.specs.Prelude.{◌≡◌, ℕ, zero, suc, ◌+◌, ◌-◌, ◌*◌, ◌^◌, ◌<◌, ◌≤◌, Bool, true, false, not, ◌&&◌, ◌||◌, T, ltb, leb, ◌⊎◌, ℤ, pos, negsuc}
+use Rattle.std.specs.Prelude.{nat_le, nat_lt, refl, Float}
+use Rattle.std.proofs.Common.{suc-le-suc, le_of_eq, le_trans, lt_of_le_of_lt, lt_of_lt_of_le, mul-pos, mul-le-mul_right, mul-lt-mul_of_pos_right}
+use Rattle.std.proofs.Common.{lt_of_mul-lt-mul_right, mul_right_comm, mul_assoc, mul-one, lt_trans, lt-suc_self, pow-suc, mul-le-mul_left, sub-le}
+use Rattle.std.proofs.Common.{not-suc-le-zero, arith, sym, ap, subst, ◌∙◌, inl, inr, leb→le, ltb→lt, lt→ltb, le→leb, lit<, pow_mono, pow_pos}
 use Rattle.std.proofs.Math.Nat.{mul-mul-mul_comm, le-suc}
 use Rattle.std.proofs.Math.Decide.{dec_lt}
 use Rattle.std.specs.Float.{nan, inf, fin, binary64}

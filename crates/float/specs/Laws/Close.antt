@@ -4,7 +4,10 @@
 -- A rounded product is within h units (`mul-close`), its error within 2 * h (`error-close`); far
 -- enough from zero the sign is known (`close-positive`, `close-negative`).
 use Rattle.std.specs.Prelude.{◌≡◌, ℕ, zero, suc, ◌+◌, ◌-◌, ◌*◌, ◌/◌, ◌^◌, ◌<◌, ◌≤◌, Bool, true, false, cond, not, T, ◌⊎◌, ℤ, ◌≢◌, nat_le, refl, Float}
-use Rattle.std.proofs.Common.{le_of_eq, le_of_lt, le_of_suc-le-suc, lt_of_le_of_lt, lt_of_not-le, mul-pos, mul-one, zero-mul, zero-add, mul_assoc, mul_comm, mul_right_comm, add-mul, suc-mul, pow-suc, le_of_mul-le-mul_right, mul-le-mul_right, mul-le-mul_left, mul-lt-mul_of_pos_right, div-lt_iff_lt-mul, zero-lt-suc, lt_irrefl, arith, sym, ap, ap₂, ◌∙◌, subst, inl, inr, leb→le, ltb→lt, pow-add, pow_pos}
+use Rattle.std.proofs.Common.{le_of_eq, le_of_lt, le_of_suc-le-suc, lt_of_le_of_lt, lt_of_not-le, mul-pos, mul-one, zero-mul, zero-add, mul_assoc}
+use Rattle.std.proofs.Common.{mul_comm, mul_right_comm, add-mul, suc-mul, pow-suc, le_of_mul-le-mul_right, mul-le-mul_right, mul-le-mul_left}
+use Rattle.std.proofs.Common.{mul-lt-mul_of_pos_right, div-lt_iff_lt-mul, zero-lt-suc, lt_irrefl, arith, sym, ap, ap₂, ◌∙◌, subst, inl, inr, leb→le}
+use Rattle.std.proofs.Common.{ltb→lt, pow-add, pow_pos}
 use Rattle.std.proofs.Math.Nat.{mul-mul-mul_comm}
 use Rattle.std.proofs.Math.Dec.{nleb→lt}
 use Rattle.std.specs.Float.{nan, inf, fin, Format, binary64}

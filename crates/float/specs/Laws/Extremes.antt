@@ -1,6 +1,7 @@
 -- The largest value of binary64: every value of the format is within it.
 use Rattle.std.specs.Prelude.{◌≡◌, ℕ, suc, ◌+◌, ◌-◌, ◌*◌, ◌^◌, ◌<◌, ◌≤◌, Bool, true, false, not, ◌&&◌, T, pos, negsuc, nat_le, nat_lt, Float}
-use Rattle.std.proofs.Common.{le_trans, le_of_eq, le_of_lt, mul-one, mul_assoc, mul-le-mul, mul-le-mul_left, mul-le-mul_right, lt_of_mul-lt-mul_right, le_of_suc-le-suc, arith, sym, ap, subst, ◌∙◌, ltb→lt, leb→le, lit≤, pow-add, pow_pos, pow_mono}
+use Rattle.std.proofs.Common.{le_trans, le_of_eq, le_of_lt, mul-one, mul_assoc, mul-le-mul, mul-le-mul_left, mul-le-mul_right, lt_of_mul-lt-mul_right}
+use Rattle.std.proofs.Common.{le_of_suc-le-suc, arith, sym, ap, subst, ◌∙◌, ltb→lt, leb→le, lit≤, pow-add, pow_pos, pow_mono}
 use Rattle.std.proofs.Math.Dec.{nleb→lt}
 use Rattle.std.specs.Float.{nan, inf, fin, binary64}
 use Rattle.std.specs.Float.Ieee.Fits.{and_l, and_r}

@@ -2,7 +2,9 @@
 -- A finite value is (pl - mi) / den: `pl` is its size where it is not negative and 0 otherwise, `mi` the other way round. So an order of values is an
 -- inequality of sums of products. `srnd` rounds such a difference; a sum is that, but for the sign of a zero.
 use Rattle.std.specs.Prelude.{◌≡◌, ℕ, zero, suc, ◌+◌, ◌-◌, ◌*◌, ◌^◌, ◌<◌, ◌≤◌, Bool, true, false, cond, not, ◌&&◌, ◌||◌, T, ◌⊎◌, ◌==◌, nat_le, nat_lt}
-use Rattle.std.proofs.Common.{sym, ap, ap₂, ◌∙◌, subst, inl, inr, le_of_lt, zero-mul, one-mul, mul-pos, mul_assoc, mul_comm, mul_left_comm, add-mul, zero-lt-suc, lt_irrefl, eq-or-lt_of_le, le_of_mul-le-mul_right, mul-le-mul_right, arith, ltb→lt, lt→ltb, nltb→le, leb→le, eqb→eq}
+use Rattle.std.proofs.Common.{sym, ap, ap₂, ◌∙◌, subst, inl, inr, le_of_lt, zero-mul, one-mul, mul-pos, mul_assoc, mul_comm, mul_left_comm, add-mul}
+use Rattle.std.proofs.Common.{zero-lt-suc, lt_irrefl, eq-or-lt_of_le, le_of_mul-le-mul_right, mul-le-mul_right, arith, ltb→lt, lt→ltb, nltb→le, leb→le}
+use Rattle.std.proofs.Common.{eqb→eq}
 use Rattle.std.proofs.Math.Path.{subst⁻¹}
 use Rattle.std.proofs.Math.Nat.{mul-sub}
 use Rattle.std.proofs.Math.Dec.{nleb→lt}

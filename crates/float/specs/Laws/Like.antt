@@ -2,7 +2,8 @@
 -- `Opp x x'`, x' is minus x as a number, goes through `add`, `sub`, `mul`.
 --
 use Rattle.std.specs.Prelude.{◌≡◌, ℕ, zero, suc, ◌+◌, ◌-◌, ◌*◌, ◌<◌, ◌≤◌, Bool, true, false, cond, not, ◌&&◌, T, nat_lt, refl, Float}
-use Rattle.std.proofs.Common.{sym, ap, ap₂, ◌∙◌, zero-mul, mul-zero, mul-one, one-mul, mul-pos, mul_assoc, mul_comm, mul_left_comm, zero-lt-suc, arith, ltb→lt, nltb→le}
+use Rattle.std.proofs.Common.{sym, ap, ap₂, ◌∙◌, zero-mul, mul-zero, mul-one, one-mul, mul-pos, mul_assoc, mul_comm, mul_left_comm, zero-lt-suc, arith}
+use Rattle.std.proofs.Common.{ltb→lt, nltb→le}
 use Rattle.std.specs.Bool.{beq}
 use Rattle.std.proofs.Math.Bool.{and-true}
 use Rattle.std.specs.Float.{nan, inf, fin, Format}

@@ -2,7 +2,8 @@
 -- For the w units between the ends, w = 0 or 2 ^ j ≤ w ≤ 2 ^ (j + 1): so hi - lo rounds to at most
 -- 2 ^ (j + 1), its half to at most 2 ^ j, and lo with that is at most hi.
 use Rattle.std.specs.Prelude.{◌≡◌, ℕ, zero, suc, ◌+◌, ◌*◌, ◌^◌, ◌<◌, ◌≤◌, true, false, T, pos, refl, Float}
-use Rattle.std.proofs.Common.{sym, ap, ◌∙◌, subst, le_trans, le_of_eq, mul-pos, mul-one, one-mul, mul_assoc, mul_comm, mul_left_comm, add-mul, mul-le-mul_right, pow-suc, zero-add, arith, lit<, pow_pos}
+use Rattle.std.proofs.Common.{sym, ap, ◌∙◌, subst, le_trans, le_of_eq, mul-pos, mul-one, one-mul, mul_assoc, mul_comm, mul_left_comm, add-mul}
+use Rattle.std.proofs.Common.{mul-le-mul_right, pow-suc, zero-add, arith, lit<, pow_pos}
 use Rattle.std.proofs.Math.Arith.{lt_of_le-ne}
 use Rattle.std.proofs.Math.Pow.{pow-lt}
 use Rattle.std.specs.Float.{nan, inf, fin, Format, binary32}

@@ -2,7 +2,8 @@
 -- `by-parts-srnd`: of finite values it is one rounded difference.
 -- The laws are proved of `by_parts`, another text of it, by the product and then the addend: `mul-add-is` says that the two are one.
 use Rattle.std.specs.Prelude.{◌≡◌, ℕ, zero, suc, ◌+◌, ◌*◌, ◌<◌, Bool, true, false, cond, not, T, ◌==◌, refl, Float}
-use Rattle.std.proofs.Common.{add-zero, zero-add, add_comm, zero-mul, mul-zero, mul-one, mul-pos, mul_assoc, mul_comm, mul_left_comm, zero-lt-suc, sym, ap, ap₂, ◌∙◌}
+use Rattle.std.proofs.Common.{add-zero, zero-add, add_comm, zero-mul, mul-zero, mul-one, mul-pos, mul_assoc, mul_comm, mul_left_comm, zero-lt-suc, sym}
+use Rattle.std.proofs.Common.{ap, ap₂, ◌∙◌}
 use Rattle.std.specs.Bool.{beq}
 use Rattle.std.specs.Float.{nan, inf, fin, Format}
 use Rattle.std.specs.Float.Ieee.{unlike, up, down, neg, sum, add}

@@ -2,7 +2,8 @@
 -- + 0.5, r = (x − k·H) − k·L has |r| ≤ 203/256 < 0.793, and |k| ≤ 20.
 -- For each k the values x that have it lie in an interval around k·H, since x·I + 0.5 grows with x; on that interval r grows with x, so its two ends bound it.
 -- All 41 intervals are tested by one computation, `table`.
-use Rattle.std.specs.Prelude.{◌≡◌, ℕ, zero, suc, ◌+◌, ◌-◌, ◌*◌, ◌^◌, ◌<◌, ◌≤◌, Bool, true, false, cond, not, ◌&&◌, T, List, [], ◌∷◌, ℤ, pos, negsuc, neg_ℤ, nat_le, refl, Float}
+use Rattle.std.specs.Prelude.{◌≡◌, ℕ, zero, suc, ◌+◌, ◌-◌, ◌*◌, ◌^◌, ◌<◌, ◌≤◌, Bool, true, false, cond, not, ◌&&◌, T, List, [], ◌∷◌, ℤ, pos, negsuc}
+use Rattle.std.specs.Prelude.{neg_ℤ, nat_le, refl, Float}
 use Rattle.std.proofs.Common.{sym, ap, ◌∙◌, subst, le_of_suc-le-suc, eq-or-lt_of_le, arith, inl, inr}
 use Rattle.std.proofs.Math.IntN.{suc_ℤ}
 use Rattle.std.specs.Int.Signed.{mag}

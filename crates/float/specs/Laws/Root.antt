@@ -1,7 +1,12 @@
 -- Bounds through the square root: what has a square of at most v is at most the rounded root of v, and what has a square of at least v is at least that root.
 -- With it the parts of a normalized quaternion are within 2.
-use Rattle.std.specs.Prelude.{◌≡◌, ℕ, zero, suc, ◌+◌, ◌-◌, ◌*◌, ◌/◌, ◌%◌, ◌^◌, ◌<◌, ◌≤◌, Bool, true, false, cond, not, ◌&&◌, T, ltb, leb, ℤ, pos, nat_le, nat_lt, refl, Float}
-use Rattle.std.proofs.Common.{sym, ap, ap₂, ◌∙◌, subst, inl, inr, le_trans, le_of_eq, le_of_lt, lt_of_lt_of_le, lt_of_le_of_lt, lt_of_not-le, not-le_of_lt, le_of_suc-le-suc, lt_irrefl, eq-or-lt_of_le, zero-lt-suc, mul-pos, mul-one, one-mul, zero-mul, zero-add, mul_assoc, mul_comm, mul_left_comm, mul_right_comm, mul-le-mul, mul-le-mul_right, mul-le-mul_left, mul-lt-mul_of_pos_right, le_of_mul-le-mul_right, le-div_iff_mul-le, div-lt_iff_lt-mul, div-mul-le_self, le-mul_of_pos_right, arith, leb→le, ltb→lt, eqb→eq, lit≤, lit<, pow-add, pow_pos, pow_mono}
+use Rattle.std.specs.Prelude.{◌≡◌, ℕ, zero, suc, ◌+◌, ◌-◌, ◌*◌, ◌/◌, ◌%◌, ◌^◌, ◌<◌, ◌≤◌, Bool, true, false, cond, not, ◌&&◌, T, ltb, leb, ℤ, pos}
+use Rattle.std.specs.Prelude.{nat_le, nat_lt, refl, Float}
+use Rattle.std.proofs.Common.{sym, ap, ap₂, ◌∙◌, subst, inl, inr, le_trans, le_of_eq, le_of_lt, lt_of_lt_of_le, lt_of_le_of_lt, lt_of_not-le}
+use Rattle.std.proofs.Common.{not-le_of_lt, le_of_suc-le-suc, lt_irrefl, eq-or-lt_of_le, zero-lt-suc, mul-pos, mul-one, one-mul, zero-mul, zero-add}
+use Rattle.std.proofs.Common.{mul_assoc, mul_comm, mul_left_comm, mul_right_comm, mul-le-mul, mul-le-mul_right, mul-le-mul_left}
+use Rattle.std.proofs.Common.{mul-lt-mul_of_pos_right, le_of_mul-le-mul_right, le-div_iff_mul-le, div-lt_iff_lt-mul, div-mul-le_self}
+use Rattle.std.proofs.Common.{le-mul_of_pos_right, arith, leb→le, ltb→lt, eqb→eq, lit≤, lit<, pow-add, pow_pos, pow_mono}
 use Prim.Native.Nat.{zero-le, compare, Ordering}
 use Rattle.std.proofs.Math.Nat.{mul-mul-mul_comm, div-div-eq-div-mul, pow-succ'}
 use Rattle.std.proofs.Math.Dec.{is_le, compare_is_eq, nleb→lt}

@@ -1,7 +1,8 @@
 -- The sign of a tangent: for |y| ≤ 101/128, tan y is not below zero where y is not, and not above where y is not. The steps are those of `Trigonometry`:
 -- k is −1, 0 or 1, at 0 the sine has the sign of r and the cosine is above zero, at ±1 it is the other way round.
 use Rattle.std.specs.Prelude.{◌≡◌, ℕ, zero, suc, ◌+◌, ◌-◌, ◌*◌, ◌<◌, ◌≤◌, Bool, true, false, cond, not, ◌&&◌, T, ℤ, pos, negsuc, nat_le, nat_lt, Float}
-use Rattle.std.proofs.Common.{le_of_eq, le_refl, lt_of_lt_of_le, lt_irrefl, mul-pos, mul_comm, mul_assoc, zero-mul, zero-lt-suc, arith, sym, ap, ◌∙◌, subst, le→leb, ltb→lt, lit≤}
+use Rattle.std.proofs.Common.{le_of_eq, le_refl, lt_of_lt_of_le, lt_irrefl, mul-pos, mul_comm, mul_assoc, zero-mul, zero-lt-suc, arith, sym, ap, ◌∙◌}
+use Rattle.std.proofs.Common.{subst, le→leb, ltb→lt, lit≤}
 use Rattle.std.proofs.Math.Nat.{sub_self}
 use Rattle.std.proofs.Math.Path.{refl}
 use Rattle.std.specs.Bool.{beq}

@@ -2,9 +2,11 @@
 -- NaN and values that no format holds included; only `total-le-antisym` asks that the values fit.
 -- Three values at a time are mapped to numbers, their places on a line, such that `total-le` is `≤` of the places and `eq` their equality after
 -- the places of -0 and +0 are made one.
-use Rattle.std.specs.Prelude.{◌≡◌, ℕ, ◌+◌, ◌-◌, ◌*◌, ◌/◌, ◌^◌, ◌<◌, ◌≤◌, min, Bool, true, false, cond, not, ◌&&◌, ◌||◌, T, ltb, ℤ, ◌==◌, ◌≢◌, from_bits, nat_eq, nat_le, nat_lt, Float}
+use Rattle.std.specs.Prelude.{◌≡◌, ℕ, ◌+◌, ◌-◌, ◌*◌, ◌/◌, ◌^◌, ◌<◌, ◌≤◌, min, Bool, true, false, cond, not, ◌&&◌, ◌||◌, T, ltb, ℤ, ◌==◌, ◌≢◌}
+use Rattle.std.specs.Prelude.{from_bits, nat_eq, nat_le, nat_lt, Float}
 use Rattle.std.proofs.Math.Path.{refl, sym}
-use Rattle.std.proofs.Common.{ap, subst, ◌∙◌, le_antisymm, zero-mul, add-mul, mul_right_comm, mul-lt-mul_of_pos_right, mul-le-mul_right, arith, lt-ltb, le-ltb, le-leb, eq-eqb, ne_eqb, leb-false, leb→le, le→leb, eqb→eq}
+use Rattle.std.proofs.Common.{ap, subst, ◌∙◌, le_antisymm, zero-mul, add-mul, mul_right_comm, mul-lt-mul_of_pos_right, mul-le-mul_right, arith, lt-ltb}
+use Rattle.std.proofs.Common.{le-ltb, le-leb, eq-eqb, ne_eqb, leb-false, leb→le, le→leb, eqb→eq}
 use Rattle.std.specs.Bool.{beq}
 use Rattle.std.proofs.Math.Decide.{dec_lt}
 use Rattle.std.proofs.lemmas.Bool.{lt-leb}

@@ -1,7 +1,8 @@
 -- Bounds by powers of two, for any exponent, where numerals do not reach: `Under k x` says that x is finite and |x| ≤ 2 ^ k. Each operation takes any n that
 -- is large enough, so that `omega` does the side conditions.
 use Rattle.std.specs.Prelude.{◌≡◌, ℕ, suc, ◌+◌, ◌*◌, ◌^◌, ◌<◌, ◌≤◌, false, ◌&&◌, T, pos, nat_le, nat_lt, Float}
-use Rattle.std.proofs.Common.{zero-le, le_trans, le_of_eq, lt_of_le_of_lt, mul-one, one-mul, mul-le-mul, mul-le-mul_left, mul-le-mul_right, mul-pos, pow-suc, le_of_suc-le-suc, arith, sym, ap, ap₂, ◌∙◌, le→leb, lt→ltb, pow-add, pow_mono}
+use Rattle.std.proofs.Common.{zero-le, le_trans, le_of_eq, lt_of_le_of_lt, mul-one, one-mul, mul-le-mul, mul-le-mul_left, mul-le-mul_right, mul-pos}
+use Rattle.std.proofs.Common.{pow-suc, le_of_suc-le-suc, arith, sym, ap, ap₂, ◌∙◌, le→leb, lt→ltb, pow-add, pow_mono}
 use Rattle.std.proofs.Math.Nat.{mul-mul-mul_comm}
 use Rattle.std.proofs.Math.Pow.{pow-lt}
 use Rattle.std.specs.Float.{nan, inf, fin, Format, binary64}

@@ -2,7 +2,9 @@
 -- A sum, a difference or a product whose exact value is such a number with fewer than prec digits is that value: `Is-add`, `Is-sub`, `Is-mul`.
 -- `srnd-same`: a rounded difference sees only its value. `Is-Le`, `Le-Is`: the order of such values is that of their units.
 use Rattle.std.specs.Prelude.{◌≡◌, ℕ, zero, suc, ◌+◌, ◌-◌, ◌*◌, ◌^◌, ◌<◌, ◌≤◌, Bool, true, false, cond, not, T, nat_le, refl, Float}
-use Rattle.std.proofs.Common.{sym, ap, ap₂, ◌∙◌, subst, le_trans, le_of_eq, le_of_lt, lt_of_lt_of_le, zero-mul, mul-one, mul-pos, mul_assoc, mul_comm, mul_left_comm, mul_right_comm, add-mul, mul-add, zero-lt-suc, lt_irrefl, le_of_mul-le-mul_right, mul-le-mul_right, mul-lt-mul_of_pos_right, arith, leb→le, pow-add, pow_pos, pow_mono}
+use Rattle.std.proofs.Common.{sym, ap, ap₂, ◌∙◌, subst, le_trans, le_of_eq, le_of_lt, lt_of_lt_of_le, zero-mul, mul-one, mul-pos, mul_assoc, mul_comm}
+use Rattle.std.proofs.Common.{mul_left_comm, mul_right_comm, add-mul, mul-add, zero-lt-suc, lt_irrefl, le_of_mul-le-mul_right, mul-le-mul_right}
+use Rattle.std.proofs.Common.{mul-lt-mul_of_pos_right, arith, leb→le, pow-add, pow_pos, pow_mono}
 use Rattle.std.proofs.Math.Nat.{mul-sub, eq_of_mul-eq-mul_right}
 use Rattle.std.proofs.Math.Dec.{nleb→lt}
 use Rattle.std.specs.Float.{nan, inf, fin, Format}

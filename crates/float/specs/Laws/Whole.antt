@@ -1,7 +1,8 @@
 -- The counts of units of a finite value that a format holds, as functions: it is `plus-units` of the format's smallest value, or minus `minus-units` of them.
 -- So the comparisons are comparisons of whole numbers, and `width`, the units between two values, can be a loop's measure.
 use Rattle.std.specs.Prelude.{◌≡◌, ℕ, suc, ◌+◌, ◌-◌, ◌*◌, ◌^◌, ◌<◌, ◌≤◌, Bool, true, false, not, ◌&&◌, T, ◌⊎◌, ◌↔◌, ℤ, pos, negsuc, nat_le, nat_lt, refl, Float}
-use Rattle.std.proofs.Common.{sym, ap, ◌∙◌, inl, inr, le_of_eq, lt_irrefl, lt_of_lt_of_le, mul-one, zero-mul, mul_assoc, mul_comm, pow-suc, arith, leb→le, pow-add}
+use Rattle.std.proofs.Common.{sym, ap, ◌∙◌, inl, inr, le_of_eq, lt_irrefl, lt_of_lt_of_le, mul-one, zero-mul, mul_assoc, mul_comm, pow-suc, arith}
+use Rattle.std.proofs.Common.{leb→le, pow-add}
 use Rattle.std.proofs.Math.Path.{subst}
 use Rattle.std.proofs.Math.Nat.{le_antisymm}
 use Rattle.std.proofs.Math.Arith.{lt_of_le-ne}
@@ -66,7 +67,8 @@ module _ (f : Format) (x y : Float) (p : T (fits f x)) (r : T (finite x)) (q : T
   unfolding le
   eq_units = (
     (λ h. le_antisymm ((le_units f x y p r q s).0 (or_r (lt x y) (eq x y) h)) ((le_units f y x q s p r).0 (or_r (lt y x) (eq y x) (subst T (eq_comm x y) h)))),
-    (λ h. go (or_split (lt x y) (eq x y) ((le_units f x y p r q s).1 (le_of_eq h))) (or_split (lt y x) (eq y x) ((le_units f y x q s p r).1 (le_of_eq (sym h))))),
+    (λ h. go (or_split (lt x y) (eq x y) ((le_units f x y p r q s).1 (le_of_eq h)))
+        (or_split (lt y x) (eq y x) ((le_units f y x q s p r).1 (le_of_eq (sym h))))),
   )
     where
       go : T (lt x y) ⊎ T (eq x y) → T (lt y x) ⊎ T (eq y x) → T (eq x y)

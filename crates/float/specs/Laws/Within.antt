@@ -2,8 +2,12 @@
 -- A rule for an operation takes bounds of the operands and any B that the format holds and that the
 -- exact bound does not pass: rounding does not cross a value of the format.
 -- For numerals X, Y, B each test is closed, so `tt` proves it by computation.
-use Rattle.std.specs.Prelude.{◌≡◌, ℕ, zero, suc, ◌+◌, ◌-◌, ◌*◌, ◌%◌, ◌^◌, ◌<◌, ◌≤◌, Bool, true, false, cond, not, ◌&&◌, T, ltb, leb, ℤ, pos, negsuc, ◌==◌, ◌≢◌, nat_eq, nat_le, nat_lt, refl, Float}
-use Rattle.std.proofs.Common.{sym, ap, ap₂, ◌∙◌, subst, le_trans, le_of_eq, lt_of_lt_of_le, lt_of_le_of_lt, zero-mul, mul-one, one-mul, mul-pos, mul_assoc, mul_comm, mul_left_comm, mul_right_comm, add-mul, zero-lt-suc, lt_irrefl, le_of_mul-le-mul_right, mul-le-mul_right, mul-le-mul, mul-lt-mul_of_pos_right, lt_of_mul-lt-mul_right, sub-add_cancel, add-le-add, arith, ltb→lt, lt→ltb, leb→le, le→leb, eqb→eq, pow-add, pow_pos}
+use Rattle.std.specs.Prelude.{◌≡◌, ℕ, zero, suc, ◌+◌, ◌-◌, ◌*◌, ◌%◌, ◌^◌, ◌<◌, ◌≤◌, Bool, true, false, cond, not, ◌&&◌, T, ltb, leb, ℤ, pos, negsuc}
+use Rattle.std.specs.Prelude.{◌==◌, ◌≢◌, nat_eq, nat_le, nat_lt, refl, Float}
+use Rattle.std.proofs.Common.{sym, ap, ap₂, ◌∙◌, subst, le_trans, le_of_eq, lt_of_lt_of_le, lt_of_le_of_lt, zero-mul, mul-one, one-mul, mul-pos}
+use Rattle.std.proofs.Common.{mul_assoc, mul_comm, mul_left_comm, mul_right_comm, add-mul, zero-lt-suc, lt_irrefl, le_of_mul-le-mul_right}
+use Rattle.std.proofs.Common.{mul-le-mul_right, mul-le-mul, mul-lt-mul_of_pos_right, lt_of_mul-lt-mul_right, sub-add_cancel, add-le-add, arith, ltb→lt}
+use Rattle.std.proofs.Common.{lt→ltb, leb→le, le→leb, eqb→eq, pow-add, pow_pos}
 use Rattle.std.proofs.Math.Nat.{mul-sub}
 use Rattle.std.specs.Bool.{beq}
 use Rattle.std.proofs.Math.Dec.{nleb→lt}
@@ -42,7 +46,8 @@ fits→held f (inf s) t p = absurd p
 fits→held f (fin s zero e) t p =
     let k = one_of e (eqb→eq (up e * down e) 1 t) in
     and_i (nat_lt 0 (2 ^ prec f)) (nat_le (down e) (2 ^ low f) && nat_lt (0 * up e) (2 ^ suc (emax f) * down e)) (lt→ltb 0 (2 ^ prec f) (pow_pos (prec f)))
-    (and_i (nat_le (down e) (2 ^ low f)) (nat_lt (0 * up e) (2 ^ suc (emax f) * down e)) (le→leb (down e) (2 ^ low f) (le_trans (le_of_eq k.1) (pow_pos (low f))))
+    (and_i (nat_le (down e) (2 ^ low f)) (nat_lt (0 * up e) (2 ^ suc (emax f) * down e))
+    (le→leb (down e) (2 ^ low f) (le_trans (le_of_eq k.1) (pow_pos (low f))))
     (lt→ltb (0 * up e) (2 ^ suc (emax f) * down e) (lt_of_le_of_lt (le_of_eq (zero-mul (up e))) (mul-pos (pow_pos (suc (emax f))) (down_pos e)))))
 fits→held f (fin s (suc m) e) t p =
     let a = nat_eq (suc m % 2) 1 in

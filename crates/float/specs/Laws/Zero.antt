@@ -1,6 +1,7 @@
 -- Sums at binary64 by cases and in either order, what rounds to zero, and the code's tests `x - x == 0.0` (x is finite) and `x == 0.0`.
 use Rattle.std.specs.Prelude.{◌≡◌, ℕ, ◌+◌, ◌-◌, ◌*◌, ◌<◌, Bool, true, false, cond, not, ◌&&◌, ◌||◌, T, ◌⊎◌, ℤ, pos, ◌==◌, nat_lt, refl, Float}
-use Rattle.std.proofs.Common.{sym, ◌∙◌, subst, inl, inr, true≢false, eq-zero-or-pos, zero-mul, mul-one, mul-pos, lt_irrefl, zero-lt-suc, add_comm, arith, eqb→eq, lt-ltb, le-ltb}
+use Rattle.std.proofs.Common.{sym, ◌∙◌, subst, inl, inr, true≢false, eq-zero-or-pos, zero-mul, mul-one, mul-pos, lt_irrefl, zero-lt-suc, add_comm}
+use Rattle.std.proofs.Common.{arith, eqb→eq, lt-ltb, le-ltb}
 use Rattle.std.proofs.Math.Path.{ap}
 use Rattle.std.specs.Bool.{beq}
 use Rattle.std.proofs.lemmas.Bool.{false≢true}

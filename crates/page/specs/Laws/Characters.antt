@@ -1,5 +1,6 @@
 -- Each line of a page is 64 characters, 32 to 126, and a line feed.
-use Rattle.std.specs.Prelude.{ℕ, zero, suc, ◌+◌, ◌-◌, ◌/◌, ◌%◌, ◌≤◌, ◌<◌, ◌≡◌, refl, Bool, true, false, cond, List, [], ◌∷◌, ◌++◌, map, leb, ltb, Float, replicate}
+use Rattle.std.specs.Prelude.{ℕ, zero, suc, ◌+◌, ◌-◌, ◌/◌, ◌%◌, ◌≤◌, ◌<◌, ◌≡◌, refl, Bool, true, false, cond, List, [], ◌∷◌, ◌++◌, map, leb, ltb}
+use Rattle.std.specs.Prelude.{Float, replicate}
 use Rattle.std.proofs.Common.{arith, sym, append_assoc, lit≤, length-append, ltb-true, ltb-false}
 use Rattle.std.specs.Float.{nan, inf, fin, binary64}
 use Rattle.std.specs.Float.Ieee.{of_bits}

@@ -1,6 +1,7 @@
 -- The pages of a list, one after the other, list each angle once, in order, numbered from 1.
 use Rattle.std.specs.Prelude.{ℕ, zero, suc, ◌+◌, ◌*◌, ◌≤◌, ◌≡◌, refl, Bool, true, false, List, [], ◌∷◌, ◌++◌, leb, length, take, drop}
-use Rattle.std.proofs.Common.{arith, add-zero, sym, ap, ◌∙◌, append_assoc, drop_of_length-le, take-add, take_all, drop-drop, length-take-le, leb-true, leb-false}
+use Rattle.std.proofs.Common.{arith, add-zero, sym, ap, ◌∙◌, append_assoc, drop_of_length-le, take-add, take_all, drop-drop, length-take-le, leb-true}
+use Rattle.std.proofs.Common.{leb-false}
 use Rattle.std.proofs.Math.Seq.{take-nil}
 use Rattle.page.specs.Page.{line, lines, per_page, before_page, on_page, pages}
 

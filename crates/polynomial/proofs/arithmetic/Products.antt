@@ -25,7 +25,8 @@ module _ (a b : List Compensated) (n m k : ℕ) (h : n ≤ length a) (l : m ≤ 
       → column (take n a) (take m b) k i (end - i) sum ≡ coefficient (take n a) (take m b) k
   column_start e1 e2 e3 = simp (e1, e2, e3, length-take-le n a h, length-take-le m b l)
 
-  pub column_more : (y z product next : Compensated) → i < end → i < n → k - i < m → product ≡ times (get_or a i y) (get_or b (k - i) z) → next ≡ plus sum product
+  pub column_more : (y z product next : Compensated) → i < end → i < n → k - i < m → product ≡ times (get_or a i y) (get_or b (k - i) z)
+      → next ≡ plus sum product
       → column (take n a) (take m b) k i (end - i) sum ≡ column (take n a) (take m b) k (i + 1) (end - (i + 1)) next
   column_more y z product next I N M e1 e2 =
       let e : end - i ≡ suc (end - (i + 1)) = omega arith in

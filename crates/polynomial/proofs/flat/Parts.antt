@@ -56,7 +56,8 @@ spread_start s p h =
 
 -- a step stores the parts of one coefficient
 pub spread_step : (s : List Float) (p : List Compensated) (i : ℕ) (d : Compensated) → i < length p
-    → sets (set (set s (i + i) (get_or p i d).high) (i + i + 1) (get_or p i d).low) (i + 1 + (i + 1)) (parts (drop (i + 1) p)) ≡ sets s (i + i) (parts (drop i p))
+    → sets (set (set s (i + i) (get_or p i d).high) (i + i + 1) (get_or p i d).low) (i + 1 + (i + 1)) (parts (drop (i + 1) p))
+    ≡ sets s (i + i) (parts (drop i p))
 unfolding parts
 spread_step s p i d h =
     let e : i + 1 ≡ suc i = omega arith in

@@ -78,7 +78,8 @@ module _ (n m : ℕ) (p out : List Float) (lower upper : Float) (H : n + n ≤ l
     counts = ap (λ (b : Bool). cond b (length Q) 0) F ∙ size.0
 
     -- a line
-    module _ (two : m ≡ 2) (a b : Compensated) (r : ℕ) (after : List Float) (before arose : List ℕ) (A : a ≡ get_or (pairs p) 0 zero_pair) (B : b ≡ get_or (pairs p) 1 zero_pair)
+    module _ (two : m ≡ 2) (a b : Compensated) (r : ℕ) (after : List Float) (before arose : List ℕ) (A : a ≡ get_or (pairs p) 0 zero_pair)
+        (B : b ≡ get_or (pairs p) 1 zero_pair)
         (f : Front (Of.quotient a b lower upper) out r after) (g : arose ≡ kinds_of [] (Of.quotient a b lower upper) ++ drop r before) where
       line : Of.roots_at n P lower upper ≡ Of.quotient a b lower upper
       line =

@@ -1,6 +1,7 @@
 -- Laws of lists, beside those of `lib.Seq`: what holds of every element, and what the loops ask for.
 use Rattle.std.specs.Prelude.{◌≡◌, refl, List, [], ◌∷◌, ◌++◌, ℕ, zero, suc, ◌+◌, ◌-◌, ◌<◌, length, get_or, set, take, drop}
-use Rattle.std.proofs.Common.{sym, ap, ◌∙◌, append-nil, not-suc-le-zero, le_of_suc-le-suc, add-one, arith, length-drop, drop_of_length-le, drop-cons, get_or-drop, take_all, take-suc-set}
+use Rattle.std.proofs.Common.{sym, ap, ◌∙◌, append-nil, not-suc-le-zero, le_of_suc-le-suc, add-one, arith, length-drop, drop_of_length-le, drop-cons}
+use Rattle.std.proofs.Common.{get_or-drop, take_all, take-suc-set}
 use Rattle.std.proofs.Math.Seq.{paste, paste-suc, length_paste_head, append_snoc}
 use Rattle.std.proofs.lemmas.List.{get_or_at}
 use Rattle.polynomial.specs.Promises.Lists.{All}

@@ -2,7 +2,8 @@
 -- they depend on its front alone; how many samples three lists give; a step is the next of them.
 use Rattle.std.specs.Prelude.{◌≡◌, Bool, not, ℕ, zero, suc, ◌+◌, ◌≤◌, ◌<◌, T, leb, ltb, take, drop, get_or, Float}
 use Rattle.std.proofs.Math.Path.{refl}
-use Rattle.std.proofs.Common.{sym, ap, ap₂, subst, ◌∙◌, add-zero, zero-add, suc-add, add-one, arith, le-leb, ltb-true, ltb-false, length-append, length-drop, drop_of_length-le, length-take-le, drop-cons, take_at, drop_at, take-take}
+use Rattle.std.proofs.Common.{sym, ap, ap₂, subst, ◌∙◌, add-zero, zero-add, suc-add, add-one, arith, le-leb, ltb-true, ltb-false, length-append}
+use Rattle.std.proofs.Common.{length-drop, drop_of_length-le, length-take-le, drop-cons, take_at, drop_at, take-take}
 use Rattle.std.proofs.Math.Bool.{true, false, cond}
 use mathlib.Core.List.{List, [], ◌∷◌, ◌++◌, append_assoc}
 use Rattle.std.proofs.Math.ListN.{length}

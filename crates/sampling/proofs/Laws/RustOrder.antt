@@ -39,7 +39,9 @@ module _ {A : Type 0} where
       let start : (x ++ p) ++ (y ++ (o ++ w)) ≡ x ++ ((p ++ (y ++ o)) ++ w) = simp append_assoc in
       let end : x ++ (((y ++ o) ++ p) ++ w) ≡ (x ++ y) ++ (o ++ (p ++ w)) = simp append_assoc in
       mathlib.Core.List.Permᴰ.trans (same_perm start)
-      (mathlib.Core.List.Permᴰ.trans (mathlib.Core.List.Permᴰ.append_left x (mathlib.Core.List.Permᴰ.append_right w (mathlib.Core.List.Permᴰ.append_comm p (y ++ o)))) (same_perm end))
+      (mathlib.Core.List.Permᴰ.trans
+      (mathlib.Core.List.Permᴰ.append_left x (mathlib.Core.List.Permᴰ.append_right w (mathlib.Core.List.Permᴰ.append_comm p (y ++ o))))
+      (same_perm end))
 
 flat_perm : {A B : Type 0} (f : A → List B) {a b : List A} → Permᴰ a b → Permᴰ (flat_map f a) (flat_map f b)
 unfolding flat_map
@@ -50,7 +52,8 @@ flat_perm f (mathlib.Core.List.Permᴰ.swap {a} {b} {l = l} e₁ e₂) =
     let x : (f a ++ (f b ++ flat_map f l)) ≡ (f a ++ f b) ++ flat_map f l = sym (append_assoc (f a) (f b) (flat_map f l)) in
     let y : (f b ++ f a) ++ flat_map f l ≡ f b ++ (f a ++ flat_map f l) = append_assoc (f b) (f a) (flat_map f l) in
     mathlib.Core.List.Permᴰ.trans (same_perm x)
-    (mathlib.Core.List.Permᴰ.trans (mathlib.Core.List.Permᴰ.append_right (flat_map f l) (mathlib.Core.List.Permᴰ.append_comm (f a) (f b))) (same_perm (y ∙ (λ i. f (e₂ i) ++ (f (e₁ i) ++ flat_map f l)))))
+    (mathlib.Core.List.Permᴰ.trans (mathlib.Core.List.Permᴰ.append_right (flat_map f l) (mathlib.Core.List.Permᴰ.append_comm (f a) (f b)))
+    (same_perm (y ∙ (λ i. f (e₂ i) ++ (f (e₁ i) ++ flat_map f l)))))
 flat_perm f (mathlib.Core.List.Permᴰ.trans d₁ d₂) = mathlib.Core.List.Permᴰ.trans (flat_perm f d₁) (flat_perm f d₂)
 
 -- ---- the two orders
@@ -96,7 +99,8 @@ order_perm (suc n) =
     let new : ((0 + n, 0 + n) ∷ column 0 n (0 + n)) ≡ ((n, n) ∷ Pairs.earlier n n) =
     ap (λ (k : ℕ). (k, k) ∷ column 0 n k) e ∙ ap (λ (l : List (ℕ × ℕ)). (n, n) ∷ l) (earlier_is n n) in
     mathlib.Core.List.Permᴰ.trans (from_more 0 n)
-    (mathlib.Core.List.Permᴰ.trans (mathlib.Core.List.Permᴰ.append_right ((0 + n, 0 + n) ∷ column 0 n (0 + n)) (order_perm n)) (same_perm (ap (λ (l : List (ℕ × ℕ)). Pairs.order n ++ l) new)))
+    (mathlib.Core.List.Permᴰ.trans (mathlib.Core.List.Permᴰ.append_right ((0 + n, 0 + n) ∷ column 0 n (0 + n)) (order_perm n))
+    (same_perm (ap (λ (l : List (ℕ × ℕ)). Pairs.order n ++ l) new)))
 
 -- ---- the definition of before, by its places
 

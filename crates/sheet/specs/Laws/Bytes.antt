@@ -1,6 +1,8 @@
 -- Laws of `Bytes`: numbers of bytes and bytes of numbers, runs of stores, comparison.
-use Rattle.std.specs.Prelude.{ℕ, zero, suc, ◌+◌, ◌*◌, ◌/◌, ◌%◌, ◌^◌, ◌≤◌, ◌<◌, ◌≡◌, refl, List, [], ◌∷◌, map, ◌++◌, true, false, length, get_or, set, drop, eqb, Float}
-use Rattle.std.proofs.Common.{arith, add-zero, ap, ◌∙◌, append-nil, length-append, length-drop, drop_of_length-le, drop-cons, length-take-le, eq-eqb, ne_eqb, eqb-true}
+use Rattle.std.specs.Prelude.{ℕ, zero, suc, ◌+◌, ◌*◌, ◌/◌, ◌%◌, ◌^◌, ◌≤◌, ◌<◌, ◌≡◌, refl, List, [], ◌∷◌, map, ◌++◌, true, false, length, get_or, set}
+use Rattle.std.specs.Prelude.{drop, eqb, Float}
+use Rattle.std.proofs.Common.{arith, add-zero, ap, ◌∙◌, append-nil, length-append, length-drop, drop_of_length-le, drop-cons, length-take-le, eq-eqb}
+use Rattle.std.proofs.Common.{ne_eqb, eqb-true}
 use Rattle.std.proofs.Math.Numerals.{towards_suc}
 use Rattle.std.proofs.lemmas.Bool.{false≢true}
 use Rattle.std.proofs.lemmas.List.Edits.{sets, sets-eq}
@@ -73,7 +75,8 @@ little_endian_bytes zero v h = omega arith
 little_endian_bytes (suc k) v h = rw (little_endian_bytes k (v / 256) (omega arith)) (omega arith)
 
 -- the number of bytes at a position has these bytes
-pub bytes_part : (s : List ℕ) (at k : ℕ) → at + k ≤ length s → ((i : ℕ) → i < length s → get_or s i 0 < 256) → bytes k (little_endian (part at k s)) ≡ part at k s
+pub bytes_part : (s : List ℕ) (at k : ℕ) → at + k ≤ length s → ((i : ℕ) → i < length s → get_or s i 0 < 256)
+    → bytes k (little_endian (part at k s)) ≡ part at k s
 unfolding little_endian bytes
 bytes_part s at zero h b = refl
 bytes_part s at (suc k) h b =

@@ -1,5 +1,6 @@
 -- The fewest digits that hold a number, as `io` gives them, are its decimal.
-use Rattle.std.proofs.Common.{ℕ, zero, suc, ◌*◌, ◌-◌, ◌/◌, ◌%◌, ◌^◌, ◌≤◌, ◌<◌, ◌≡◌, refl, sym, Bool, true, false, lit<, ltb, lt-ltb, ltb-true, ltb-false, pow-suc, arith}
+use Rattle.std.proofs.Common.{ℕ, zero, suc, ◌*◌, ◌-◌, ◌/◌, ◌%◌, ◌^◌, ◌≤◌, ◌<◌, ◌≡◌, refl, sym, Bool, true, false, lit<, ltb, lt-ltb, ltb-true}
+use Rattle.std.proofs.Common.{ltb-false, pow-suc, arith}
 use Rattle.std.proofs.Math.Nat.{pow-le-pow_right}
 use Rattle.io.specs.Digits.{last_digits, IsDigitCount}
 use Rattle.digits.specs.Decimal.{figures, whole}

@@ -19,7 +19,10 @@ done out l at i left h e =
 pub loop-i-preserved : goal.loop-i-preserved
 loop-i-preserved c =
     let f : c.loop-i.i ≡ suc (c.loop-i.i - 1) = omega arith in
-    record { within = omega arith; stored = step c.loop-i.out c.args.at (c.loop-i.i - 1) c.loop-i.left c.letter.result c.letter.ensures ∙ rw (sym f) c.loop-i.invariant.stored }
+    record {
+      within = omega arith;
+      stored = step c.loop-i.out c.args.at (c.loop-i.i - 1) c.loop-i.left c.letter.result c.letter.ensures ∙ rw (sym f) c.loop-i.invariant.stored;
+    }
 
 pub returns : goal.returns
 returns c = done _ _ _ _ _ c.loop-i-test.false c.loop-i.invariant.stored

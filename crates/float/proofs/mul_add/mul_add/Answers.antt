@@ -35,7 +35,8 @@ pub returns-then-a-2 : goal.returns-then-a-2
 returns-then-a-2 c = let e = c.before in first_zero e.args.a e.args.b e.args.c (a_fine e.before.before) (b_fine e.before) (c_fine e) c.if-a-2.true
 
 pub returns-then-b-2 : goal.returns-then-b-2
-returns-then-b-2 c = let e = c.before.before in second_zero e.args.a e.args.b e.args.c (a_fine e.before.before) (b_fine e.before) (c_fine e) c.if-b-2.true
+returns-then-b-2 c =
+    let e = c.before.before in second_zero e.args.a e.args.b e.args.c (a_fine e.before.before) (b_fine e.before) (c_fine e) c.if-b-2.true
 
 pub split-pa-requires : goal.split-pa-requires
 split-pa-requires c = a_fine c.before.before.before.before
@@ -162,5 +163,6 @@ returns-then-fc-fp c = (high c.before.before).ends (c.jam-v.result.hi * 2 ^ 64 +
     c.combine.ensures
 
 pub returns-else-fc-fp : goal.returns-else-fc-fp
-returns-else-fc-fp c = (low c.before.before).ends (c.jam-v-else-fc-fp.result.hi * 2 ^ 64 + c.jam-v-else-fc-fp.result.lo) c.jam-v-else-fc-fp.ensures c.combine-else-fc-fp.result
+returns-else-fc-fp c = (low c.before.before).ends (c.jam-v-else-fc-fp.result.hi * 2 ^ 64 + c.jam-v-else-fc-fp.result.lo)
+    c.jam-v-else-fc-fp.ensures c.combine-else-fc-fp.result
     c.combine-else-fc-fp.ensures

@@ -1,5 +1,6 @@
 -- `float::mul_add::shift` meets its contract. A count of leading zeros makes the word's width with the place of the highest digit (`leading_top`).
-use Rattle.std.proofs.Common.{◌≡◌, ℕ, suc, ◌+◌, ◌*◌, ◌^◌, ◌<◌, ◌≤◌, sym, ap, ◌∙◌, subst, le_trans, le_of_eq, lt_of_lt_of_le, lt_of_le_of_lt, mul-le-mul_right, pos_of_ne-zero, mul-lt-mul_of_pos_right, arith, pow_pos, pow_mono, pow-add}
+use Rattle.std.proofs.Common.{◌≡◌, ℕ, suc, ◌+◌, ◌*◌, ◌^◌, ◌<◌, ◌≤◌, sym, ap, ◌∙◌, subst, le_trans, le_of_eq, lt_of_lt_of_le, lt_of_le_of_lt}
+use Rattle.std.proofs.Common.{mul-le-mul_right, pos_of_ne-zero, mul-lt-mul_of_pos_right, arith, pow_pos, pow_mono, pow-add}
 use lib.Count.{count_leading_zeros, leading_le, leading_top}
 use Rattle.float.specs.Promises.Parts.{Shifts}
 use Rattle.float.proofs.mul_add.shift.Goals as goal
@@ -68,7 +69,8 @@ meets c =
     elim c.if-hi-eq0.branch [
       | then-hi-eq0 w ↦ subst (λ (z : ℕ). Tops D z) (sym w.z-is) (lower c.args.hi c.args.lo c.ranges.lo.fits w.if-hi-eq0.true
           (some c.args.hi c.args.lo w.if-hi-eq0.true c.requires))
-      | else-hi-eq0 w ↦ subst (λ (z : ℕ). Tops D z) (sym w.z-is) (upper c.args.hi c.args.lo c.ranges.hi.fits c.ranges.lo.fits (pos_of_ne-zero w.if-hi-eq0.false))
+      | else-hi-eq0 w ↦ subst (λ (z : ℕ). Tops D z) (sym w.z-is)
+          (upper c.args.hi c.args.lo c.ranges.hi.fits c.ranges.lo.fits (pos_of_ne-zero w.if-hi-eq0.false))
     ]
   where
     some : (hi lo : ℕ) → hi ≡ 0 → 0 < hi * 2 ^ 64 + lo → 0 < lo

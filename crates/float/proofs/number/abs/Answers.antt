@@ -1,5 +1,6 @@
 -- `float::number::abs` meets its contract: 0 - x is the magnitude of an x that is not above zero.
-use Rattle.std.proofs.Common.{◌≡◌, ℕ, ◌+◌, ◌-◌, ◌*◌, ◌<◌, Bool, true, false, cond, ◌||◌, T, ltb, ◌⊎◌, ℤ, pos, sym, refl, ap, ◌∙◌, subst, inl, inr, true≢false, eq-zero-or-pos, zero-mul, arith, ltb→lt, le-ltb, lt-ltb}
+use Rattle.std.proofs.Common.{◌≡◌, ℕ, ◌+◌, ◌-◌, ◌*◌, ◌<◌, Bool, true, false, cond, ◌||◌, T, ltb, ◌⊎◌, ℤ, pos, sym, refl, ap, ◌∙◌, subst, inl, inr}
+use Rattle.std.proofs.Common.{true≢false, eq-zero-or-pos, zero-mul, arith, ltb→lt, le-ltb, lt-ltb}
 use lib.Ieee.{Float, nan, inf, fin, binary64, up, down, round, neg, sum, add, sub, lt, le, eq, fits}
 use lib.Ieee.Bits.{is_true}
 use Rattle.float.specs.Number.{abs, zero_float}

@@ -42,13 +42,15 @@ pub truncating_f64_to_i64-whole-requires : goal.truncating_f64_to_i64-whole-requ
 truncating_f64_to_i64-whole-requires c = record { lower_bound = low c; upper_bound = high c }
 
 -- the whole part, as the machine reads it back
-read : (c : lts.After-truncating_f64_to_i64 tie.the-claims reads.Pre reads.Post tie.handed_clauses) → to_z w64 (of_z w64 c.truncating_f64_to_i64-whole.result) ≡ to_signed 63 (x c.before)
+read : (c : lts.After-truncating_f64_to_i64 tie.the-claims reads.Pre reads.Post tie.handed_clauses)
+    → to_z w64 (of_z w64 c.truncating_f64_to_i64-whole.result) ≡ to_signed 63 (x c.before)
 read c =
     let e = c.truncating_f64_to_i64-whole.ensures in
     to_z-of_z w64 c.truncating_f64_to_i64-whole.result (subst (λ (z : ℤ). SFits w64 z) (sym e) (record { sfits = to_signed_in 63 (x c.before) })) ∙ e
 
 -- the code's test
-tested : (c : lts.After-nearest_i64_to_f64 tie.the-claims reads.Pre reads.Post tie.handed_clauses) (b : Bool) → lt (x c.before.before) c.nearest_i64_to_f64.result ≡ b
+tested : (c : lts.After-nearest_i64_to_f64 tie.the-claims reads.Pre reads.Post tie.handed_clauses) (b : Bool)
+    → lt (x c.before.before) c.nearest_i64_to_f64.result ≡ b
     → lt (x c.before.before) (of_int binary64 (to_signed 63 (x c.before.before))) ≡ b
 tested c b h =
     ap (λ (z : ℤ). lt (x c.before.before) (of_int binary64 z)) (sym (read c.before))
@@ -66,7 +68,9 @@ returns-then-nearest_i64_to_f64-x c = let r = read c.before.before in
     to_z-of_z w64 _ (overflow_sub-result c) ∙ ap (λ (z : ℤ). z -ℤ pos 1) r ∙ (stepped c).one_less ∙ inside c.before.before.before
 
 pub returns-then-x-2 : goal.returns-then-x-2
-returns-then-x-2 c = let d = c.before.before.before in read c.before.before ∙ stay (x d) (fitted d) (low d) (high d) (tested c.before false c.if-nearest_i64_to_f64-x.false) ∙ inside d
+returns-then-x-2 c =
+    let d = c.before.before.before in
+    read c.before.before ∙ stay (x d) (fitted d) (low d) (high d) (tested c.before false c.if-nearest_i64_to_f64-x.false) ∙ inside d
 
 pub returns-then-x : goal.returns-then-x
 unfolding floor_i64

@@ -1,5 +1,6 @@
 -- `float::remainder::pack` meets its contract: what `write` gives is a value of the format with that many units, and so is what `round` gives.
-use Rattle.std.proofs.Common.{◌≡◌, ℕ, ◌+◌, ◌-◌, ◌*◌, ◌%◌, ◌^◌, ◌<◌, ◌≤◌, Bool, sym, ap, ◌∙◌, subst, lt_of_lt_of_le, lt_of_le_of_lt, le_of_lt, lt_irrefl, mul_assoc, mul-le-mul_left, zero-mul, arith, lit<, lit≤, pow_mono, pow-add, shl_lt}
+use Rattle.std.proofs.Common.{◌≡◌, ℕ, ◌+◌, ◌-◌, ◌*◌, ◌%◌, ◌^◌, ◌<◌, ◌≤◌, Bool, sym, ap, ◌∙◌, subst, lt_of_lt_of_le, lt_of_le_of_lt, le_of_lt}
+use Rattle.std.proofs.Common.{lt_irrefl, mul_assoc, mul-le-mul_left, zero-mul, arith, lit<, lit≤, pow_mono, pow-add, shl_lt}
 use lib.Ieee.{binary64, units, round}
 use lib.Ieee.Exact.{units_val}
 use Rattle.float.proofs.Pattern.{units_fits}

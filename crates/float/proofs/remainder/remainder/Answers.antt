@@ -58,7 +58,9 @@ returns-then-m c = let a = c.args in
     quotient ∙ second_nan a.x a.m (nan_of a.m c.if-m.true)
 
 pub returns-then-u-v : goal.returns-then-u-v
-returns-then-u-v c = let o = c.before.before.before.before.before in first_less o.args.x o.args.m (x_held o) (m_held o) (tested _ _ _ _ true c.abs-u.ensures c.abs-v.ensures c.if-u-v.true)
+returns-then-u-v c =
+    let o = c.before.before.before.before.before in
+    first_less o.args.x o.args.m (x_held o) (m_held o) (tested _ _ _ _ true c.abs-u.ensures c.abs-v.ensures c.if-u-v.true)
 
 pub returns-then-x-2 : goal.returns-then-x-2
 returns-then-x-2 c = let a = (s c.before).args in
@@ -134,7 +136,8 @@ pub reduce-requires : goal.reduce-requires
 reduce-requires c = let g = c.before.before in ((X g).short, some g, (M g).short)
 
 pub pack-requires : goal.pack-requires
-pack-requires c = let g = c.before.before.before in (subst (λ (r : ℕ). r < 2 ^ 53) (sym c.reduce.ensures) (lt_trans (mod-lt _ (some g)) (M g).short), (M g).place)
+pack-requires c = let g = c.before.before.before in
+    (subst (λ (r : ℕ). r < 2 ^ 53) (sym c.reduce.ensures) (lt_trans (mod-lt _ (some g)) (M g).short), (M g).place)
 
 pub returns : goal.returns
 returns c = let g = c.before.before.before.before in let a = (o g).args in

@@ -1,5 +1,6 @@
 -- `float::remainder::step` meets its contract: the quotient that it takes is the right one or one less.
-use Rattle.std.proofs.Common.{◌≡◌, ℕ, ◌+◌, ◌-◌, ◌*◌, ◌/◌, ◌%◌, ◌^◌, ◌<◌, ◌≤◌, sym, refl, ap, ◌∙◌, subst, le_of_lt, mul-le-mul_right, mod-lt, mul-le-mul_left, div-add-mod', arith, pow_pos}
+use Rattle.std.proofs.Common.{◌≡◌, ℕ, ◌+◌, ◌-◌, ◌*◌, ◌/◌, ◌%◌, ◌^◌, ◌<◌, ◌≤◌, sym, refl, ap, ◌∙◌, subst, le_of_lt, mul-le-mul_right, mod-lt}
+use Rattle.std.proofs.Common.{mul-le-mul_left, div-add-mod', arith, pow_pos}
 use lib.Arith.{digits_mod}
 use Rattle.float.proofs.remainder.step.Goals as goal
 

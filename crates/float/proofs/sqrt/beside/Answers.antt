@@ -23,4 +23,7 @@ returns c = let a = c.args in
     let p = c.requires in
     Middles.beside a.m a.d a.q p.1 p.5 p.0 p.3 p.4 c.if-d-q.up c.if-d-q-le13510798882111488.down
     (elim c.if-d-q.branch [ then-d-q w ↦ inl (w.if-d-q.true, w.up-is) | else-d-q w ↦ inr (w.if-d-q.false, w.up-is) ])
-    (elim c.if-d-q-le13510798882111488.branch [ then-d-q-le13510798882111488 w ↦ inl (w.if-d-q-le13510798882111488.true, w.down-is) | else-d-q-le13510798882111488 w ↦ inr (w.if-d-q-le13510798882111488.false, w.down-is) ])
+    (elim c.if-d-q-le13510798882111488.branch [
+      | then-d-q-le13510798882111488 w ↦ inl (w.if-d-q-le13510798882111488.true, w.down-is)
+      | else-d-q-le13510798882111488 w ↦ inr (w.if-d-q-le13510798882111488.false, w.down-is)
+    ])

@@ -45,7 +45,14 @@ returns-then-d-q-gt13510798882111488 c = g_is c.before.before.before.before
     c.if-d-q.true c.if-d-q-gt13510798882111488.true) c.args.k
 
 pub beside-requires : goal.beside-requires
-beside-requires c = (c.requires.0, (q_range c.before.before.before).0, (q_range c.before.before.before).1, c.if-d-gt0.true, c.distance-d.ensures.1, c.distance-d.ensures.0 c.if-d-gt0.true)
+beside-requires c = (
+  c.requires.0,
+  (q_range c.before.before.before).0,
+  (q_range c.before.before.before).1,
+  c.if-d-gt0.true,
+  c.distance-d.ensures.1,
+  c.distance-d.ensures.0 c.if-d-gt0.true,
+)
 
 pub write-requires : goal.write-requires
 write-requires c = let r = nearest_range c.args.m c.beside.result c.requires.0 c.requires.1 c.beside.ensures in

@@ -1,7 +1,8 @@
 -- `float::sqrt::seek` meets its contract. The first loop ends with q * (q - 1) below n, which m * 2 ^ 52 is, and
 -- the second keeps that and ends with n at most q * (q + 1), whatever the first guess was:
 -- the guess decides only how many steps they take.
-use Rattle.std.proofs.Common.{◌≡◌, ℕ, zero, suc, ◌+◌, ◌-◌, ◌*◌, ◌^◌, ◌<◌, ◌≤◌, sym, ◌∙◌, subst, le_trans, lt_of_le_of_lt, mul-le-mul, lt_of_not-le, not-le_of_lt, arith, lit≤, ltb-false, ltb-true}
+use Rattle.std.proofs.Common.{◌≡◌, ℕ, zero, suc, ◌+◌, ◌-◌, ◌*◌, ◌^◌, ◌<◌, ◌≤◌, sym, ◌∙◌, subst, le_trans, lt_of_le_of_lt, mul-le-mul, lt_of_not-le}
+use Rattle.std.proofs.Common.{not-le_of_lt, arith, lit≤, ltb-false, ltb-true}
 use borrow.Author.Tests.{not-true, not-false}
 use Rattle.float.proofs.sqrt.seek.Goals as goal
 

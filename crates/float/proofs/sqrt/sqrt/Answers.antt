@@ -96,7 +96,10 @@ module _ (j : goal.Joined-t-eq0) where
   evened : Evened t m j.if-t-eq0.n
   evened =
       let m-is = kept m l.lift-i.ensures.2 in
-      elim j.if-t-eq0.branch [ then-t-eq0 w ↦ inl (w.if-t-eq0.true, w.n-is ∙ m-is) | else-t-eq0 w ↦ inr (w.if-t-eq0.false, w.n-is ∙ ap (λ (x : ℕ). x * 2) m-is) ]
+      elim j.if-t-eq0.branch [
+        | then-t-eq0 w ↦ inl (w.if-t-eq0.true, w.n-is ∙ m-is)
+        | else-t-eq0 w ↦ inr (w.if-t-eq0.false, w.n-is ∙ ap (λ (x : ℕ). x * 2) m-is)
+      ]
 
   n_range : (2 ^ 52 ≤ j.if-t-eq0.n) × (j.if-t-eq0.n < 2 ^ 54)
   n_range = evened_range t m j.if-t-eq0.n l.lift-i.ensures.1 l.lift-i.ensures.2 evened

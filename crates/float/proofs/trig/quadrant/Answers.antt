@@ -1,5 +1,6 @@
 -- `float::trig::quadrant` meets its contract.
-use Rattle.std.proofs.Common.{◌≡◌, ℕ, suc, ◌-◌, ◌%◌, ◌^◌, ◌<◌, Bool, true, false, cond, T, ℤ, pos, negsuc, ◌-ℤ◌, nat_abs, sym, refl, ap, ◌∙◌, subst, true≢false, zero-le, lt_of_lt_of_le, arith, lit≤, w64, Fits, SFits, to_z, of_z, le-ltb, le-leb}
+use Rattle.std.proofs.Common.{◌≡◌, ℕ, suc, ◌-◌, ◌%◌, ◌^◌, ◌<◌, Bool, true, false, cond, T, ℤ, pos, negsuc, ◌-ℤ◌, nat_abs, sym, refl, ap, ◌∙◌, subst}
+use Rattle.std.proofs.Common.{true≢false, zero-le, lt_of_lt_of_le, arith, lit≤, w64, Fits, SFits, to_z, of_z, le-ltb, le-leb}
 use mathlib.Core.Bool.{false≢true}
 use lib.Signed.{mag, le_z, non_neg}
 use mir.ValLaws.{to_z-of_z}

@@ -54,7 +54,8 @@ inside x a f s w k q out ea t ek ef eq es ew eo =
 
 pub returns-then-abs : goal.returns-then-abs
 unfolding steps
-returns-then-abs c = let read : to_z w64 (of_z w64 c.floor-k.result) ≡ c.floor-k.result = to_z-of_z w64 c.floor-k.result (record { sfits = c.floor-k.type_inv }) in
+returns-then-abs c =
+    let read : to_z w64 (of_z w64 c.floor-k.result) ≡ c.floor-k.result = to_z-of_z w64 c.floor-k.result (record { sfits = c.floor-k.type_inv }) in
     inside c.args.x c.abs.result c.nearest_i64_to_f64-f.result c.sine.result c.cosine.result c.floor-k.result
     c.quadrant.result c.by_quadrant.result c.abs.ensures c.if-abs.true c.floor-k.ensures
     (c.nearest_i64_to_f64-f.ensures ∙ ap (of_int binary64) read) (c.quadrant.ensures ∙ ap quadrant read) c.sine.ensures c.cosine.ensures

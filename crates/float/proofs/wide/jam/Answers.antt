@@ -26,7 +26,11 @@ e_is : (c : lts.Joined2 tie.the-claims reads.Pre reads.Post)
     (c.args.hi * 2 ^ 64 + c.args.lo) c.args.d
 e_is c =
     let D = c.args.hi * 2 ^ 64 + c.args.lo in
-    elim c.if-d-lt127.branch [ then-d-lt127 w ↦ ap (λ (x : ℕ). jam D x) (ap (λ (x : ℕ). x + 64) w.e-is ∙ back c.args.d c.if-d-lt64.false) | else-d-lt127 w ↦ ap (λ (x : ℕ). jam D (x + 64)) w.e-is ∙ jam_far c.args.hi c.args.lo c.ranges.hi.fits c.ranges.lo.fits c.args.d w.if-d-lt127.false ]
+    elim c.if-d-lt127.branch [
+      | then-d-lt127 w ↦ ap (λ (x : ℕ). jam D x) (ap (λ (x : ℕ). x + 64) w.e-is ∙ back c.args.d c.if-d-lt64.false)
+      | else-d-lt127 w ↦ ap (λ (x : ℕ). jam D (x + 64)) w.e-is
+          ∙ jam_far c.args.hi c.args.lo c.ranges.hi.fits c.ranges.lo.fits c.args.d w.if-d-lt127.false
+    ]
   where
     back : (d : ℕ) → 64 ≤ d → d - 64 + 64 ≡ d
     back d h = omega arith

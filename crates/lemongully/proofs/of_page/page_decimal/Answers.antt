@@ -19,4 +19,5 @@ returns c = let t = c.args.text.now in
     let e = c.decimal_text-a.ensures in
     let n = to_z-of_z w64 c.laid_number.result (record { sfits = c.laid_number.type_inv }) ∙ c.laid_number.ensures in
     let o = e.text_after ∙ ap (λ (v : Answer). text_after v (decimal c.of_bits.result) t) e.result_value in
-    let f = ap (λ (x : Float). text_after (decimal_answer (length t)) (decimal x) t) c.of_bits.ensures in record { value = n ∙ ap signed e.result_value; text_after = o ∙ f }
+    let f = ap (λ (x : Float). text_after (decimal_answer (length t)) (decimal x) t) c.of_bits.ensures in
+    record { value = n ∙ ap signed e.result_value; text_after = o ∙ f }

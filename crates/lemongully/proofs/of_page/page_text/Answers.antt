@@ -21,4 +21,5 @@ pub returns : goal.returns
 returns c = let a = c.args in
     let e = c.page_text-a.ensures in
     let n = to_z-of_z w64 c.laid_number.result (record { sfits = c.laid_number.type_inv }) ∙ c.laid_number.ensures in
-    let o = e.text_after ∙ ap (λ (v : Answer). text_after v (text a.sheet.now a.page) a.text.now) e.result_value in record { value = n ∙ ap signed e.result_value; text_after = o; work_after = e.work_after }
+    let o = e.text_after ∙ ap (λ (v : Answer). text_after v (text a.sheet.now a.page) a.text.now) e.result_value in
+    record { value = n ∙ ap signed e.result_value; text_after = o; work_after = e.work_after }

@@ -16,4 +16,5 @@ sampled_number-requires c n e = let room = answer_room c.args.request.now (lengt
 pub returns : goal.returns
 returns c = let e = c.sample-a.ensures in
     let n = to_z-of_z w64 c.sampled_number.result (record { sfits = c.sampled_number.type_inv }) ∙ c.sampled_number.ensures in
-    let o = e.output_after ∙ ap (λ (v : Answer). output_after v c.args.request.now c.args.output.now) e.result_value in record { value = n ∙ ap signed e.result_value; output_after = o; work_after = e.work_after }
+    let o = e.output_after ∙ ap (λ (v : Answer). output_after v c.args.request.now c.args.output.now) e.result_value in
+    record { value = n ∙ ap signed e.result_value; output_after = o; work_after = e.work_after }

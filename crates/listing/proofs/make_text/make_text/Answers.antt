@@ -29,7 +29,14 @@ pub returns-in-Angles : goal.returns-in-Angles
 returns-in-Angles c = let a = c.args in
     let z = accepted_sized a.request.now a.output.now a.error.now _ (accepts c) in
     let f = accepted_filled a.request.now a.output.now a.error.now _ (accepts c) in
-    let s = c.sample-a.ensures.output_after in record { output_value = z.0; error_value = z.1; output_after = rw c.in-Angles.is at s ∙ f.0; error_after = f.1; output_in_bounds = (room c, omega arith) }
+    let s = c.sample-a.ensures.output_after in
+    record {
+      output_value = z.0;
+      error_value = z.1;
+      output_after = rw c.in-Angles.is at s ∙ f.0;
+      error_after = f.1;
+      output_in_bounds = (room c, omega arith);
+    }
 
 pub returns-in-Refused : goal.returns-in-Refused
 returns-in-Refused c = let a = c.args in
@@ -40,7 +47,14 @@ returns-in-Refused c = let a = c.args in
     sym c.sample-a.ensures.result_value ∙ ap answer_of v ∙ ap refused (sym q.ensures) in
     let z = refused_sized a.request.now a.output.now a.error.now q.result e in
     let f = refused_filled a.request.now a.output.now a.error.now q.result e in
-    let t = sets_filled (numbered refused_word q.result) a.error.now (omega (arith, p.ensures.value, p.ensures.upper_bound)) in record { output_value = z.0; error_value = p.ensures.value ∙ z.1; output_after = rw v at c.sample-a.ensures.output_after ∙ f.0; error_after = p.ensures.out_after ∙ t ∙ f.1; output_in_bounds = (omega arith, p.ensures.upper_bound) }
+    let t = sets_filled (numbered refused_word q.result) a.error.now (omega (arith, p.ensures.value, p.ensures.upper_bound)) in
+    record {
+      output_value = z.0;
+      error_value = p.ensures.value ∙ z.1;
+      output_after = rw v at c.sample-a.ensures.output_after ∙ f.0;
+      error_after = p.ensures.out_after ∙ t ∙ f.1;
+      output_in_bounds = (omega arith, p.ensures.upper_bound);
+    }
 
 pub overflow_mul-result : goal.overflow_mul-result
 overflow_mul-result c = let r = room c in omega arith

@@ -28,4 +28,8 @@ returns c = let p = c.put_number-size in
     ap (λ (l : List ℕ). take p.result l) p.ensures.out_after ∙ front t (replicate 32 0) p.result p.ensures.value p.ensures.upper_bound
     ∙ ap (numbered refused_word) c.fault_number.ensures in
     let g = alone (take p.result p.new.out) [] ∙ e in
-    let lent = c.args.text.now in record { value = c.print.ensures.value ∙ ap (λ (l : List ℕ). printed l (length lent)) g; text_after = c.print.ensures.text_after ∙ ap (λ (l : List ℕ). after l lent) g }
+    let lent = c.args.text.now in
+    record {
+      value = c.print.ensures.value ∙ ap (λ (l : List ℕ). printed l (length lent)) g;
+      text_after = c.print.ensures.text_after ∙ ap (λ (l : List ℕ). after l lent) g;
+    }

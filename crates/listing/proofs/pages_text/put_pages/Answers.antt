@@ -18,7 +18,8 @@ pub put_page-requires : goal.put_page-requires
 put_page-requires c = let l = c.loop-k in
     let a = c.args in
     let t = c.loop-k-test.true in
-    let r = page_room a.n l.k a.last (length a.text.now) l.invariant.0 t c.requires.last_value.0 c.requires.last_value.1 in record { paged = c.requires.paged; le_k = (l.invariant.0, last_page l.k a.last a.n t c.requires.last_value.0, rw l.invariant.2 r) }
+    let r = page_room a.n l.k a.last (length a.text.now) l.invariant.0 t c.requires.last_value.0 c.requires.last_value.1 in
+    record { paged = c.requires.paged; le_k = (l.invariant.0, last_page l.k a.last a.n t c.requires.last_value.0, rw l.invariant.2 r) }
 
 pub overflow_add-text : goal.overflow_add-text
 overflow_add-text c = omega arith

@@ -14,11 +14,16 @@ length_text : (head s : List ℕ) (n : ℕ) → length head + 17 * n ≡ length 
 length_text head s n = rw (length-append, length_lines s 0 n)
 
 pub returns-then-text-size : goal.returns-then-text-size
-returns-then-text-size c = let a = c.args in let t = a.head.now ++ lines a.s.now 0 a.n in let all = fails t a.text.now (length a.head.now + 17 * a.n) (length_text a.head.now a.s.now a.n) (omega arith) in record { value = all.0; text_after = all.1 }
+returns-then-text-size c =
+    let a = c.args in
+    let t = a.head.now ++ lines a.s.now 0 a.n in
+    let all = fails t a.text.now (length a.head.now + 17 * a.n) (length_text a.head.now a.s.now a.n) (omega arith) in
+    record { value = all.0; text_after = all.1 }
 
 pub returns : goal.returns
 returns c = let a = c.args in
     let t = a.head.now ++ lines a.s.now 0 a.n in
     let e = length_text a.head.now a.s.now a.n in
     let f = fits t a.text.now (length a.head.now + 17 * a.n) e (omega arith) in
-    let j = joined a.head.now (lines a.s.now 0 a.n) a.text.now 0 (length a.head.now) (omega arith) in record { value = f.0; text_after = rw (c.put_lines.ensures, c.put.ensures, j) f.1 }
+    let j = joined a.head.now (lines a.s.now 0 a.n) a.text.now 0 (length a.head.now) (omega arith) in
+    record { value = f.0; text_after = rw (c.put_lines.ensures, c.put.ensures, j) f.1 }

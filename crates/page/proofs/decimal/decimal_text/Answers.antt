@@ -13,4 +13,9 @@ returns-then-text-lt16 c = record { result_value = rw (lt-leb _ _ c.if-text-lt16
 
 pub returns : goal.returns
 unfolding need
-returns c = let a = c.args in record { result_value = rw (le-leb _ _ c.if-text-lt16.false); text_after = c.put_decimal.ensures ∙ stored (decimal a.x) a.text.now 16 (length_decimal a.x) c.if-text-lt16.false }
+returns c =
+    let a = c.args in
+    record {
+      result_value = rw (le-leb _ _ c.if-text-lt16.false);
+      text_after = c.put_decimal.ensures ∙ stored (decimal a.x) a.text.now 16 (length_decimal a.x) c.if-text-lt16.false;
+    }

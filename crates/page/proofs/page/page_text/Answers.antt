@@ -12,8 +12,18 @@ lay-requires c = let a = c.args in
 
 pub returns-in-Accepted : goal.returns-in-Accepted
 returns-in-Accepted c = let a = c.args in
-    let e = sym (ap answer_of c.in-Accepted.is) ∙ c.check-checked.ensures.result_value in record { result_value = c.lay.ensures.result_value ∙ answer_checked a.sheet.now a.page (length a.text.now) (length a.work.now) _ e; text_after = c.lay.ensures.text_after; work_after = c.check-checked.ensures.work_after }
+    let e = sym (ap answer_of c.in-Accepted.is) ∙ c.check-checked.ensures.result_value in
+    record {
+      result_value = c.lay.ensures.result_value ∙ answer_checked a.sheet.now a.page (length a.text.now) (length a.work.now) _ e;
+      text_after = c.lay.ensures.text_after;
+      work_after = c.check-checked.ensures.work_after;
+    }
 
 pub returns-in-Refused : goal.returns-in-Refused
 returns-in-Refused c = let a = c.args in
-    let e = sym (ap answer_of c.in-Refused.is) ∙ c.check-checked.ensures.result_value in record { result_value = answer_refused a.sheet.now a.page (length a.text.now) (length a.work.now) _ e; text_after = refl; work_after = c.check-checked.ensures.work_after }
+    let e = sym (ap answer_of c.in-Refused.is) ∙ c.check-checked.ensures.result_value in
+    record {
+      result_value = answer_refused a.sheet.now a.page (length a.text.now) (length a.work.now) _ e;
+      text_after = refl;
+      work_after = c.check-checked.ensures.work_after;
+    }

@@ -9,7 +9,9 @@ use Rattle.polynomial.specs.Roots.{bisected}
 use Rattle.polynomial.proofs.bisection.finely.Given as goal
 
 abbrev pub invariant-loop-x : goal.invariant-loop-x
-invariant-loop-x l = Span 2 l.lo l.hi × (bisected (evaluate (take l.n (pairs l.p))) l.positive l.lo l.hi ≡ bisected (evaluate (take l.n (pairs l.p))) l.positive l.from l.to)
+invariant-loop-x l =
+    Span 2 l.lo l.hi
+    × (bisected (evaluate (take l.n (pairs l.p))) l.positive l.lo l.hi ≡ bisected (evaluate (take l.n (pairs l.p))) l.positive l.from l.to)
 
 abbrev pub decreases-loop-x : goal.decreases-loop-x
 decreases-loop-x l = width binary64 l.lo l.hi

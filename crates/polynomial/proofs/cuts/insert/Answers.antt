@@ -50,18 +50,25 @@ pub returns-then-negative-2 : goal.returns-then-negative-2
 returns-then-negative-2 c = let d = c.before.before.before.before.before in let t : total_le (v d) (y d) ≡ false =
     total_le_signs (v d) (y d) false true d.if-w-v.true
     (sym c.if-negative.false ∙ c.negative.ensures)
-    (sym c.if-negative-2.true ∙ c.negative-then-w-v.ensures) in let all = kept (w d) (n d) (v d) (at d) (start d).requires d.find-at.ensures d.if-at-count.true (subst T (sym d.if-w-v.true) tt) t in record { value = all.0; room_after = all.1 }
+    (sym c.if-negative-2.true ∙ c.negative-then-w-v.ensures) in
+    let all = kept (w d) (n d) (v d) (at d) (start d).requires d.find-at.ensures d.if-at-count.true (subst T (sym d.if-w-v.true) tt) t in
+    record { value = all.0; room_after = all.1 }
 
 pub returns-then-w-v : goal.returns-then-w-v
 returns-then-w-v c = let d = c.before.before.before.before in let t : total_le (v d) (y d) ≡ true =
     total_le_signs (v d) (y d) false false d.if-w-v.true
     (sym c.if-negative.false ∙ c.negative.ensures)
-    (sym c.if-negative-2.false ∙ c.negative-then-w-v.ensures) in let all = replaced (w d) (n d) (v d) (at d) (start d).requires d.find-at.ensures d.if-at-count.true
+    (sym c.if-negative-2.false ∙ c.negative-then-w-v.ensures) in
+    let all = replaced (w d) (n d) (v d) (at d) (start d).requires d.find-at.ensures d.if-at-count.true
     (subst T (sym d.if-w-v.true) tt) (subst T (sym t) tt) in record { value = all.0; room_after = all.1 }
 
 pub returns-then-count-room : goal.returns-then-count-room
-returns-then-count-room c = let all = full _ _ _ _ c.requires c.find-at.ensures (fresh c.before) c.if-count-room.true in record { value = all.0; room_after = all.1 }
+returns-then-count-room c =
+    let all = full _ _ _ _ c.requires c.find-at.ensures (fresh c.before) c.if-count-room.true in
+    record { value = all.0; room_after = all.1 }
 
 pub returns : goal.returns
-returns c = let j = c.before.before.before.before.before.before in let p = inserted j.args.room.now j.args.count j.args.v j.find-at.result j.requires j.find-at.ensures (fresh j)
+returns c =
+    let j = c.before.before.before.before.before.before in
+    let p = inserted j.args.room.now j.args.count j.args.v j.find-at.result j.requires j.find-at.ensures (fresh j)
     (omega (arith, j.requires, c.if-count-room.false)) in record { value = p.0; room_after = c.shift.ensures ∙ p.1 }

@@ -18,4 +18,7 @@ loop-i-preserved c = let a = c.args in
     c.keep-n.auto.out
 
 pub returns : goal.returns
-returns c = let a = c.args in let all = charted_last a.origin a.found.now a.count c.requires.0 _ _ _ _ _ _ c.loop-i.invariant c.loop-i-test.false in record { value = all.0; out_after = all.1 }
+returns c =
+    let a = c.args in
+    let all = charted_last a.origin a.found.now a.count c.requires.0 _ _ _ _ _ _ c.loop-i.invariant c.loop-i-test.false in
+    record { value = all.0; out_after = all.1 }

@@ -6,7 +6,8 @@ use Rattle.polynomial.proofs.norm.Charted.{Charted}
 use Rattle.polynomial.proofs.norm.chart.Given as goal
 
 abbrev pub invariant-loop-i : goal.invariant-loop-i
-invariant-loop-i l = Charted l.origin l.found l.count (put_all (chart_angles l.origin (take l.count l.found)) (take l.k l.initial.out)) l.initial.out l.k l.out l.n l.i
+invariant-loop-i l =
+    Charted l.origin l.found l.count (put_all (chart_angles l.origin (take l.count l.found)) (take l.k l.initial.out)) l.initial.out l.k l.out l.n l.i
 
 abbrev pub decreases-loop-i : goal.decreases-loop-i
 decreases-loop-i l = l.count - l.i

@@ -22,7 +22,8 @@ use Rattle.polynomial.proofs.norm.half_roots.Tie as tie
 abbrev start : lts.After-inner_roots tie.the-claims reads.Pre reads.Post tie.handed_clauses → lts.Start tie.the-claims reads.Pre reads.Post tie.handed_clauses
 start i = i.before.before.before.before.before.before
 
-abbrev formed : lts.After-inner_roots tie.the-claims reads.Pre reads.Post tie.handed_clauses → lts.After-norm_polynomial tie.the-claims reads.Pre reads.Post tie.handed_clauses
+abbrev formed : lts.After-inner_roots tie.the-claims reads.Pre reads.Post tie.handed_clauses
+    → lts.After-norm_polynomial tie.the-claims reads.Pre reads.Post tie.handed_clauses
 formed i = i.before.before.before
 
 coefficients : (i : lts.After-inner_roots tie.the-claims reads.Pre reads.Post tie.handed_clauses) → take 5 (formed i).norm_polynomial-p.result
@@ -42,5 +43,10 @@ chart-requires c = let i = c.before.before.before.before in let a = (start i).ar
     (omega arith, omega arith)
 
 pub returns : goal.returns
-returns c = let i = c.before.before.before.before.before.before.before.before in let a = (start i).args in let e = half_angles a.x a.y a.norm a.lower a.upper (formed i).middle-origin.result _ _ _ _ _ (formed i).middle-origin.ensures
-    (coefficients i) one_bits i.inner_roots-n.ensures.value in let all = front_same _ _ _ _ (c.chart.ensures.value, c.chart.ensures.out_after) _ (ap (λ (l : List Float). put_all l (take a.k a.out.now)) (sym e)) in record { value = all.0; out_after = all.1 }
+returns c =
+    let i = c.before.before.before.before.before.before.before.before in
+    let a = (start i).args in
+    let e = half_angles a.x a.y a.norm a.lower a.upper (formed i).middle-origin.result _ _ _ _ _ (formed i).middle-origin.ensures
+    (coefficients i) one_bits i.inner_roots-n.ensures.value in
+    let all = front_same _ _ _ _ (c.chart.ensures.value, c.chart.ensures.out_after) _ (ap (λ (l : List Float). put_all l (take a.k a.out.now)) (sym e)) in
+    record { value = all.0; out_after = all.1 }

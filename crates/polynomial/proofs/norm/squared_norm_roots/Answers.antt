@@ -39,6 +39,12 @@ half_roots-requires c = let h = c.before.before.before in let a = (start h).args
     omega (arith, (start h).requires)
 
 pub returns : goal.returns
-returns c = let h = c.before.before.before.before.before.before.before in let a = (start h).args in let all = both_halves a.x a.y a.norm a.out.now _ _ h.half_roots-k.result c.half_roots.result
+returns c =
+    let h = c.before.before.before.before.before.before.before in
+    let a = (start h).args in
+    let all = both_halves a.x a.y a.norm a.out.now _ _ h.half_roots-k.result c.half_roots.result
     (front_same _ _ _ _ (h.half_roots-k.ensures.value, h.half_roots-k.ensures.out_after) _ (left a.x a.y a.norm))
-    (front_same _ _ _ _ (c.half_roots.ensures.value, c.half_roots.ensures.out_after) _ (right a.x a.y a.norm _)) in record { value = all.0; out_after = all.1 }
+    (front_same _ _ _ _ (c.half_roots.ensures.value, c.half_roots.ensures.out_after) _ (right a.x a.y a.norm _)) in record {
+      value = all.0;
+      out_after = all.1;
+    }

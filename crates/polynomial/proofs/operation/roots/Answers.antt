@@ -109,10 +109,22 @@ enough_room : (n k : ℕ) → n ≤ 9 → 1 * 2 ^ n % 2 ^ 64 ≤ k → 2 ^ n ≤
 enough_room n k h l = let w : 2 ^ n ≤ 2 ^ 9 = pow_mono {i = n} {j = 9} h in omega arith
 
 pub returns-then-len-eq1 : goal.returns-then-len-eq1
-returns-then-len-eq1 c = let a = c.args in record { value = odd_length a.coefficients.now a.lower a.upper (length a.res.now) (length a.kinds.now) c.if-len-eq1.true; res_after = refl; kinds_after = refl }
+returns-then-len-eq1 c =
+    let a = c.args in
+    record {
+      value = odd_length a.coefficients.now a.lower a.upper (length a.res.now) (length a.kinds.now) c.if-len-eq1.true;
+      res_after = refl;
+      kinds_after = refl;
+    }
 
 pub returns-then-len-gt18 : goal.returns-then-len-gt18
-returns-then-len-gt18 c = let a = c.args in record { value = too_long a.coefficients.now a.lower a.upper (length a.res.now) (length a.kinds.now) c.if-len-eq1.false c.if-len-gt18.true; res_after = refl; kinds_after = refl }
+returns-then-len-gt18 c =
+    let a = c.args in
+    record {
+      value = too_long a.coefficients.now a.lower a.upper (length a.res.now) (length a.kinds.now) c.if-len-eq1.false c.if-len-gt18.true;
+      res_after = refl;
+      kinds_after = refl;
+    }
 
 pub returns-then-not-bounds_hold : goal.returns-then-not-bounds_hold
 returns-then-not-bounds_hold c = let a = c.args in record {
@@ -146,7 +158,11 @@ roots-requires c = let g = c.before.before.before.before.before in (
 )
 
 pub returns-then-n-kinds : goal.returns-then-n-kinds
-returns-then-n-kinds c = let g = c.before.before.before.before.before.before.before.before.before.before in let k = c.roots.result in let e = c.roots.ensures.value.0 in let f : k ≤ 2 ^ n g = rw e (few g) in let all = said g _ _ _
+returns-then-n-kinds c = let g = c.before.before.before.before.before.before.before.before.before.before in
+    let k = c.roots.result in
+    let e = c.roots.ensures.value.0 in
+    let f : k ≤ 2 ^ n g = rw e (few g) in
+    let all = said g _ _ _
     (counted k (room g) (bytes g) (le_trans f (enough_room (n g) (room g) (at_most_nine g) c.if-n-res.true))
     (le_trans f (enough_room (n g) (bytes g) (at_most_nine g) c.if-n-kinds.true))
     ∙ ap (λ (m : ℕ). fitted m (room g) (bytes g)) e)
@@ -156,4 +172,7 @@ pub roots_apart-requires : goal.roots_apart-requires
 roots_apart-requires c = let g = c.before.before.before.before in (at_most_nine g, in_span g, omega arith)
 
 pub returns : goal.returns
-returns c = let g = c.before.before.before.before.before.before.before.before.before in let all = said g _ _ _ c.roots_apart.ensures.value c.roots_apart.ensures.res_after c.roots_apart.ensures.kinds_after in record { value = all.0; res_after = all.1.0; kinds_after = all.1.1 }
+returns c =
+    let g = c.before.before.before.before.before.before.before.before.before in
+    let all = said g _ _ _ c.roots_apart.ensures.value c.roots_apart.ensures.res_after c.roots_apart.ensures.kinds_after in
+    record { value = all.0; res_after = all.1.0; kinds_after = all.1.1 }

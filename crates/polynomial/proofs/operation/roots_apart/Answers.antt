@@ -59,10 +59,24 @@ roots-count-requires c = let w : 2 ^ c.args.n ≤ 2 ^ 9 = pow_mono {i = c.args.n
     (c.requires.0, omega arith, c.requires.1, c.requires.2, omega arith)
 
 pub returns-then-res-count : goal.returns-then-res-count
-returns-then-res-count c = let r = c.before.before.before.before in let a = (start r).args in record { value = short_result r.roots-count.result _ _ c.if-res-count.true ∙ is r _ refl (length a.res.now) (length a.kinds.now); res_after = refl; kinds_after = refl }
+returns-then-res-count c =
+    let r = c.before.before.before.before in
+    let a = (start r).args in
+    record {
+      value = short_result r.roots-count.result _ _ c.if-res-count.true ∙ is r _ refl (length a.res.now) (length a.kinds.now);
+      res_after = refl;
+      kinds_after = refl;
+    }
 
 pub returns-then-kinds-count : goal.returns-then-kinds-count
-returns-then-kinds-count c = let r = c.before.before.before.before.before in let a = (start r).args in record { value = short_kinds r.roots-count.result _ _ c.if-res-count.false c.if-kinds-count.true ∙ is r _ refl (length a.res.now) (length a.kinds.now); res_after = refl; kinds_after = refl }
+returns-then-kinds-count c =
+    let r = c.before.before.before.before.before in
+    let a = (start r).args in
+    record {
+      value = short_kinds r.roots-count.result _ _ c.if-res-count.false c.if-kinds-count.true ∙ is r _ refl (length a.res.now) (length a.kinds.now);
+      res_after = refl;
+      kinds_after = refl;
+    }
 
 pub copy-requires : goal.copy-requires
 copy-requires c = let r = c.before.before.before.before.before.before.before in let f = few r in
@@ -75,5 +89,12 @@ copy_bytes-requires c = let r = c.before.before.before.before.before.before.befo
     (omega arith, c.if-kinds-count.false)
 
 pub returns : goal.returns
-returns c = let r = c.before.before.before.before.before.before.before.before.before.before.before.before.before.before.before in let a = (start r).args in
-    let k = r.roots-count.result in record { value = counted k _ _ c.if-res-count.false c.if-kinds-count.false ∙ is r _ refl (length a.res.now) (length a.kinds.now); res_after = c.copy.ensures ∙ ap (λ (l : List Float). l ++ drop k a.res.now) (front_take (listed r) _ _ k r.roots-count.ensures.value); kinds_after = c.copy_bytes.ensures ∙ ap (λ (l : List ℕ). l ++ drop k a.kinds.now) (arose_front r) }
+returns c =
+    let r = c.before.before.before.before.before.before.before.before.before.before.before.before.before.before.before in
+    let a = (start r).args in
+    let k = r.roots-count.result in
+    record {
+      value = counted k _ _ c.if-res-count.false c.if-kinds-count.false ∙ is r _ refl (length a.res.now) (length a.kinds.now);
+      res_after = c.copy.ensures ∙ ap (λ (l : List Float). l ++ drop k a.res.now) (front_take (listed r) _ _ k r.roots-count.ensures.value);
+      kinds_after = c.copy_bytes.ensures ∙ ap (λ (l : List ℕ). l ++ drop k a.kinds.now) (arose_front r);
+    }

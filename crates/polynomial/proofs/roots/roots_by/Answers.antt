@@ -35,6 +35,7 @@ returns c =
     let l = found (take a.n (pairs a.p.now)) (take a.count a.points.now) in
     record {
       value = (c.scan-counts.ensures.roots_value, c.scan-counts.ensures.out_after);
-      kinds_after = c.mark.ensures ∙ ap₂ (λ (N l : List Float). kinds_of N l ++ drop c.scan-counts.result.roots a.kinds.now) c.scan-counts.ensures.near_le_count.1
+      kinds_after = c.mark.ensures ∙ ap₂ (λ (N l : List Float). kinds_of N l ++ drop c.scan-counts.result.roots a.kinds.now)
+          c.scan-counts.ensures.near_le_count.1
           (front_take l a.out.now c.scan-counts.new.out c.scan-counts.result.roots (c.scan-counts.ensures.roots_value, c.scan-counts.ensures.out_after));
     }

@@ -71,7 +71,8 @@ loop-i-preserved c = let a = c.args in
     let i = c.loop-i-test.true in
     let e = next_point P a.points.now c.loop-i.points c.loop-i.near c.loop-i.i c.loop-i.invariant.1 (omega (arith, c.requires.2)) nan in (
       scan_more P a.points.now a.count c.requires.2 _ _ _ _ _ _ _ c.loop-i.invariant.0 i nan _ e
-          c.look-seen.result.v _ _ c.look-seen.ensures.stands (c.look-seen.ensures.k_value, c.look-seen.ensures.out_after) _ _ (c.cross-k.ensures.value, c.cross-k.ensures.out_after),
+          c.look-seen.result.v _ _ c.look-seen.ensures.stands (c.look-seen.ensures.k_value, c.look-seen.ensures.out_after) _ _
+          (c.cross-k.ensures.value, c.cross-k.ensures.out_after),
       gathered_more P a.points.now c.loop-i.points c.loop-i.near c.loop-i.i c.loop-i.invariant.1 (omega (arith, c.requires.2)) nan _ e
           c.look-seen.result.near c.look-seen.ensures.near_value,
     )

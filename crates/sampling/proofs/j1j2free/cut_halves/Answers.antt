@@ -24,7 +24,9 @@ half_cuts-second-requires c = (search rules, search rules, subst (λ (m : Float)
 
 pub returns : goal.returns
 unfolding curves bends
-returns c = let a = c.args in let all = laid_halves a.t a.lower a.upper _ (subst T (sym c.well_formed.1.1.0.1) tt) (subst T (sym c.well_formed.1.1.1.0.1) tt)
+returns c =
+    let a = c.args in
+    let all = laid_halves a.t a.lower a.upper _ (subst T (sym c.well_formed.1.1.0.1) tt) (subst T (sym c.well_formed.1.1.1.0.1) tt)
     c.middle-m.ensures
     _ c.boundaries-curves.ensures.1 _ c.bend_slices-n.ensures.front
     _ _ _ c.half_cuts-first.result c.half_cuts-second.result _ c.start_of-start.ensures

@@ -79,7 +79,8 @@ returns-then-y c =
       | then-total_le+else-total_le-2 w ↦ second_false (total_le x y) (total_le x z) (sym w.total_le-then-total_le.ensures ∙ w.if-total_le-2.false)
       | else-total_le w ↦ ap (λ (t : Bool). t && total_le x z) (sym c.total_le.ensures ∙ w.if-total_le.false)
     ] in
-    least_is p.a.now p.b.now p.r p.c x y z c.woven-x.ensures c.woven-y.ensures ez _ (second_none x y z p.c not_x (sym c.total_le-2.ensures ∙ c.if-total_le-3.true) c.if-y.true)
+    least_is p.a.now p.b.now p.r p.c x y z c.woven-x.ensures c.woven-y.ensures ez _
+    (second_none x y z p.c not_x (sym c.total_le-2.ensures ∙ c.if-total_le-3.true) c.if-y.true)
 
 pub overflow_add-to-then-total_le-3 : goal.overflow_add-to-then-total_le-3
 overflow_add-to-then-total_le-3 c =
@@ -100,7 +101,8 @@ returns-then-total_le-3 c =
       | then-total_le+else-total_le-2 w ↦ second_false (total_le x y) (total_le x z) (sym w.total_le-then-total_le.ensures ∙ w.if-total_le-2.false)
       | else-total_le w ↦ ap (λ (t : Bool). t && total_le x z) (sym c.total_le.ensures ∙ w.if-total_le.false)
     ] in
-    least_is p.a.now p.b.now p.r p.c x y z c.woven-x.ensures c.woven-y.ensures ez _ (second_some x y z p.c not_x (sym c.total_le-2.ensures ∙ c.if-total_le-3.true) c.if-y.false)
+    least_is p.a.now p.b.now p.r p.c x y z c.woven-x.ensures c.woven-y.ensures ez _
+    (second_some x y z p.c not_x (sym c.total_le-2.ensures ∙ c.if-total_le-3.true) c.if-y.false)
 
 pub returns-then-z : goal.returns-then-z
 returns-then-z c =
@@ -116,7 +118,8 @@ returns-then-z c =
       | then-total_le+else-total_le-2 w ↦ second_false (total_le x y) (total_le x z) (sym w.total_le-then-total_le.ensures ∙ w.if-total_le-2.false)
       | else-total_le w ↦ ap (λ (t : Bool). t && total_le x z) (sym c.total_le.ensures ∙ w.if-total_le.false)
     ] in
-    least_is p.a.now p.b.now p.r p.c x y z c.woven-x.ensures c.woven-y.ensures ez _ (third_none x y z p.c not_x (sym c.total_le-2.ensures ∙ c.if-total_le-3.false) c.if-z.true)
+    least_is p.a.now p.b.now p.r p.c x y z c.woven-x.ensures c.woven-y.ensures ez _
+    (third_none x y z p.c not_x (sym c.total_le-2.ensures ∙ c.if-total_le-3.false) c.if-z.true)
 
 pub returns : goal.returns
 returns c =
@@ -132,4 +135,5 @@ returns c =
       | then-total_le+else-total_le-2 w ↦ second_false (total_le x y) (total_le x z) (sym w.total_le-then-total_le.ensures ∙ w.if-total_le-2.false)
       | else-total_le w ↦ ap (λ (t : Bool). t && total_le x z) (sym c.total_le.ensures ∙ w.if-total_le.false)
     ] in
-    least_is p.a.now p.b.now p.r p.c x y z c.woven-x.ensures c.woven-y.ensures ez _ (third_some x y z p.c not_x (sym c.total_le-2.ensures ∙ c.if-total_le-3.false) c.if-z.false)
+    least_is p.a.now p.b.now p.r p.c x y z c.woven-x.ensures c.woven-y.ensures ez _
+    (third_some x y z p.c not_x (sym c.total_le-2.ensures ∙ c.if-total_le-3.false) c.if-z.false)

@@ -26,7 +26,8 @@ pub returns-then-y-last : goal.returns-then-y-last
 unfolding Of.next
 returns-then-y-last c = let p = c.args in
     let at = c.loop-y.at in
-    sym (next_keep p.a.now p.b.now p.r p.c.last (Of.left p.a.now p.b.now at) at c.in-Yield.y c.in-Yield.d (sym c.advance-s.ensures ∙ c.in-Yield.is) c.if-y-last.true)
+    sym (next_keep p.a.now p.b.now p.r p.c.last (Of.left p.a.now p.b.now at) at c.in-Yield.y c.in-Yield.d
+    (sym c.advance-s.ensures ∙ c.in-Yield.is) c.if-y-last.true)
     ∙ c.loop-y.invariant
 
 pub loop-y-smaller : goal.loop-y-smaller

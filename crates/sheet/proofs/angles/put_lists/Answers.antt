@@ -18,11 +18,21 @@ room : (n : Lists) (work : List Float) (output : List ℕ) → n.first + n.secon
 room n work output h k = omega (arith, all_samples_length n work h, k)
 
 pub overflow_add-both : goal.overflow_add-both
-overflow_add-both c = omega (arith, c.sample_count.ensures, c.sample_count-first.ensures, room c.args.n c.args.work.now c.args.output.now c.requires.third_in_bounds c.requires.work_in_bounds)
+overflow_add-both c = omega (
+  arith,
+  c.sample_count.ensures,
+  c.sample_count-first.ensures,
+  room c.args.n c.args.work.now c.args.output.now c.requires.third_in_bounds c.requires.work_in_bounds,
+)
 
 pub put_part-requires : goal.put_part-requires
 put_part-requires c = let n = c.args.n in
-    let q : n.first - 0 ≡ n.first = omega arith in record { start_le_end = omega arith; end_in_bounds = omega (arith, c.requires.third_in_bounds); start_in_bounds = rw q (omega (arith, room c.args.n c.args.work.now c.args.output.now c.requires.third_in_bounds c.requires.work_in_bounds)) }
+    let q : n.first - 0 ≡ n.first = omega arith in
+    record {
+      start_le_end = omega arith;
+      end_in_bounds = omega (arith, c.requires.third_in_bounds);
+      start_in_bounds = rw q (omega (arith, room c.args.n c.args.work.now c.args.output.now c.requires.third_in_bounds c.requires.work_in_bounds));
+    }
 
 pub overflow_mul-first : goal.overflow_mul-first
 overflow_mul-first c = omega (
@@ -59,7 +69,14 @@ put_part-requires-3 c = let n = c.args.n in
       start_le_end = omega arith;
       end_in_bounds = omega (arith, c.requires.third_in_bounds);
       start_in_bounds = rw q
-          (omega (arith, room c.args.n c.args.work.now c.args.output.now c.requires.third_in_bounds c.requires.work_in_bounds, e, f, k, c.put_part-2.auto.output));
+          (omega (
+            arith,
+            room c.args.n c.args.work.now c.args.output.now c.requires.third_in_bounds c.requires.work_in_bounds,
+            e,
+            f,
+            k,
+            c.put_part-2.auto.output,
+          ));
     }
 
 pub returns : goal.returns

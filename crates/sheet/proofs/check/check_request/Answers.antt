@@ -28,9 +28,14 @@ unfolding checked need
 returns-in-Passed c = let e = sym c.validate-t.ensures ∙ c.in-Passed.is in
     let p = c.plan_request-plan in
     let g = tested_passed _ _ _ e in
-    let w = c.args.work.now in record { result_value = rw (passed_meets _ _ g, ← p.auto.work) c.compare.ensures; work_after = left_passed _ _ _ w p.new.work e p.ensures.work_after }
+    let w = c.args.work.now in
+    record {
+      result_value = rw (passed_meets _ _ g, ← p.auto.work) c.compare.ensures;
+      work_after = left_passed _ _ _ w p.new.work e p.ensures.work_after;
+    }
 
 pub returns-in-Refused : goal.returns-in-Refused
 unfolding checked need
 returns-in-Refused c = let a = c.args in
-    let e = sym c.validate-t.ensures ∙ c.in-Refused.is in record { result_value = rw (refused_meets a.e a.request.now _ e); work_after = left_refused a.e a.request.now _ a.work.now e }
+    let e = sym c.validate-t.ensures ∙ c.in-Refused.is in
+    record { result_value = rw (refused_meets a.e a.request.now _ e); work_after = left_refused a.e a.request.now _ a.work.now e }

@@ -13,7 +13,8 @@ use Rattle.sheet.proofs.check.inspect_edition.Goals as goal
 
 pub returns-then-not-formed : goal.returns-then-not-formed
 returns-then-not-formed c = let a = c.args in
-    let f = sym c.formed.ensures ∙ not-true _ c.if-not-formed.true-raw in record { result_value = edition_unformed a.e a.sheet.now (length a.work.now) f; work_after = left_unformed a.sheet.now a.work.now a.e f }
+    let f = sym c.formed.ensures ∙ not-true _ c.if-not-formed.true-raw in
+    record { result_value = edition_unformed a.e a.sheet.now (length a.work.now) f; work_after = left_unformed a.sheet.now a.work.now a.e f }
 
 pub overflow_sub-at : goal.overflow_sub-at
 overflow_sub-at c = let a = c.args in

@@ -15,4 +15,8 @@ plan_of-requires c = subst Drawable (sym c.read_job-job.ensures) c.requires.draw
 
 pub returns : goal.returns
 returns c = let w = c.args.work.now in
-    let j = c.read_job-job.ensures in record { value = c.plan_of.ensures.value ∙ ap (λ (x : Job). plan x (length w)) j; work_after = c.plan_of.ensures.work_after ∙ ap (λ (x : Job). work_after x w) j }
+    let j = c.read_job-job.ensures in
+    record {
+      value = c.plan_of.ensures.value ∙ ap (λ (x : Job). plan x (length w)) j;
+      work_after = c.plan_of.ensures.work_after ∙ ap (λ (x : Job). work_after x w) j;
+    }

@@ -6,7 +6,9 @@ use Rattle.sheet.specs.Request.{blank_from}
 use Rattle.sheet.proofs.request.put_head.Given as goal
 
 abbrev pub invariant-loop-i : goal.invariant-loop-i
-invariant-loop-i l = (l.i ≤ 16) × (length l.out ≡ length l.initial.out) × (sets l.out (l.at + l.i) (blank_from l.s l.i (drop l.i l.request)) ≡ sets l.initial.out l.at (blank_from l.s 0 l.request))
+invariant-loop-i l =
+    (l.i ≤ 16) × (length l.out ≡ length l.initial.out)
+    × (sets l.out (l.at + l.i) (blank_from l.s l.i (drop l.i l.request)) ≡ sets l.initial.out l.at (blank_from l.s 0 l.request))
 
 abbrev pub decreases-loop-i : goal.decreases-loop-i
 decreases-loop-i l = 16 - l.i

@@ -17,4 +17,8 @@ returns-in-3 c = rw c.in-3.is
 
 pub returns-in_default : goal.returns-in_default
 unfolding shape_by
-returns-in_default c = rw (ne_eqb _ _ c.in_default.in_default-own.rest.0.0.1, ne_eqb _ _ c.in_default.in_default-own.rest.0.1, ne_eqb _ _ c.in_default.in_default-own.rest.1)
+returns-in_default c = rw (
+  ne_eqb _ _ c.in_default.in_default-own.rest.0.0.1,
+  ne_eqb _ _ c.in_default.in_default-own.rest.0.1,
+  ne_eqb _ _ c.in_default.in_default-own.rest.1,
+)

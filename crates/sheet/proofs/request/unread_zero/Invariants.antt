@@ -6,7 +6,9 @@ use Rattle.sheet.specs.Request.{blank_from}
 use Rattle.sheet.proofs.request.unread_zero.Given as goal
 
 abbrev pub invariant-loop-i : goal.invariant-loop-i
-invariant-loop-i l = (l.i ≤ length l.request) × (same_bytes (blank_from l.s l.i (drop l.i l.request)) (drop l.i l.request) ≡ same_bytes (blank_from l.s 0 l.request) l.request)
+invariant-loop-i l =
+    (l.i ≤ length l.request)
+    × (same_bytes (blank_from l.s l.i (drop l.i l.request)) (drop l.i l.request) ≡ same_bytes (blank_from l.s 0 l.request) l.request)
 
 abbrev pub decreases-loop-i : goal.decreases-loop-i
 decreases-loop-i l = length l.request - l.i

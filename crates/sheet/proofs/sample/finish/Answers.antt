@@ -12,7 +12,12 @@ use Rattle.sheet.proofs.sample.finish.Goals as goal
 
 pub returns-then-is_short : goal.returns-then-is_short
 unfolding planned_answer need
-returns-then-is_short c = let a = c.args in record { result_value = rw (fits_no a.request.now a.plan a.work.now c.requires.planned_for (sym c.is_short.ensures ∙ c.if-is_short.true)); output_after = refl }
+returns-then-is_short c =
+    let a = c.args in
+    record {
+      result_value = rw (fits_no a.request.now a.plan a.work.now c.requires.planned_for (sym c.is_short.ensures ∙ c.if-is_short.true));
+      output_after = refl;
+    }
 
 pub count-n-requires : goal.count-n-requires
 count-n-requires c = c.requires.planned_for.ready

@@ -33,8 +33,18 @@ returns-in-Passed c = let a = c.args in
     let e = now_newest _ c.newest.ensures c.validate-t.ensures
     ∙ c.in-Passed.is in
     let p = c.plan_request-plan in
-    record { result_value = c.finish.ensures.result_value ∙ rw p.auto.work (passed_answer a.request.now (length a.work.now) (length a.output.now) (tested_passed newest _ _ e)); output_after = c.finish.ensures.output_after; work_after = left_passed newest a.request.now _ a.work.now p.new.work e p.ensures.work_after }
+    record {
+      result_value = c.finish.ensures.result_value
+          ∙ rw p.auto.work (passed_answer a.request.now (length a.work.now) (length a.output.now) (tested_passed newest _ _ e));
+      output_after = c.finish.ensures.output_after;
+      work_after = left_passed newest a.request.now _ a.work.now p.new.work e p.ensures.work_after;
+    }
 
 pub returns-in-Refused : goal.returns-in-Refused
 returns-in-Refused c = let a = c.args in
-    let e = now_newest _ c.newest.ensures c.validate-t.ensures ∙ c.in-Refused.is in record { result_value = refused_answer a.request.now _ (length a.work.now) (length a.output.now) e; output_after = refl; work_after = left_refused newest a.request.now _ a.work.now e }
+    let e = now_newest _ c.newest.ensures c.validate-t.ensures ∙ c.in-Refused.is in
+    record {
+      result_value = refused_answer a.request.now _ (length a.work.now) (length a.output.now) e;
+      output_after = refl;
+      work_after = left_refused newest a.request.now _ a.work.now e;
+    }

@@ -4,4 +4,6 @@ use Rattle.sheet.specs.Bytes.{zeros}
 use Rattle.sheet.proofs.sample.sample.Goals as goal
 
 pub returns : goal.returns
-returns c = let r = c.run-a in record { result_value = r.ensures.result_value; output_after = r.ensures.output_after; work_after = c.clear.ensures ∙ ap zeros r.auto.work }
+returns c =
+    let r = c.run-a in
+    record { result_value = r.ensures.result_value; output_after = r.ensures.output_after; work_after = c.clear.ensures ∙ ap zeros r.auto.work }

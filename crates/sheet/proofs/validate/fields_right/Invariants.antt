@@ -4,7 +4,9 @@ use Rattle.sheet.specs.Validate.{all_from, field_right}
 use Rattle.sheet.proofs.validate.fields_right.Given as goal
 
 abbrev pub invariant-loop-j : goal.invariant-loop-j
-invariant-loop-j l = (1 ≤ l.j) × (l.j ≤ l.n + 1) × (all_from (l.n + 1 - l.j) l.j (field_right l.s l.f l.request) ≡ all_from l.n 1 (field_right l.s l.f l.request))
+invariant-loop-j l =
+    (1 ≤ l.j) × (l.j ≤ l.n + 1)
+    × (all_from (l.n + 1 - l.j) l.j (field_right l.s l.f l.request) ≡ all_from l.n 1 (field_right l.s l.f l.request))
 
 abbrev pub decreases-loop-j : goal.decreases-loop-j
 decreases-loop-j l = l.n + 1 - l.j

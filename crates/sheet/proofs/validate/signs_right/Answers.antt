@@ -32,7 +32,8 @@ loop-j-preserved c = let r = c.args.request.now in
     let s = c.shape_of-s.result in (
       omega arith,
       omega arith,
-      all_step (sign_right s r) _ _ _ _ (omega arith) (omega arith) (sym c.sign_right.ensures ∙ not-false _ c.if-not-sign_right.false-raw) ∙ c.loop-j.invariant.2,
+      all_step (sign_right s r) _ _ _ _ (omega arith) (omega arith) (sym c.sign_right.ensures ∙ not-false _ c.if-not-sign_right.false-raw)
+          ∙ c.loop-j.invariant.2,
     )
 
 pub returns : goal.returns

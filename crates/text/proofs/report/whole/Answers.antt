@@ -12,6 +12,7 @@ taken t lent k e h = rw (stored t lent k (omega arith) h, e) (take-append_seam t
 pub returns : goal.returns
 returns g c =
     let d = c.put_decimal-k in
-    let e : take d.result d.new.out ≡ whole c.args.n = rw d.ensures.out_after (taken (whole c.args.n) _ d.result d.ensures.value (omega (arith, d.ensures.upper_bound))) in
+    let e : take d.result d.new.out ≡ whole c.args.n =
+    rw d.ensures.out_after (taken (whole c.args.n) _ d.result d.ensures.value (omega (arith, d.ensures.upper_bound))) in
     let f = rw e at c.write_all.ensures.bytes in
     search rules

@@ -18,7 +18,8 @@ done s i h l = rw (drop_of_length-le s l)
 pub loop-i-preserved : goal.loop-i-preserved
 loop-i-preserved c = record {
   within = omega arith;
-  left = step c.args.s.now c.loop-i.i c.loop-i.h c.wide.result c.times_prime-h.result c.loop-i-test.true c.wide.ensures c.times_prime-h.ensures ∙ c.loop-i.invariant.left;
+  left = step c.args.s.now c.loop-i.i c.loop-i.h c.wide.result c.times_prime-h.result c.loop-i-test.true c.wide.ensures
+      c.times_prime-h.ensures ∙ c.loop-i.invariant.left;
 }
 
 pub returns : goal.returns
