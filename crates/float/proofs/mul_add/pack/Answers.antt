@@ -44,18 +44,12 @@ module _ (s : Bool) (w k : ℕ) (W : w < 2 ^ 64) (full : 0 < k → 2 ^ 63 ≤ w)
   small : k ≤ 2045 → min (k * 2 ^ 52 + q) (2047 * 2 ^ 52) ≡ k * 2 ^ 52 + q
   small h = let x : q ≤ 2 ^ 53 = closest_le w W in omega arith
 
-  below : k ≤ 2045 → k * 2 ^ 52 + q ≤ 2047 * 2 ^ 52
-  below h = let x : q ≤ 2 ^ 53 = closest_le w W in omega arith
-
   -- what the program writes at such a k
   abbrev written : ℕ
   written = k * 2 ^ 52 + w / 2 ^ 11 + (bit_and w 2047 + bit_and (w / 2 ^ 11) 1 + 1023) / 2 ^ 11
 
   written_is : written ≡ k * 2 ^ 52 + q
   written_is = add_assoc (k * 2 ^ 52) (w / 2 ^ 11) ((bit_and w 2047 + bit_and (w / 2 ^ 11) 1 + 1023) / 2 ^ 11) ∙ ap (λ (x : ℕ). k * 2 ^ 52 + x) (kept_is w)
-
-  written_le : k ≤ 2045 → written ≤ 2047 * 2 ^ 52
-  written_le h = subst (λ (x : ℕ). x ≤ 2047 * 2 ^ 52) (sym written_is) (below h)
 
 -- the sign and what is below an infinity's pattern, added
 fits_sum : (c : lts.Joined1 reads.Pre reads.Post) (n : ℕ) → n ≤ 2047 * 2 ^ 52 → c.if-neg.sign + n < 2 ^ 64
@@ -82,20 +76,22 @@ overflow_add-up c = omega (arith, and_mask c.args.w 11, and_mask (c.args.w / 2 ^
 pub overflow_add-up-2 : goal.overflow_add-up-2
 overflow_add-up-2 c = omega (arith, and_mask c.args.w 11, and_mask (c.args.w / 2 ^ 11) 1)
 
--- the pattern that is written is at most an infinity's
-below_top : (c : goal.Else-k-ge2046) → written c.args.neg c.args.w c.args.k
-    c.ranges.w.fits c.requires ≤ 2047 * 2 ^ 52
-below_top c =
-    written_le c.args.neg c.args.w c.args.k c.ranges.w.fits c.requires (omega arith)
+-- whatever the digits are moved up by, if it is one at most, the pattern is at most an infinity's
+below_top : (w k up : ℕ) → w < 2 ^ 64 → k < 2046 → up ≤ 1 → k * 2 ^ 52 + w / 2 ^ 11 + up ≤ 2047 * 2 ^ 52
+below_top w k up W h u = omega arith
 
 pub overflow_add-result-3 : goal.overflow_add-result-3
-overflow_add-result-3 c = omega (arith, below_top c)
+overflow_add-result-3 c = omega (arith, and_mask c.args.w 11, and_mask (c.args.w / 2 ^ 11) 1)
 
 pub overflow_add-result-4 : goal.overflow_add-result-4
-overflow_add-result-4 c = record { fits = fits_sum c.before.before _ (below_top c.before) }
+overflow_add-result-4 c = record {
+  fits = fits_sum c.before.before _
+      (below_top c.args.w c.args.k _ c.ranges.w.fits (omega arith) (omega (arith, and_mask c.args.w 11, and_mask (c.args.w / 2 ^ 11) 1)));
+}
 
 pub float_from_bits-result-2 : goal.float_from_bits-result-2
-float_from_bits-result-2 c = plain c.before.before _ (below_top c.before)
+float_from_bits-result-2 c = plain c.before.before _
+    (below_top c.args.w c.args.k _ c.ranges.w.fits (omega arith) (omega (arith, and_mask c.args.w 11, and_mask (c.args.w / 2 ^ 11) 1)))
 
 pub returns : goal.returns
 returns c = let j = c.before.before in let l : j.args.k ≤ 2045 = omega arith in
