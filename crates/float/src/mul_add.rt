@@ -11,7 +11,8 @@ ghost use Rattle.std.specs.Float.Ieee.Scale.{finite};
 ghost use Rattle.float.specs.MulAdd.{mul_add};
 ghost use Rattle.float.specs.Promises.Parts.{Splits, Shifts, Finishes, Combines};
 
-use crate::wide::{add, jam, less, product, sticky, sub};
+use crate::number::is_finite;
+use crate::wide::jam;
 
 // A finite float: q * 2^k units, negative where `neg`.
 #[derive(Clone, Copy)]
@@ -56,50 +57,37 @@ fn pack(neg: bool, w: u64, k: u64) -> f64
     f64::from_bits(sign + (k * 0x10_0000_0000_0000 + cut + up))
 }
 
-// The shift to the left that brings the highest digit of hi * 2^64 + lo to the top, or less where
-// that passes the format's smallest value, which lies y above.
-fn shift(hi: u64, lo: u64, y: u64) -> u64
-    requires { 0 < hi * 2 ^ 64 + lo }
-    ensures { Shifts (hi * 2 ^ 64 + lo) y result }
+// The shift to the left that brings the highest digit of x to the top, or less where that passes the
+// format's smallest value, which lies y above.
+fn shift(x: u128, y: u64) -> u64
+    requires { 0 < x }
+    ensures { Shifts x y result }
 {
-    let z = if hi == 0 {
-        64 + (u64::leading_zeros(lo) as u64)
-    } else {
-        u64::leading_zeros(hi) as u64
-    };
-    if z < y { z } else { y }
+    u64::from(x.leading_zeros()).min(y)
 }
 
-// (hi * 2^64 + lo) * 2^(y - 75) units, rounded.
-fn finish(neg: bool, hi: u64, lo: u64, y: u64) -> f64
-    requires { (0 < hi * 2 ^ 64 + lo) × (hi < 2 ^ 63) × (0 < y) }
-    ensures { Finishes neg (hi * 2 ^ 64 + lo) y result }
+// x * 2^(y - 75) units, rounded.
+fn finish(neg: bool, x: u128, y: u64) -> f64
+    requires { 0 < x }
+    ensures { Finishes neg x y result }
 {
-    let s = shift(hi, lo, y);
-    if s < 64 {
-        let w = (hi << s) | (lo >> (64 - s)) | sticky(lo << s);
-        pack(neg, w, y - s)
-    } else {
-        pack(neg, lo << (s - 64), y - s)
-    }
+    let s = shift(x, y);
+    pack(neg, jam(x << s, 64) as u64, y - s)
 }
 
 // ±x ± v, two numbers at one place, rounded: it has x's sign where both have it or x is the larger.
-fn combine(neg: bool, xh: u64, xl: u64, other: bool, vh: u64, vl: u64, y: u64) -> f64
-    requires { (0 < xh * 2 ^ 64 + xl + (vh * 2 ^ 64 + vl)) × (xh < 2 ^ 62) × (vh < 2 ^ 62) × (0 < y) }
-    ensures { Combines neg (xh * 2 ^ 64 + xl) other (vh * 2 ^ 64 + vl) y result }
+fn combine(neg: bool, x: u128, other: bool, v: u128, y: u64) -> f64
+    requires { (0 < x + v) × (x + v < 2 ^ 128) }
+    ensures { Combines neg x other v y result }
 {
     if neg == other {
-        let d = add(xh, xl, vh, vl);
-        return finish(neg, d.hi, d.lo, y);
+        return finish(neg, x + v, y);
     }
-    if less(vh, vl, xh, xl) {
-        let d = sub(xh, xl, vh, vl);
-        return finish(neg, d.hi, d.lo, y);
+    if v < x {
+        return finish(neg, x - v, y);
     }
-    if less(xh, xl, vh, vl) {
-        let d = sub(vh, vl, xh, xl);
-        return finish(other, d.hi, d.lo, y);
+    if x < v {
+        return finish(other, v - x, y);
     }
     0.0
 }
@@ -108,13 +96,13 @@ fn combine(neg: bool, xh: u64, xl: u64, other: bool, vh: u64, vl: u64, y: u64) -
 pub fn mul_add(a: f64, b: f64, c: f64) -> f64
     ensures { result ≡ mul_add binary64 a b c }
 {
-    if a - a != 0.0 {
+    if !is_finite(a) {
         return a * b + c;
     }
-    if b - b != 0.0 {
+    if !is_finite(b) {
         return a * b + c;
     }
-    if c - c != 0.0 {
+    if !is_finite(c) {
         return c;
     }
     if a == 0.0 {
@@ -126,18 +114,16 @@ pub fn mul_add(a: f64, b: f64, c: f64) -> f64
     let pa = split(a);
     let pb = split(b);
     let pc = split(c);
-    // the product is p * 2^fp, and c is (qc * 2^73) * 2^fc, both over 2^2168
-    let p = product(pa.q << 10, pb.q << 10);
-    let h = pc.q << 9;
+    // the product is p * 2^fp, and c is h * 2^fc, both over 2^2168
+    let p = u128::from(pa.q << 10) * u128::from(pb.q << 10);
+    let h = u128::from(pc.q) << 73;
     let fp = pa.k + pb.k;
     let fc = pc.k + 1021;
     let neg = pa.neg != pb.neg;
     // the one at the lower place is brought to the other's
     if fc <= fp {
-        let v = jam(h, 0, fp - fc);
-        combine(neg, p.hi, p.lo, pc.neg, v.hi, v.lo, fp - 1019)
+        combine(neg, p, pc.neg, jam(h, fp - fc), fp - 1019)
     } else {
-        let v = jam(p.hi, p.lo, fc - fp);
-        combine(pc.neg, h, 0, neg, v.hi, v.lo, fc - 1019)
+        combine(pc.neg, h, neg, jam(p, fc - fp), fc - 1019)
     }
 }

@@ -1,20 +1,19 @@
 // The square root of IEEE 754: a guess in floats, and a test in integers that its digits are the whole
 // number nearest to the root of the operand's digits; where they are not, that number is found.
-ghost use Rattle.std.specs.Prelude.{◌≡◌, ◌+◌, ◌*◌, ◌%◌, ◌^◌, ◌<◌, ◌≤◌, false, not, T, is_nan, nat_lt, to_bits};
+ghost use Rattle.std.specs.Prelude.{◌≡◌, ◌+◌, ◌*◌, ◌%◌, ◌^◌, ◌<◌, ◌≤◌, false, not, T, is_nan, nat_lt, IfSome, to_bits};
 ghost use Rattle.std.specs.Float.{binary64};
 ghost use Rattle.std.specs.Float.Ieee.{units};
 ghost use Rattle.float.specs.Sqrt as Sqrt;
 ghost use Rattle.float.specs.Promises.Parts.{Roots};
 
 use crate::mul_add::split;
-use crate::wide::{less, product};
+use crate::number::is_finite;
 
 // u * v < m * 2^52.
 fn below(u: u64, v: u64, m: u64) -> bool
     ensures { result ≡ nat_lt (u * v) (m * 2 ^ 52) }
 {
-    let p = product(u, v);
-    less(p.hi, p.lo, m >> 12, m << 52)
+    u128::from(u) * u128::from(v) < u128::from(m) << 52
 }
 
 // The 53 digits of x as a whole number.
@@ -22,7 +21,7 @@ fn digits(x: f64) -> u64
     requires { T (not (is_nan x)) }
     ensures { result ≡ to_bits binary64 x % 2 ^ 52 + 2 ^ 52 }
 {
-    (f64::to_bits(x) & 0xf_ffff_ffff_ffff) + 0x10_0000_0000_0000
+    (x.to_bits() & 0xf_ffff_ffff_ffff) + 0x10_0000_0000_0000
 }
 
 // The square root of f, nearly: nothing is said of it. The fast inverse square root, two steps of
@@ -32,7 +31,7 @@ fn estimate(f: f64) -> f64
     requires { T (not (is_nan f)) × (to_bits binary64 f < 2 ^ 63) }
 {
     let h = f * 0.5;
-    let y = f64::from_bits(0x5fe6_ed21_02dc_bfda - (f64::to_bits(f) >> 1));
+    let y = f64::from_bits(0x5fe6_ed21_02dc_bfda - (f.to_bits() >> 1));
     let y = 1.5008789551163346 * y - (h * y) * (y * y);
     let y = 1.5000005796762577 * y - (h * y) * (y * y);
     let t = f * y;
@@ -62,28 +61,6 @@ fn guess(m: u64) -> u64
     0x10_0000_0000_0000
 }
 
-// hi * 2^52 + lo.
-#[derive(Clone, Copy)]
-struct Product {
-    hi: u64,
-    lo: u64,
-}
-
-// q * q. With q cut into a * 2^26 + b, that is a * a * 2^52 + 2 * a * b * 2^26 + b * b.
-fn square(q: u64) -> Product
-    requires { q ≤ 2 ^ 53 }
-    ensures { (result.hi * 2 ^ 52 + result.lo ≡ q * q) × (result.lo < 2 ^ 52) × (result.hi ≤ 2 ^ 55) }
-{
-    let a = q >> 26;
-    let b = q & 0x3ff_ffff;
-    let s = b * b;
-    let t = 2 * a * b + (s >> 26);
-    Product {
-        hi: a * a + (t >> 26),
-        lo: ((t & 0x3ff_ffff) << 26) + (s & 0x3ff_ffff),
-    }
-}
-
 // The whole number nearest to the square root of m * 2^52, sought from `start` down and up.
 fn seek(m: u64, start: u64) -> u64
     requires { (2 ^ 52 ≤ m) × (m < 2 ^ 54) × (2 ^ 52 ≤ start) × (start ≤ 2 ^ 53) }
@@ -99,16 +76,16 @@ fn seek(m: u64, start: u64) -> u64
     q
 }
 
-// m * 2^52 - q * q + 3 * 2^52, or 0 where that is not from 1 to 6 * 2^52.
-fn distance(m: u64, q: u64) -> u64
+// m * 2^52 - q * q + 3 * 2^52, where that is from 1 to 6 * 2^52.
+fn distance(m: u64, q: u64) -> Option<u64>
     requires { (m < 2 ^ 54) × (q ≤ 2 ^ 53) }
-    ensures { (0 < result → result + q * q ≡ (m + 3) * 2 ^ 52) × (result ≤ 6 * 2 ^ 52) }
+    ensures { IfSome result (λ d. (0 < d) × (d ≤ 6 * 2 ^ 52) × (d + q * q ≡ (m + 3) * 2 ^ 52)) }
 {
-    let s = square(q);
-    if s.hi > m + 2 || m > s.hi + 3 {
-        return 0;
+    let d = ((u128::from(m) + 3) << 52).checked_sub(u128::from(q) * u128::from(q))?;
+    if d == 0 || d > 0x60_0000_0000_0000 {
+        return None;
     }
-    ((m + 3 - s.hi) << 52) - s.lo
+    Some(d as u64)
 }
 
 // The whole number nearest to the square root of m * 2^52, by the distance d of q: it is q or one
@@ -130,11 +107,10 @@ fn root(m: u64) -> u64
     ensures { Roots (m * 2 ^ 52) result }
 {
     let q = guess(m);
-    let d = distance(m, q);
-    if d == 0 {
-        return seek(m, q);
+    match distance(m, q) {
+        Some(d) => beside(m, q, d),
+        None => seek(m, q),
     }
-    beside(m, q, d)
 }
 
 // The shift that gives q all its 53 digits.
@@ -145,7 +121,7 @@ pub(crate) fn lift(q: u64) -> u64
     if q >= 0x10_0000_0000_0000 {
         return 0;
     }
-    u64::leading_zeros(q) as u64 - 11
+    u64::from(q.leading_zeros()) - 11
 }
 
 // q * 2^k units, for a q of 53 digits, or one up.
@@ -162,18 +138,13 @@ fn nearest_root(g: f64, m: u64, k: u64) -> f64
     requires { (2 ^ 52 ≤ m) × (m < 2 ^ 54) × (k ≤ 2045) }
     ensures { result ≡ Sqrt.root_of binary64 (m * 2 ^ 52 * 2 ^ k * 2 ^ k) }
 {
-    if g == g {
-        if f64::to_bits(g) >> 52 == k + 1 {
-            let q = digits(g);
-            let d = distance(m, q);
-            if d > 0 {
-                if d <= q + 0x30_0000_0000_0000 {
-                    if d + q > 0x30_0000_0000_0000 {
-                        return g;
-                    }
-                }
-                return write(beside(m, q, d), k);
+    if !g.is_nan() && g.to_bits() >> 52 == k + 1 {
+        let q = digits(g);
+        if let Some(d) = distance(m, q) {
+            if d <= q + 0x30_0000_0000_0000 && d + q > 0x30_0000_0000_0000 {
+                return g;
             }
+            return write(beside(m, q, d), k);
         }
     }
     write(root(m), k)
@@ -183,16 +154,13 @@ fn nearest_root(g: f64, m: u64, k: u64) -> f64
 pub fn sqrt(x: f64) -> f64
     ensures { result ≡ Sqrt.sqrt binary64 x }
 {
-    if x != x {
-        return x;
-    }
-    if x == 0.0 {
+    if x.is_nan() || x == 0.0 {
         return x;
     }
     if x < 0.0 {
-        return 0.0 / 0.0;
+        return f64::NAN;
     }
-    if x - x != 0.0 {
+    if !is_finite(x) {
         return x;
     }
     // x is m * 2^52 times 2^-1178 times 2^t, whose root is that of m * 2^52, or of 2 * m * 2^52 where

@@ -1,2 +1,3 @@
--- The law on lists that the proofs of the loops over a slice cite.
+-- The laws on lists that the proofs of the loops cite.
+pub mod Repeated
 pub mod Places

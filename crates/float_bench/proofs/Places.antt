@@ -1,27 +1,22 @@
--- A list of which the first i elements are stepped.
-use Rattle.std.proofs.Common.{ℕ, zero, suc, ◌+◌, ◌<◌, ◌≤◌, add-one, arith, ◌≡◌, refl, ap, List, [], ◌∷◌, ◌++◌, map, length, take, drop, get_or, set}
+-- The places of a list, stepped one after the other; and what the list then is.
+use Rattle.std.proofs.Common.{ℕ, zero, suc, ◌+◌, ◌<◌, add-one, arith, ◌≡◌, refl, subst, List, [], ◌∷◌, length, take, drop, get_or, set, map, ap}
+use Rattle.std.specs.List.{AllZip}
 
-module _ {A : Type 0} (f : A → A) where
-  abbrev pub stepped : ℕ → List A → List A
-  stepped i l = map f (take i l) ++ drop i l
+module _ {A : Type 0} (R : A → A → Type 0) (d v : A) where
+  more : (i : ℕ) (l hs : List A) → i < length l → AllZip R (take i l) (take i hs) → drop i hs ≡ drop i l → R (get_or hs i d) v
+      → AllZip R (take (suc i) l) (take (suc i) (set hs i v)) × (drop (suc i) (set hs i v) ≡ drop (suc i) l)
+  more i [] hs h a e r = absurd (omega arith)
+  more zero (x ∷ l) [] h a e r = cc
+  more zero (x ∷ l) (y ∷ hs) h a e r = ((subst (λ z. R z v) (ap (λ m. get_or m 0 d) e) r, tt), ap (λ m. drop 1 m) e)
+  more (suc i) (x ∷ l) [] h a e r = absurd a
+  more (suc i) (x ∷ l) (y ∷ hs) h a e r = let m = more i l hs (omega arith) a.1 e r in ((a.0, m.0), m.1)
 
-  -- the next element is as it was
-  next : (i : ℕ) (l : List A) (d : A) → get_or (stepped i l) i d ≡ get_or l i d
-  next zero l d = refl
-  next (suc i) [] d = refl
-  next (suc i) (x ∷ l) d = next i l d
+  pub one_more : (i : ℕ) (l hs : List A) → i < length l → AllZip R (take i l) (take i hs) → drop i hs ≡ drop i l → R (get_or hs i d) v
+      → AllZip R (take (i + 1) l) (take (i + 1) (set hs i v)) × (drop (i + 1) (set hs i v) ≡ drop (i + 1) l)
+  one_more i l hs h a e r = rw (add-one) (more i l hs h a e r)
 
-  one_more : (i : ℕ) (l : List A) (d : A) → i < length l → set (stepped i l) i (f (get_or l i d)) ≡ stepped (suc i) l
-  one_more i [] d h = absurd (omega arith)
-  one_more zero (x ∷ l) d h = refl
-  one_more (suc i) (x ∷ l) d h = let k : i < length l = omega arith in ap (λ (m : List A). f x ∷ m) (one_more i l d k)
-
-  -- a step of a loop that steps one element
-  pub one_step : (i : ℕ) (l hs : List A) (v d : A) → hs ≡ stepped i l → v ≡ f (get_or hs i d) → i < length l → set hs i v ≡ stepped (i + 1) l
-  one_step i l hs v d e w h = rw (w, e, next i l d, add-one) (one_more i l d h)
-
-  pub all : (i : ℕ) (l : List A) → length l ≤ i → stepped i l ≡ map f l
-  all zero [] h = refl
-  all zero (x ∷ l) h = absurd (omega arith)
-  all (suc i) [] h = refl
-  all (suc i) (x ∷ l) h = let k : length l ≤ i = omega arith in ap (λ (m : List A). f x ∷ m) (all i l k)
+pub mapped : {A : Type 0} (R : A → A → Type 0) (f : A → A) → ((x y : A) → R x y → y ≡ f x) → (xs ys : List A) → AllZip R xs ys → ys ≡ map f xs
+mapped R f h [] [] a = refl
+mapped R f h [] (y ∷ ys) a = absurd a
+mapped R f h (x ∷ xs) [] a = absurd a
+mapped R f h (x ∷ xs) (y ∷ ys) a = λ i. h x y a.0 i ∷ mapped R f h xs ys a.1 i

@@ -10,50 +10,26 @@ use float::sqrt::sqrt;
 pub extern "C" fn bench_plain(start: f64, x: f64, c: f64, n: u64) -> f64
     ensures { result ≡ Steps.iterate (Steps.plain x c) n start }
 {
-    let mut h = start;
-    let mut i = 0u64;
-    while i < n {
-        h = h * x + c;
-        i += 1;
-    }
-    h
+    (0..n).fold(start, |h, _| h * x + c)
 }
 
 #[unsafe(no_mangle)]
 pub extern "C" fn bench_mul_add(start: f64, x: f64, c: f64, n: u64) -> f64
     ensures { result ≡ Steps.iterate (Steps.fused x c) n start }
 {
-    let mut h = start;
-    let mut i = 0u64;
-    while i < n {
-        h = mul_add(h, x, c);
-        i += 1;
-    }
-    h
+    (0..n).fold(start, |h, _| mul_add(h, x, c))
 }
 
 #[unsafe(no_mangle)]
 pub extern "C" fn bench_sqrt(start: f64, c: f64, n: u64) -> f64
     ensures { result ≡ Steps.iterate (Steps.root c) n start }
 {
-    let mut h = start;
-    let mut i = 0u64;
-    while i < n {
-        h = sqrt(h + c);
-        i += 1;
-    }
-    h
+    (0..n).fold(start, |h, _| sqrt(h + c))
 }
 
 #[unsafe(no_mangle)]
 pub extern "C" fn bench_product_error(start: f64, x: f64, c: f64, n: u64) -> f64
     ensures { result ≡ Steps.iterate (Steps.error x c) n start }
 {
-    let mut h = start;
-    let mut i = 0u64;
-    while i < n {
-        h = product_error(h, x) + c;
-        i += 1;
-    }
-    h
+    (0..n).fold(start, |h, _| product_error(h, x) + c)
 }

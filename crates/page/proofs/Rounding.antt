@@ -90,15 +90,14 @@ beyond (fin t m e) s q k h f v = (sym v.0, many (billionths m e) large)
         le_trans ((le-div_iff_mul-le (down_pos e)).1 (big (2 ^ 1074) (q * 2 ^ k) (down e) (m * up e) (pow_pos 1074) g v.1))
         (nearest-ge (m * up e * billion / down e) (compare (m * up e * billion % down e * 2) (down e)))
 
--- ---- the words of the program
--- of the cut product only the lower word is left
-pub low_word : (q s P hi lo : ℕ) → q < 2 ^ 53 → 33 ≤ s → P ≡ q * billion → hi * 2 ^ 64 + lo ≡ jam P (s - 2)
-    → (lo ≡ jam (q * billion) (s - 2)) × (lo < 2 ^ 53)
-low_word q s P hi lo h l e f =
-    alone hi lo (jam (q * billion) (s - 2)) (f ∙ ap (λ (n : ℕ). jam n (s - 2)) e) (cut_below (q * billion) s (omega arith) l)
-  where
-    alone : (hi lo j : ℕ) → hi * 2 ^ 64 + lo ≡ j → j < 2 ^ 53 → (lo ≡ j) × (lo < 2 ^ 53)
-    alone hi lo j e h = (omega arith, omega arith)
+-- ---- as the program has it
+-- what is left of the product, by the factors that the program multiplies
+pub left : (q s a b w : ℕ) → q < 2 ^ 53 → 33 ≤ s → a ≡ q → b ≡ billion → w ≡ jam (a * b) (s - 2)
+    → (w ≡ jam (q * billion) (s - 2)) × (w < 2 ^ 53)
+left q s a b w h l e f g =
+    let p : a * b ≡ q * billion = λ i. e i * f i in
+    let j : w ≡ jam (q * billion) (s - 2) = g ∙ ap (λ (n : ℕ). jam n (s - 2)) p in
+    (j, omega (arith, j, cut_below (q * billion) s (omega arith) l))
 
 pub scaled_is : (q s lo : ℕ) → 33 ≤ s → lo ≡ jam (q * billion) (s - 2) → (lo + lo / 4 % 2 + 1) / 4 ≡ closest (q * billion) (2 ^ s)
 scaled_is q s lo l e = quarter lo ∙ ap (λ (w : ℕ). closest w 4) e ∙ cut (q * billion) s (omega arith)

@@ -12,7 +12,7 @@ use digits::decimal::{put_digits, put_signed};
 use digits::runs::fill;
 use float::mul_add::split;
 use float::number::is_finite;
-use float::wide::{jam, product};
+use float::wide::jam;
 
 // A billion.
 const BILLION: u64 = 1000000000;
@@ -23,9 +23,8 @@ fn scaled(q: u64, s: u64) -> u64
     requires { (q < 2 ^ 53) × (33 ≤ s) }
     ensures { result ≡ closest (q * Decimal.billion) (2 ^ s) }
 {
-    let p = product(q, BILLION);
-    let w = jam(p.hi, p.lo, s - 2);
-    (w.lo + w.lo / 4 % 2 + 1) / 4
+    let w = jam(u128::from(q) * u128::from(BILLION), s - 2) as u64;
+    (w + w / 4 % 2 + 1) / 4
 }
 
 // A finite |x| in billionths, and its sign.

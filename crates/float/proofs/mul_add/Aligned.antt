@@ -6,7 +6,7 @@ use Rattle.std.proofs.Common.{lt_of_lt_of_le, mul-le-mul_right, mod-lt, mul_asso
 use Rattle.std.proofs.Common.{mul-le-mul_left, div-add-mod', arith, pow_pos}
 use native.Mathlib.Nat.{pow-succ'}
 use Rattle.float.specs.Promises.Jam.{jam}
-use Rattle.float.proofs.wide.Words.{jam_at}
+use Rattle.float.proofs.wide.Jammed.{jam_at}
 
 -- ---- the parts of a number n at 2 ^ suc d
 module _ (n d : ℕ) where

@@ -1,16 +1,16 @@
 -- What `finish` rounds is the exact number: D is the exact S cut by `jam`, and shifting D to the left before
 -- the next cut is shifting S, if nothing was lost of S or the shift is by a word at most.
 --
-use Rattle.std.proofs.Common.{◌≡◌, ℕ, suc, ◌+◌, ◌-◌, ◌*◌, ◌/◌, ◌%◌, ◌^◌, ◌<◌, ◌≤◌, min, Bool, ◌⊎◌, sym, ap, ◌∙◌, subst, inl, inr, le_trans, le_of_eq}
+use Rattle.std.proofs.Common.{◌≡◌, ℕ, suc, ◌+◌, ◌-◌, ◌*◌, ◌/◌, ◌%◌, ◌^◌, ◌<◌, ◌≤◌, min, Bool, ◌⊎◌, sym, ap, ◌∙◌, subst, inl, inr, le_trans}
 use Rattle.std.proofs.Common.{le_of_suc-le-suc, mul-le-mul_right, mod-lt, mul_assoc, mul_comm, eq-zero-or-pos, mul-le-mul_left}
-use Rattle.std.proofs.Common.{mul-lt-mul_of_pos_right, mul-pos, one-mul, lt_of_not-le, div-add-mod', sub-add_cancel, mul_right_comm, not-le_of_lt}
+use Rattle.std.proofs.Common.{mul-lt-mul_of_pos_right, mul-pos, lt_of_not-le, div-add-mod', sub-add_cancel, mul_right_comm, not-le_of_lt}
 use Rattle.std.proofs.Common.{arith, pow_pos, pow_mono, pow-add}
 use lib.Arith.{digits_lt}
 use lib.Ieee.{Float, binary64, round}
 use lib.Ieee.Scale.{round_same}
 use Rattle.float.specs.Promises.Jam.{jam}
-use Rattle.float.proofs.wide.Words.{jam_at, some_times}
-use Rattle.float.proofs.mul_add.Left.{jam_top, jam_under}
+use Rattle.float.proofs.wide.Jammed.{jam_at, some_times}
+use Rattle.float.proofs.mul_add.Left.{jam_top, jam_under, shift_lt}
 use Rattle.float.proofs.Rounded.{round_jam}
 use Rattle.float.specs.Promises.Parts.{Shifts, Finishes}
 
@@ -124,8 +124,7 @@ module _ (neg : Bool) (D y : ℕ) (v : Float) (F : Finishes neg D y v) (S d f c 
   s = F.shift
 
   s_lt : s < 128
-  s_lt = lt_of_not-le (λ (g : 128 ≤ s). not-le_of_lt F.shifts.top
-      (le_trans (pow_mono g) (le_trans (le_of_eq (sym (one-mul (2 ^ s)))) (mul-le-mul_right (2 ^ s) F.some))))
+  s_lt = shift_lt D y s F.some F.shifts
 
   word : jam (D * 2 ^ s) 64 ≡ jam (S * 2 ^ s) (d + 64)
   word = ap (λ (x : ℕ). jam (x * 2 ^ s) 64) cut ∙ jam_left S d s (go safe)

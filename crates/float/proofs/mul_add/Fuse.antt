@@ -12,17 +12,15 @@ use Rattle.float.specs.Promises.Jam.{jam}
 use Rattle.float.specs.Laws.Compare.{lt_or_le}
 use Rattle.float.specs.Promises.Parts.{Splits, Combines}
 use Rattle.float.specs.Laws.Zero.{sum_comm}
-use Rattle.float.proofs.mul_add.Aligned.{jam_some, jam_below}
+use Rattle.float.proofs.mul_add.Aligned.{jam_le, jam_some, jam_below}
 use Rattle.float.proofs.mul_add.Sums.{combined}
 use Rattle.float.proofs.mul_add.Special.{mul_add_at}
 
--- whatever is ±X ± Y, with Y cut to the place of X, is a * b + c
-pub record Orders (a b c : Float) (s : Bool) (X : ℕ) (t : Bool) (Y d y : ℕ) : Type 0 where
-  pub some : 0 < X + jam Y d
-  pub first : X < 2 ^ 62 * 2 ^ 64
-  pub second : Y < 2 ^ 62 * 2 ^ 64
-  pub place : 0 < y
-  pub ends : (W : ℕ) → W ≡ jam Y d → (r : Float) → Combines s X t W y r → r ≡ mul_add binary64 a b c
+-- whatever is ±X ± W, where W is what is left of the other number at the place of X, is a * b + c
+pub record Orders (a b c : Float) (s : Bool) (X : ℕ) (t : Bool) (W y : ℕ) : Type 0 where
+  pub some : 0 < X + W
+  pub room : X + W < 2 ^ 128
+  pub ends : (r : Float) → Combines s X t W y r → r ≡ mul_add binary64 a b c
 
 -- ---- numbers
 -- a multiple of 2 ^ j is one of 2 ^ suc d for a d below j
@@ -57,9 +55,9 @@ large a b j k A B h f g = go (eq-zero-or-pos j)
     go (inl z) = le_trans (g (other z)) (le_trans (le_of_eq (sym (one-mul b))) (mul-le-mul_right b A))
     go (inr p) = le_trans (f p) (le_trans (le_of_eq (sym (mul-one a))) (mul-le-mul_left a B))
 
--- the upper word of a number below M * N
-pub upper : (h l Z M N : ℕ) → h * N + l ≡ Z → Z < M * N → h < M
-upper h l Z M N e b = lt_of_mul-lt-mul_right N (lt_of_le_of_lt (le_trans (le-add_right (h * N) l) (le_of_eq e)) b)
+-- two numbers with room between them, of which one is cut
+fits : (X Y d : ℕ) → X < 2 ^ 126 → Y < 2 ^ 126 → X + jam Y d < 2 ^ 128
+fits X Y d a b = omega (arith, jam_le Y d)
 
 module _ (a b c : Float) (sa : Bool) (qa ka : ℕ) (sb : Bool) (qb kb : ℕ) (sc : Bool) (qc kc : ℕ)
     (A : Splits a sa qa ka) (B : Splits b sb qb kb) (C : Splits c sc qc kc) (someA : 0 < qa) (someB : 0 < qb) where
@@ -68,7 +66,7 @@ module _ (a b c : Float) (sa : Bool) (qa ka : ℕ) (sb : Bool) (qb kb : ℕ) (sc
   P = qa * 2 ^ 10 * (qb * 2 ^ 10)
 
   abbrev pub H : ℕ
-  H = qc * 2 ^ 9 * 2 ^ 64
+  H = qc * 2 ^ 73
 
   abbrev pub m : ℕ
   m = ka + kb
@@ -82,24 +80,18 @@ module _ (a b c : Float) (sa : Bool) (qa ka : ℕ) (sb : Bool) (qb kb : ℕ) (sc
       shape : (x y : ℕ) → x * 2 ^ 10 * (y * 2 ^ 10) ≡ x * y * 2 ^ 20
       shape x y = omega arith
 
-  H-is : H ≡ qc * 2 ^ 73
-  H-is = mul_assoc qc (2 ^ 9) (2 ^ 64)
-
   P-some : 0 < P
   P-some = mul-pos (mul-pos someA (pow_pos 10)) (mul-pos someB (pow_pos 10))
 
-  P-lt : P < 2 ^ 62 * 2 ^ 64
+  P-lt : P < 2 ^ 126
   P-lt = lt_of_lt_of_le (lt_of_le_of_lt (mul-le-mul_left (qa * 2 ^ 10) (le_of_lt (ten qb B.short)))
       (mul-lt-mul_of_pos_right (ten qa A.short) (pow_pos 63))) (lit≤ tt)
     where
       ten : (q : ℕ) → q < 2 ^ 53 → q * 2 ^ 10 < 2 ^ 63
       ten q h = omega arith
 
-  H-lt : H < 2 ^ 62 * 2 ^ 64
-  H-lt = mul-lt-mul_of_pos_right (nine qc C.short) (pow_pos 64)
-    where
-      nine : (q : ℕ) → q < 2 ^ 53 → q * 2 ^ 9 < 2 ^ 62
-      nine q h = omega arith
+  H-lt : H < 2 ^ 126
+  H-lt = mul-lt-mul_of_pos_right C.short (pow_pos 73)
 
   P-even : P ≡ 2 * (qa * 2 ^ 9 * (qb * 2 ^ 10))
   P-even = shape qa qb
@@ -107,10 +99,10 @@ module _ (a b c : Float) (sa : Bool) (qa ka : ℕ) (sb : Bool) (qb kb : ℕ) (sc
       shape : (x y : ℕ) → x * 2 ^ 10 * (y * 2 ^ 10) ≡ 2 * (x * 2 ^ 9 * (y * 2 ^ 10))
       shape x y = omega arith
 
-  H-even : H ≡ 2 * (qc * 2 ^ 8 * 2 ^ 64)
+  H-even : H ≡ 2 * (qc * 2 ^ 72)
   H-even = shape qc
     where
-      shape : (x : ℕ) → x * 2 ^ 9 * 2 ^ 64 ≡ 2 * (x * 2 ^ 8 * 2 ^ 64)
+      shape : (x : ℕ) → x * 2 ^ 73 ≡ 2 * (x * 2 ^ 72)
       shape x = omega arith
 
   -- ---- the operands' fractions at the denominator 2 ^ 2168
@@ -130,7 +122,6 @@ module _ (a b c : Float) (sa : Bool) (qa ka : ℕ) (sb : Bool) (qb kb : ℕ) (sc
   addend q e =
       ap (λ (x : ℕ). qc * 2 ^ kc * x) (pow-add 2 1094 1074 ∙ ap (λ (x : ℕ). x * 2 ^ 1074) (pow-add 2 73 1021))
       ∙ shape qc (2 ^ kc) (2 ^ 73) (2 ^ 1021) (2 ^ 1074)
-      ∙ ap (λ (x : ℕ). x * (2 ^ kc * 2 ^ 1021) * 2 ^ 1074) (sym H-is)
       ∙ ap (λ (x : ℕ). H * x * 2 ^ 1074) (sym (pow-add 2 kc 1021))
       ∙ ap (λ (x : ℕ). x * 2 ^ 1074) (sym e)
     where
@@ -158,7 +149,7 @@ module _ (a b c : Float) (sa : Bool) (qa ka : ℕ) (sb : Bool) (qb kb : ℕ) (sc
         places kc m g = omega arith
 
         go : (m - l < 73) ⊎ (73 ≤ m - l) → (H % 2 ^ suc (m - l) ≡ 0) ⊎ ((m - 1019 ≤ 64) ⊎ (W + 2 ^ 64 ≤ P))
-        go (inl g) = inl (ap (λ (x : ℕ). x % 2 ^ suc (m - l)) H-is ∙ whole qc 73 (m - l) g)
+        go (inl g) = inl (whole qc 73 (m - l) g)
         go (inr g) = inr (inr (sum W P
             (subst (λ (w : ℕ). w < 2 ^ 53 + 2) (sym cut) (cut_small H (m - l) (2 ^ 53) (2 ^ 73) (lt_of_lt_of_le H-lt (lit≤ tt)) (pow_mono g)))
             (le_trans (mul-le-mul_right (2 ^ 20) (large qa qb ka kb someA someB (places kc m g) A.full B.full)) (le_of_eq (sym P-is)))))
@@ -187,38 +178,45 @@ module _ (a b c : Float) (sa : Bool) (qa ka : ℕ) (sb : Bool) (qb kb : ℕ) (sc
         go (inr g) (inl z) = inr (inl (near kc z))
         go (inr g) (inr p) = inr (inr (sum W H
             (subst (λ (w : ℕ). w < 2 ^ 106 + 2) (sym cut) (cut_small P (l - m) (2 ^ 106) (2 ^ 20) (lt_of_lt_of_le P-lt (lit≤ tt)) (pow_mono g)))
-            (le_trans (lit≤ tt) (le_trans (mul-le-mul_right (2 ^ 73) (C.full p)) (le_of_eq (sym H-is))))))
+            (le_trans (lit≤ tt) (mul-le-mul_right (2 ^ 73) (C.full p)))))
 
     low_way : (r : Float) → Combines sc H (unlike sa sb) W (l - 1019) r → r ≡ mul_add binary64 a b c
     low_way r R =
-        combined sc H (unlike sa sb) P W (l - 1019) (l - m) m 2168 r R (qc * 2 ^ 8 * 2 ^ 64) H-even cut (place kc m h) safe_low
+        combined sc H (unlike sa sb) P W (l - 1019) (l - m) m 2168 r R (qc * 2 ^ 72) H-even cut (place kc m h) safe_low
         ∙ sum_comm sc (H * 2 ^ (l - m) * 2 ^ m) (unlike sa sb) (P * 2 ^ m) (2 ^ 2168) (pow_pos 2168)
         ∙ sym (exact (P * 2 ^ m) (H * 2 ^ (l - m) * 2 ^ m) refl (apart H l m (le_of_lt h)))
       where
         place : (kc m : ℕ) → m < kc + 1021 → 2168 + (kc + 1021 - 1019) ≡ m + (kc + 1021 - m) + 1149
         place kc m h = omega arith
 
-  -- ---- both ways
-  pub high_orders : l ≤ m → Orders a b c (unlike sa sb) P sc H (m - l) (m - 1019)
-  high_orders h = record {
-    some = lt_of_lt_of_le P-some (le-add_right P (jam H (m - l)));
-    first = P-lt;
-    second = H-lt;
-    place = above kc m h;
-    ends = λ W cut r R. high_way h W cut r R;
-  }
-    where
-      above : (kc m : ℕ) → kc + 1021 ≤ m → 0 < m - 1019
-      above kc m h = omega arith
+  -- ---- both ways, from the numbers as the program has them: x and y have the factors' digits, and z the addend's
+  module _ (x y z : ℕ) (x_is : x ≡ qa * 2 ^ 10 % 2 ^ 64) (y_is : y ≡ qb * 2 ^ 10 % 2 ^ 64) (z_is : z ≡ qc) (W : ℕ) where
+    P_has : P ≡ x * y
+    P_has = λ i. ten qa x A.short x_is i * ten qb y B.short y_is i
+      where
+        ten : (q x : ℕ) → q < 2 ^ 53 → x ≡ q * 2 ^ 10 % 2 ^ 64 → q * 2 ^ 10 ≡ x
+        ten q x h e = omega arith
 
-  pub low_orders : m < l → Orders a b c sc H (unlike sa sb) P (l - m) (l - 1019)
-  low_orders h = record {
-    some = lt_of_lt_of_le (jam_some P (l - m) P-some) (le-add_left (jam P (l - m)) H);
-    first = H-lt;
-    second = P-lt;
-    place = above kc;
-    ends = λ W cut r R. low_way h W cut r R;
-  }
-    where
-      above : (k : ℕ) → 0 < k + 1021 - 1019
-      above k = omega arith
+    H_has : H ≡ z * 2 ^ 73 % 2 ^ 128
+    H_has = same qc z C.short z_is
+      where
+        same : (q z : ℕ) → q < 2 ^ 53 → z ≡ q → q * 2 ^ 73 ≡ z * 2 ^ 73 % 2 ^ 128
+        same q z h e = omega arith
+
+    pub high_orders : l ≤ m → W ≡ jam (z * 2 ^ 73 % 2 ^ 128) (m - l) → Orders a b c (unlike sa sb) (x * y) sc W (m - 1019)
+    high_orders g e =
+        let cut : W ≡ jam H (m - l) = e ∙ ap (λ (n : ℕ). jam n (m - l)) (sym H_has) in
+        subst (λ (n : ℕ). Orders a b c (unlike sa sb) n sc W (m - 1019)) P_has (record {
+          some = lt_of_lt_of_le P-some (le-add_right P W);
+          room = subst (λ (w : ℕ). P + w < 2 ^ 128) (sym cut) (fits P H (m - l) P-lt H-lt);
+          ends = λ r R. high_way g W cut r R;
+        })
+
+    pub low_orders : m < l → W ≡ jam (x * y) (l - m) → Orders a b c sc (z * 2 ^ 73 % 2 ^ 128) (unlike sa sb) W (l - 1019)
+    low_orders g e =
+        let cut : W ≡ jam P (l - m) = e ∙ ap (λ (n : ℕ). jam n (l - m)) (sym P_has) in
+        subst (λ (n : ℕ). Orders a b c sc n (unlike sa sb) W (l - 1019)) H_has (record {
+          some = lt_of_lt_of_le (subst (λ (w : ℕ). 0 < w) (sym cut) (jam_some P (l - m) P-some)) (le-add_left W H);
+          room = subst (λ (w : ℕ). H + w < 2 ^ 128) (sym cut) (fits H P (l - m) H-lt P-lt);
+          ends = λ r R. low_way g W cut r R;
+        })

@@ -7,12 +7,11 @@ use Rattle.std.proofs.Common.{mul_right_comm, not-le_of_lt, le-mul_of_pos_right,
 use mathlib.Core.Bool.{false≢true}
 use Prim.Native.Nat.{compare, Ordering}
 use native.Mathlib.Nat.{div-eq_of_lt-le}
-use lib.Ieee.{Float, nan, inf, fin, binary64, up, down, size, nearest, units, lt, eq, ne, div, below, of_bits}
+use lib.Ieee.{Float, nan, inf, fin, binary64, up, down, size, nearest, units, lt, eq, below, of_bits, is_nan}
 use lib.Ieee.Digits.{size-lt}
 use lib.Ieee.Fits.{down_pos}
 use lib.Ieee.Exact.{HasValue}
 use lib.Ieee.Scale.{finite}
-use lib.Ieee.Compare.{differs_from_itself}
 use Rattle.float.specs.Sqrt.{root, root_of, sqrt}
 use Rattle.float.specs.Laws.Compare.{cmp_is, lt_or_le}
 use Rattle.float.proofs.Rounded.{size_is}
@@ -189,25 +188,22 @@ oddly q k i t j e f =
     shape q a o b c = simp mul_assoc
 
 -- ---- the other values
-pub of_nan : (x : Float) → ne x x ≡ true → x ≡ sqrt binary64 x
-of_nan x h = is_nan_lem ∙ sym (ap (λ (y : Float). sqrt binary64 y) is_nan_lem ∙ nan_root)
-  where
-    is_nan_lem : x ≡ nan
-    is_nan_lem = differs_from_itself x (subst T (sym h) tt)
+pub of_nan : (x : Float) → is_nan x ≡ true → x ≡ sqrt binary64 x
+unfolding is_nan
+of_nan nan h = unfold sqrt in refl
+of_nan (inf s) h = absurd (false≢true h)
+of_nan (fin s m e) h = absurd (false≢true h)
 
-    nan_root : sqrt binary64 nan ≡ nan
-    nan_root = unfold sqrt in refl
-
-pub of_zero : (x : Float) → ne x x ≡ false → eq x (of_bits binary64 0) ≡ true → x ≡ sqrt binary64 x
-of_zero nan g h = absurd (no g)
+pub of_zero : (x : Float) → eq x (of_bits binary64 0) ≡ true → x ≡ sqrt binary64 x
+of_zero nan h = absurd (no h)
   where
-    no : ne nan nan ≡ false → ⊥
-    no g = true≢false (sym lib.Ieee.Compare.nan_differs ∙ g)
-of_zero (inf s) g h = absurd (no s h)
+    no : eq nan (of_bits binary64 0) ≡ true → ⊥
+    no h = unfold eq of_bits in false≢true h
+of_zero (inf s) h = absurd (no s h)
   where
     no : (s : Bool) → eq (inf s) (of_bits binary64 0) ≡ true → ⊥
     no s h = unfold eq of_bits in false≢true h
-of_zero (fin s m e) g h = ap (λ (y : ℕ). fin s y e) z ∙ sym (ap (λ (y : ℕ). sqrt binary64 (fin s y e)) z ∙ zero_root)
+of_zero (fin s m e) h = ap (λ (y : ℕ). fin s y e) z ∙ sym (ap (λ (y : ℕ). sqrt binary64 (fin s y e)) z ∙ zero_root)
   where
     z : m ≡ 0
     z = zero_of s m e h
@@ -225,10 +221,10 @@ lt_zero s m e = ap (λ (y : Float). lt (fin s m e) y) zero_bits ∙ opened
     opened : lt (fin s m e) (fin false 0 (pos 0)) ≡ below s (m * up e * 1) false (0 * 1 * down e)
     opened = unfold lt in refl
 
--- 0.0 / 0.0
-pub quotient : div binary64 (of_bits binary64 0) (of_bits binary64 0) ≡ nan
-unfolding div of_bits
-quotient = refl
+-- `f64::NAN`
+pub the_nan : of_bits binary64 0x7ff8_0000_0000_0000 ≡ nan
+unfolding of_bits
+the_nan = refl
 
 pub of_negative : (x : Float) → lt x (of_bits binary64 0) ≡ true → nan ≡ sqrt binary64 x
 of_negative nan h = unfold sqrt in refl
@@ -251,14 +247,14 @@ of_negative (fin false m e) h = absurd (no (m * up e * 1) (0 * 1 * down e) (zero
     no : (a b : ℕ) → b ≡ 0 → a < b → ⊥
     no a b z l = omega arith
 
-pub of_infinite : (x : Float) → ne x x ≡ false → lt x (of_bits binary64 0) ≡ false → T (not (finite x)) → x ≡ sqrt binary64 x
-of_infinite nan g h f = unfold sqrt in refl
-of_infinite (inf true) g h f = absurd (no h)
+pub of_infinite : (x : Float) → lt x (of_bits binary64 0) ≡ false → T (not (finite x)) → x ≡ sqrt binary64 x
+of_infinite nan h f = unfold sqrt in refl
+of_infinite (inf true) h f = absurd (no h)
   where
     no : lt (inf true) (of_bits binary64 0) ≡ false → ⊥
     no h = unfold lt of_bits in true≢false h
-of_infinite (inf false) g h f = unfold sqrt in refl
-of_infinite (fin s m e) g h f = absurd f
+of_infinite (inf false) h f = unfold sqrt in refl
+of_infinite (fin s m e) h f = absurd f
 
 -- a finite value that is neither 0.0 nor less has no sign
 pub no_sign : (x : Float) (s : Bool) (q k : ℕ) → Splits x s q k → 0 < q → lt x (of_bits binary64 0) ≡ false → s ≡ false

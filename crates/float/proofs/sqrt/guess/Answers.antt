@@ -1,6 +1,6 @@
 -- `float::sqrt::guess` meets its contract: the pattern that it makes is no NaN's, and of the result only the range is said.
 use Rattle.std.proofs.Common.{◌≤◌, arith}
-use Rattle.float.proofs.sqrt.Guessed.{plain, read, above_no_nan}
+use Rattle.float.proofs.sqrt.Guessed.{plain, read}
 use Rattle.float.proofs.sqrt.guess.Goals as goal
 use Rattle.float.proofs.sqrt.guess.Goals.{else-m-lt9007199254740992, then-m-lt9007199254740992}
 
@@ -12,6 +12,3 @@ float_from_bits-bits c = plain c.if-m-lt9007199254740992.bits (omega (arith, bit
 
 pub estimate-g-requires : goal.estimate-g-requires
 estimate-g-requires c = read c.if-m-lt9007199254740992.bits (omega (arith, bits_le c))
-
-pub digits-requires : goal.digits-requires
-digits-requires c = above_no_nan _ _ c.if-g-2.true

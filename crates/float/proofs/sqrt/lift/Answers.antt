@@ -2,7 +2,7 @@
 -- j of the highest digit and one (`leading_top`), and j is 52 at most.
 use Rattle.std.proofs.Common.{◌≡◌, ℕ, suc, ◌+◌, ◌-◌, ◌*◌, ◌^◌, ◌<◌, ◌≤◌, sym, ap, ◌∙◌, le_trans, le_of_eq, lt_of_lt_of_le, mul-le-mul_right}
 use Rattle.std.proofs.Common.{mul-lt-mul_of_pos_right, lt_of_not-le, not-le_of_lt, arith, pow_pos, pow_mono, pow-add}
-use lib.Count.{count_leading_zeros, leading_le, leading_top}
+use Rattle.std.proofs.lemmas.Nat.{leading_top}
 use Rattle.float.proofs.sqrt.lift.Goals as goal
 
 -- 2 ^ j is at most q, which is below 2 ^ 53
@@ -28,18 +28,13 @@ lifted q j z e a b h = (
 wide : (q : ℕ) → q < 2 ^ 53 → q < 2 ^ 64
 wide q h = omega arith
 
-pub returns-then-q-ge4503599627370496 : goal.returns-then-q-ge4503599627370496
-returns-then-q-ge4503599627370496 c = omega arith
-
-pub overflow_cast-result : goal.overflow_cast-result
-overflow_cast-result c = omega (arith, leading_le 64 c.args.q)
-
 pub overflow_sub-result : goal.overflow_sub-result
-overflow_sub-result c = let q = c.args.q in
-    let t = leading_top 64 q c.requires.0 (wide q c.requires.1) in
-    omega (arith, t.1, place q t.0 t.2 c.requires.1)
+overflow_sub-result c =
+    let t = leading_top 64 c.args.q c.requires.0 (wide c.args.q c.requires.1) in
+    omega (arith, c.from.ensures, t.1, place c.args.q t.0 t.2 c.requires.1)
 
 pub returns : goal.returns
-returns c = let q = c.args.q in
+returns c =
+    let q = c.args.q in
     let t = leading_top 64 q c.requires.0 (wide q c.requires.1) in
-    lifted q t.0 (count_leading_zeros 64 q) t.1 t.2 t.3 (place q t.0 t.2 c.requires.1)
+    lifted q t.0 c.from.result (ap (λ (z : ℕ). z + suc t.0) c.from.ensures ∙ t.1) t.2 t.3 (place q t.0 t.2 c.requires.1)

@@ -3,6 +3,7 @@
 -- the guess decides only how many steps they take.
 use Rattle.std.proofs.Common.{◌≡◌, ℕ, zero, suc, ◌+◌, ◌-◌, ◌*◌, ◌^◌, ◌<◌, ◌≤◌, sym, ◌∙◌, subst, le_trans, lt_of_le_of_lt, mul-le-mul, lt_of_not-le}
 use Rattle.std.proofs.Common.{not-le_of_lt, arith, lit≤, ltb-false, ltb-true}
+use Rattle.std.proofs.Common.{rules}
 use borrow.Author.Tests.{not-true, not-false}
 use Rattle.float.proofs.sqrt.seek.Goals as goal
 
@@ -38,11 +39,11 @@ next q n h = subst (λ (x : ℕ). (q + 1) * x < n) (back q) (lt_of_le_of_lt (le_
 -- what the tests say
 over : (c : goal.In-loop-q) → c.args.m * 2 ^ 52 ≤ c.loop-q.q *
     (c.loop-q.q - 1)
-over c = ltb-false _ _ (sym c.below.ensures ∙ not-true _ c.loop-q-test.true-raw)
+over c = ltb-false _ _ (sym c.below.ensures ∙ not-true _ (search rules))
 
 under : (c : goal.After-loop-q) → c.loop-q.q *
     (c.loop-q.q - 1) < c.args.m * 2 ^ 52
-under c = ltb-true _ _ (sym c.below.ensures ∙ not-false _ c.loop-q-test.false-raw)
+under c = ltb-true _ _ (sym c.below.ensures ∙ not-false _ (search rules))
 
 still : (c : goal.In-loop-q-2) → c.loop-q-2.q *
     (c.loop-q-2.q + 1) < c.args.m * 2 ^ 52

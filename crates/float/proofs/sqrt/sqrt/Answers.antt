@@ -1,57 +1,36 @@
 -- `float::sqrt::sqrt` meets its contract: a NaN, a zero, what is below zero and an infinity
 -- by `Rooted`, and of the rest the root of the digits at an even place.
-use Rattle.std.proofs.Common.{◌≡◌, ℕ, ◌+◌, ◌-◌, ◌*◌, ◌/◌, ◌%◌, ◌^◌, ◌<◌, ◌≤◌, Bool, false, ◌⊎◌, sym, ap, ◌∙◌, subst, inl, inr, arith, rules}
-use lib.Ieee.{Float, binary64}
+use Rattle.std.proofs.Common.{◌≡◌, ℕ, ◌+◌, ◌-◌, ◌*◌, ◌/◌, ◌%◌, ◌^◌, ◌<◌, ◌≤◌, Bool, false, not, T, ◌⊎◌, sym, ap, ◌∙◌, subst, inl, inr, arith, rules}
+use lib.Ieee.{Float, binary64, is_nan, lt, eq, of_bits}
 use Rattle.float.specs.Sqrt.{sqrt, root_of}
 use Rattle.float.specs.Promises.Parts.{Splits}
-use Rattle.float.specs.Laws.Tests.{number_of}
-use Rattle.float.specs.Laws.Zero.{not_finite, is_finite}
 use Rattle.float.proofs.mul_add.Special.{some_digits}
 use Rattle.float.proofs.sqrt.Guessed.{no_sign_bit}
-use Rattle.float.proofs.sqrt.Rooted.{sqrt_at, evenly, oddly, of_nan, of_zero, quotient, of_negative, of_infinite, no_sign}
+use Rattle.float.proofs.sqrt.Rooted.{sqrt_at, evenly, oddly, of_nan, of_zero, the_nan, of_negative, of_infinite, no_sign}
 use Rattle.float.proofs.sqrt.sqrt.Goals as goal
-use Rattle.float.proofs.sqrt.sqrt.Lts as lts
-use Rattle.float.proofs.sqrt.sqrt.Reads as reads
-use Rattle.float.proofs.sqrt.sqrt.Tie as tie
-use Rattle.float.proofs.sqrt.sqrt.Goals.{else-t-eq0, then-t-eq0}
+use Rattle.float.proofs.sqrt.sqrt.Goals.{else-t-eq0, then-t-eq0, then-is_nan-via-then-is_nan, then-is_nan-via-else-is_nan+then-x}
 
-pub returns-then-x : goal.returns-then-x
-returns-then-x c = of_nan c.args.x c.if-x.true
+pub returns-then-is_nan : goal.returns-then-is_nan
+returns-then-is_nan c = elim c.then-is_nan.branch [
+  | then-is_nan-via-then-is_nan w ↦ of_nan c.args.x (search rules)
+  | then-is_nan-via-else-is_nan+then-x w ↦ of_zero c.args.x w.if-x.true
+]
 
 pub returns-then-x-2 : goal.returns-then-x-2
-returns-then-x-2 c = of_zero c.args.x c.if-x.false c.if-x-2.true
+returns-then-x-2 c = the_nan ∙ of_negative c.args.x c.if-x-2.true
 
-pub returns-then-x-3 : goal.returns-then-x-3
-returns-then-x-3 c = quotient ∙ of_negative c.args.x c.if-x-3.true
+pub returns-then-not-is_finite : goal.returns-then-not-is_finite
+returns-then-not-is_finite c = of_infinite c.args.x c.if-x-2.false (search rules)
 
-pub returns-then-x-4 : goal.returns-then-x-4
-returns-then-x-4 c = let x = c.args.x in
-    of_infinite x c.if-x.false c.if-x-3.false (not_finite x c.if-x-4.true)
-
-pub split-p-requires : goal.split-p-requires
-split-p-requires c = is_finite c.args.x c.if-x-4.false
-
--- ---- the digits
-module _ (c : goal.After-split-p) where
-  abbrev x : Float
-  x = c.args.x
-
-  abbrev q : ℕ
-  q = c.split-p.result.q
-
-  some : 0 < q
-  some = some_digits x c.split-p.result.neg q c.split-p.result.k c.split-p.ensures c.if-x-2.false
-
-  -- x is above zero
-  parts : Splits x false q c.split-p.result.k
-  parts = subst (λ (s : Bool). Splits x s q c.split-p.result.k)
-      (no_sign x c.split-p.result.neg q c.split-p.result.k c.split-p.ensures some c.if-x-3.false) c.split-p.ensures
-
-  is_root : sqrt binary64 x ≡ root_of binary64 (q * 2 ^ c.split-p.result.k * 2 ^ 1074)
-  is_root = sqrt_at x q c.split-p.result.k parts some
+-- ---- the digits of an x above zero
+above : (x : Float) (s : Bool) (q k : ℕ) → Splits x s q k → eq x (of_bits binary64 0) ≡ false → lt x (of_bits binary64 0) ≡ false
+    → (0 < q) × Splits x false q k
+above x s q k S e l =
+    let some = some_digits x s q k S e in
+    (some, subst (λ (t : Bool). Splits x t q k) (no_sign x s q k S some l) S)
 
 pub lift-i-requires : goal.lift-i-requires
-lift-i-requires c = (some c, c.split-p.ensures.short)
+lift-i-requires c = ((above c.args.x _ _ _ c.split-p.ensures c.if-x.false c.if-x-2.false).0, c.split-p.ensures.short)
 
 -- ---- the digits at an even place
 -- m at an even place t, or twice m below an odd one
@@ -76,53 +55,59 @@ evened_value q k i t n p (inr (h, e)) = oddly q k i t (t / 2) p (half t h) ∙ a
     half : (t : ℕ) → (t % 2 ≡ 0 → ⊥) → t ≡ 2 * (t / 2) + 1
     half t e = omega arith
 
-module _ (j : goal.Joined-t-eq0) where
-  abbrev l : lts.After-lift tie.the-claims reads.Pre reads.Post
-  l = j.before.before.before
+module _ (c : goal.Joined-t-eq0) where
+  abbrev x : Float
+  x = c.args.x
 
   abbrev i : ℕ
-  i = l.lift-i.result
+  i = c.lift-i.result
+
+  abbrev q : ℕ
+  q = c.split-p.result.q
 
   abbrev k : ℕ
-  k = l.split-p.result.k
+  k = c.split-p.result.k
 
   abbrev t : ℕ
   t = k + 52 - i
 
   -- the digits, 53 of them
   abbrev m : ℕ
-  m = q l.before * 2 ^ i
+  m = q * 2 ^ i
 
-  evened : Evened t m j.if-t-eq0.n
+  parts : (0 < q) × Splits x false q k
+  parts = above x _ q k c.split-p.ensures c.if-x.false c.if-x-2.false
+
+  evened : Evened t m c.if-t-eq0.n
   evened =
-      let m-is = kept m l.lift-i.ensures.2 in
-      elim j.if-t-eq0.branch [
+      let m-is = kept m c.lift-i.ensures.2 in
+      elim c.if-t-eq0.branch [
         | then-t-eq0 w ↦ inl (w.if-t-eq0.true, w.n-is ∙ m-is)
         | else-t-eq0 w ↦ inr (w.if-t-eq0.false, w.n-is ∙ ap (λ (x : ℕ). x * 2) m-is)
       ]
 
-  n_range : (2 ^ 52 ≤ j.if-t-eq0.n) × (j.if-t-eq0.n < 2 ^ 54)
-  n_range = evened_range t m j.if-t-eq0.n l.lift-i.ensures.1 l.lift-i.ensures.2 evened
+  n_range : (2 ^ 52 ≤ c.if-t-eq0.n) × (c.if-t-eq0.n < 2 ^ 54)
+  n_range = evened_range t m c.if-t-eq0.n c.lift-i.ensures.1 c.lift-i.ensures.2 evened
 
   places : i + t ≡ k + 52
-  places = back k i l.lift-i.ensures.0
+  places = back k i c.lift-i.ensures.0
     where
       back : (k i : ℕ) → i ≤ 52 → i + (k + 52 - i) ≡ k + 52
       back k i h = omega arith
 
   room : t / 2 + 485 ≤ 2045
-  room = few k i l.split-p.ensures.place
+  room = few k i c.split-p.ensures.place
     where
       few : (k i : ℕ) → k ≤ 2045 → (k + 52 - i) / 2 + 485 ≤ 2045
       few k i h = omega arith
 
-  root_is : sqrt binary64 (x l.before) ≡ root_of binary64 (j.if-t-eq0.n * 2 ^ 52 * 2 ^ (t / 2 + 485) * 2 ^ (t / 2 + 485))
-  root_is = is_root l.before ∙ ap (λ (n : ℕ). root_of binary64 n) (evened_value (q l.before) k i t j.if-t-eq0.n places evened)
+  root_is : sqrt binary64 x ≡ root_of binary64 (c.if-t-eq0.n * 2 ^ 52 * 2 ^ (t / 2 + 485) * 2 ^ (t / 2 + 485))
+  root_is = sqrt_at x q k parts.1 parts.0 ∙ ap (λ (n : ℕ). root_of binary64 n) (evened_value q k i t c.if-t-eq0.n places evened)
 
 pub estimate-requires : goal.estimate-requires
-estimate-requires c = let s = (l c).before in
-    let number = number_of (x s) s.if-x.false in
-    (number, no_sign_bit (x s) (q s * 2 ^ s.split-p.result.k) (2 ^ 1074) (parts s).value (search rules) number)
+estimate-requires c =
+    let number : T (not (is_nan c.args.x)) = search rules in
+    (number, no_sign_bit c.args.x (q c * 2 ^ k c) (2 ^ 1074) (parts c).1.value (search rules) number)
 
 pub nearest_root-requires : goal.nearest_root-requires
 nearest_root-requires c = ((n_range c.before).0, (n_range c.before).1, room c.before)
