@@ -5,7 +5,7 @@
 
 use listing::check_text::check_text;
 use listing::printed::Printed;
-use text::input::{Input, read};
+use text::input::with_input;
 use text::report::deliver;
 
 // So many bytes always suffice: `room_suffices` of listing's Laws.
@@ -19,11 +19,5 @@ fn answer(rt: &HostRuntime, input: &[u8]) {
 
 fn main(rt: HostRuntime) {
     let mut buffer = [0u8; 65537];
-    let input = read(&mut rt.stdin(), &mut buffer);
-    match input {
-        Input::Bytes(n) => answer(&rt, &buffer[..n]),
-        Input::Failed => {
-            deliver(&rt, &mut rt.stderr(), b"not read\n");
-        }
-    }
+    with_input(&rt, &mut buffer, |input| answer(&rt, input));
 }

@@ -4,26 +4,14 @@ ghost use Rattle.std.proofs.lemmas.List.Edits.{sets};
 ghost use Rattle.digits.specs.Decimal as Decimal;
 ghost use Rattle.digits.specs.Promises.Columns as Columns;
 
-// A digit of a value below 10.
-pub fn figure(d: u64) -> u8
-    requires { d < 10 }
-    ensures { result ≡ Decimal.figure d }
-{
-    48 + d as u8
-}
+use crate::based::{figure, put_based};
 
 // The k lowest digits of n, from `at` on.
 pub fn put_digits(out: &mut [u8], at: usize, k: usize, n: u64)
     requires { at + k ≤ length out.old }
     ensures { out.new ≡ sets out.old at (Decimal.digits k n) }
 {
-    let mut left = n;
-    let mut i = k;
-    while i > 0 {
-        i -= 1;
-        out[at + i] = figure(left % 10);
-        left = left / 10;
-    }
+    put_based::<10>(out, at, k, n);
 }
 
 // The byte before the digits that are left.
@@ -31,13 +19,11 @@ pub fn put_digits(out: &mut [u8], at: usize, k: usize, n: u64)
 fn mark(neg: bool, n: u64) -> u8
     ensures { result ≡ Columns.mark neg n }
 {
-    if n > 0 {
-        return figure(n % 10);
+    match n {
+        1.. => figure(n % 10),
+        0 if neg => b'-',
+        0 => b' ',
     }
-    if neg {
-        return b'-';
-    }
-    b' '
 }
 
 // The digits that are left, a minus and blanks, in k columns from `at` on.
@@ -47,12 +33,10 @@ fn put_before(out: &mut [u8], at: usize, k: usize, neg: bool, n: u64)
 {
     let mut minus = neg;
     let mut left = n;
-    let mut i = k;
-    while i > 0 {
-        i -= 1;
-        out[at + i] = mark(minus, left);
-        minus = minus & (0 < left);
-        left = left / 10;
+    for i in (at..at + k).rev() {
+        out[i] = mark(minus, left);
+        minus &= 0 < left;
+        left /= 10;
     }
 }
 

@@ -1,6 +1,7 @@
 // Digits and other runs of bytes, written into lent slices: hexadecimal, decimal, in columns.
 #![tactic(auto)]
 
+pub mod based;
 pub mod decimal;
 pub mod hex;
 pub mod runs;

@@ -7,11 +7,7 @@ pub fn put(out: &mut [u8], at: usize, s: &[u8])
     requires { at + length s.now ≤ length out.old }
     ensures { out.new ≡ sets out.old at s.now }
 {
-    let mut i = 0usize;
-    while i < s.len() {
-        out[at + i] = s[i];
-        i += 1;
-    }
+    out[at..at + s.len()].copy_from_slice(s);
 }
 
 // The same byte in k places.
@@ -19,9 +15,5 @@ pub fn fill(out: &mut [u8], at: usize, k: usize, b: u8)
     requires { at + k ≤ length out.old }
     ensures { out.new ≡ sets out.old at (replicate k b) }
 {
-    let mut i = 0usize;
-    while i < k {
-        out[at + i] = b;
-        i += 1;
-    }
+    out[at..at + k].fill(b);
 }

@@ -7,12 +7,12 @@
 // 65,536 bytes (32), and one more (too long).
 #![tactic(auto)]
 
-ghost use Rattle.std.specs.Prelude.{◌+◌, ◌*◌, ◌≤◌, ◌<◌, length};
+ghost use Rattle.std.specs.Prelude.{◌+◌, ◌*◌, ◌≤◌, ◌<◌, IfSome, length};
 
 use digits::hex::word;
 use listing::check_text::check_text;
 use listing::printed::Printed;
-use text::input::{Input, read};
+use text::input::with_input;
 use text::lines::{bytes, held, line};
 use text::report::deliver;
 
@@ -24,42 +24,38 @@ fn print(rt: &HostRuntime, input: &[u8]) {
     }
 }
 
-// The number of words of the line at `at`, or 0 where there is none.
-fn words(s: &[u8], at: usize) -> usize
+// The number of words of the line at `at`.
+fn words(s: &[u8], at: usize) -> Option<usize>
     requires { at < length s.now }
-    ensures { 0 < result → at + 17 * result + 2 ≤ length s.now }
+    ensures { IfSome result (λ k. (2 ≤ k) × (at + 17 * k + 2 ≤ length s.now)) }
 {
     if s.len() - at < 36 {
-        return 0;
+        return None;
     }
-    let stored = held(word(s, at + 19), 8192);
+    let stored = held(word(s, at + 19), 8192)?;
     line(s, at, stored + 2)
 }
 
-// The input of the line of k words at `at`.
+// The input of the line of k words at `at`; none where its size is too large.
 fn case(rt: &HostRuntime, s: &[u8], at: usize, k: usize)
-    requires { at + 17 * k + 2 ≤ length s.now }
+    requires { (2 ≤ k) × (at + 17 * k + 2 ≤ length s.now) }
 {
-    if k < 2 {
-        return;
-    }
-    let size = held(word(s, at + 2), 65536);
     let stored = 8 * (k - 2);
     if 65537 < stored {
         return;
     }
-    let mut input = [0u8; 65537];
-    bytes(s, at + 36, k - 2, stored, &mut input);
-    print(rt, &input[..size]);
+    if let Some(size) = held(word(s, at + 2), 65537) {
+        let mut input = [0u8; 65537];
+        bytes(s, at + 36, k - 2, stored, &mut input);
+        print(rt, &input[..size]);
+    }
 }
 
 fn cases(rt: &HostRuntime, s: &[u8]) {
-    let mut at = 0usize;
-    while at < s.len() {
-        let k = words(s, at);
-        if k < 1 {
-            return;
-        }
+    let mut at = 0;
+    while at < s.len()
+        && let Some(k) = words(s, at)
+    {
         case(rt, s, at, k);
         at += 17 * k + 2;
     }
@@ -67,11 +63,5 @@ fn cases(rt: &HostRuntime, s: &[u8]) {
 
 fn main(rt: HostRuntime) {
     let mut buffer = [0u8; 65536];
-    let input = read(&mut rt.stdin(), &mut buffer);
-    match input {
-        Input::Bytes(n) => cases(&rt, &buffer[..n]),
-        Input::Failed => {
-            deliver(&rt, &mut rt.stderr(), b"not read\n");
-        }
-    }
+    with_input(&rt, &mut buffer, |input| cases(&rt, input));
 }

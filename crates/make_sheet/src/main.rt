@@ -5,7 +5,7 @@
 
 use listing::make_text::make_text;
 use sheet::request::REQUEST;
-use text::input::{Input, read};
+use text::input::with_input;
 use text::report::deliver;
 
 fn answer(rt: &HostRuntime, request: &[u8]) {
@@ -23,11 +23,5 @@ const ROOM: usize = REQUEST + 1;
 
 fn main(rt: HostRuntime) {
     let mut request = [0u8; ROOM];
-    let input = read(&mut rt.stdin(), &mut request);
-    match input {
-        Input::Bytes(n) => answer(&rt, &request[..n]),
-        Input::Failed => {
-            deliver(&rt, &mut rt.stderr(), b"not read\n");
-        }
-    }
+    with_input(&rt, &mut request, |input| answer(&rt, input));
 }

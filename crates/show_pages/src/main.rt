@@ -5,7 +5,7 @@
 
 use listing::pages_text::pages_text;
 use listing::printed::Printed;
-use text::input::{Input, read};
+use text::input::with_input;
 use text::lines::room;
 use text::report::deliver;
 
@@ -20,11 +20,5 @@ fn answer(rt: &HostRuntime, input: &[u8]) {
 
 fn main(rt: HostRuntime) {
     let mut buffer = [0u8; 65537];
-    let input = read(&mut rt.stdin(), &mut buffer);
-    match input {
-        Input::Bytes(n) => answer(&rt, &buffer[..n]),
-        Input::Failed => {
-            deliver(&rt, &mut rt.stderr(), b"not read\n");
-        }
-    }
+    with_input(&rt, &mut buffer, |input| answer(&rt, input));
 }

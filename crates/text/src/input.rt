@@ -1,28 +1,35 @@
 // Reading that tells a failed read from the end of the input.
-ghost use Rattle.std.specs.Prelude.{◌≤◌, length};
-ghost use Rattle.text.specs.Promises.Input.{Within, Gives};
+ghost use Rattle.std.specs.Prelude.{◌≤◌, length, IfOk};
+ghost use Rattle.text.specs.Promises.Input.{Gives};
 
+use crate::report::deliver;
+use std::io;
 use std::io::Read;
 
-// How many bytes were read, or that a read failed.
-#[derive(Clone, Copy)]
-pub enum Input {
-    Bytes(usize),
-    Failed,
-}
-
-// Reads until buf is full or the input ends.
-pub fn read<R: Read>(reader: &mut R, buf: &mut [u8]) -> Input
-    ensures within { Within result (length buf.new) }
-    ensures bytes { Gives result (R.remaining reader.old) (R.remaining reader.new) buf.new }
+// Reads until buf is full or the input ends; how many bytes were read.
+pub fn read<R: Read>(reader: &mut R, buf: &mut [u8]) -> io::Result<usize>
+    ensures within { IfOk result (λ n. n ≤ length buf.new) }
+    ensures bytes { IfOk result (λ n. Gives n (R.remaining reader.old) (R.remaining reader.new) buf.new) }
 {
-    let mut done = 0usize;
+    let mut done = 0;
     while done < buf.len() {
-        match reader.read(&mut buf[done..]) {
-            Ok(0) => return Input::Bytes(done),
-            Ok(more) => done += more,
-            Err(_) => return Input::Failed,
+        match reader.read(&mut buf[done..])? {
+            0 => return Ok(done),
+            more => done += more,
         }
     }
-    Input::Bytes(done)
+    Ok(done)
+}
+
+// What a program does of its input: standard input is read into buf, and handed on; a failed read is
+// said on standard error.
+pub fn with_input<F: FnOnce(&[u8])>(rt: &HostRuntime, buf: &mut [u8], answer: F)
+    requires { F.IsAlwaysCallable answer }
+{
+    match read(&mut rt.stdin(), buf) {
+        Ok(n) => answer(&buf[..n]),
+        Err(_) => {
+            deliver(rt, &mut rt.stderr(), b"not read\n");
+        }
+    }
 }

@@ -1,4 +1,5 @@
-// The trigonometry by its letters, on words: a float by its bits.
+// The trigonometry by its letters, on words: a float by its bits. A letter stays a byte and no enum:
+// reading it would be the same match once more.
 use float::number::{bits, of_bits};
 
 // A function of one operand.

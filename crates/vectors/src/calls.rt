@@ -1,5 +1,5 @@
 // A stored call of Sampling or Check, made anew.
-ghost use Rattle.std.specs.Prelude.{◌+◌, ◌*◌, ◌<◌, ◌≤◌, length};
+ghost use Rattle.std.specs.Prelude.{◌+◌, ◌*◌, ◌<◌, ◌≤◌, IfSome, length};
 
 use crate::digest::digest;
 use digits::hex::word;
@@ -10,35 +10,27 @@ use sheet::sample::{Sampled, sample};
 use std::num::wrapping_sub_u64;
 use text::lines::{bytes, held};
 
-// How many words stand before the bytes; 0 for a mark that no operation has.
+// How many words stand before the bytes. A mark stays a byte, since each is read once.
 fn head(mark: u8) -> usize
     ensures { result ≤ 6 }
 {
     match mark {
         b'8' => 5,
         b'9' => 3,
-        b'0' => 6,
-        _ => 0,
+        _ => 6,
     }
 }
 
-// The words that the line at `at` has by its length, or 0 where this is too large.
-pub(crate) fn words(s: &[u8], at: usize) -> usize
+// The words that the line at `at` has by its length, where this is not too large.
+pub(crate) fn words(s: &[u8], at: usize) -> Option<usize>
     requires { at < length s.now }
-    ensures { result ≤ 518 }
+    ensures { IfSome result (λ n. n ≤ 518) }
 {
-    let k = head(s[at]);
-    if k < 1 {
-        return 0;
-    }
     if s.len() - at < 19 {
-        return 0;
+        return None;
     }
-    let n = held(word(s, at + 2), 4096);
-    if 4096 < n {
-        return 0;
-    }
-    k + (n + 7) / 8
+    let n = held(word(s, at + 2), 4096)?;
+    Some(head(s[at]) + n.div_ceil(8))
 }
 
 // The count, or minus 01's number of the refusal, in two's complement.
@@ -57,116 +49,73 @@ fn checked_number(a: Checked) -> u64 {
     }
 }
 
-// The bits that place i of the work is to hold afterwards: those of +0.0 where it was lent, else of
-// the 7.5 that it held beforehand.
-fn expected(i: usize, places: usize) -> u64 {
-    if i < places { 0 } else { 0x401e_0000_0000_0000 }
-}
-
-// Whether every place of the work, of which so many were lent, holds what it is to hold.
+// Whether every place of the work, of which so many were lent, holds what it is to hold: +0.0 where
+// it was lent, else the 7.5 that it held beforehand.
 pub(crate) fn is_cleared(work: &[f64], places: usize) -> bool {
-    let mut good = true;
-    let mut i = 0usize;
-    while i < work.len() {
-        good = good & (bits(work[i]) == expected(i, places));
-        i += 1;
-    }
-    good
+    work.iter().enumerate().all(|(i, x)| bits(*x) == bits(if i < places { 0.0 } else { 7.5 }))
 }
 
-// Sampling, lent the first places of work and the first bytes of output.
-fn run_sample(
-    request: &[u8],
-    work: &mut [f64],
-    places: usize,
-    output: &mut [u8],
-    room: usize,
-) -> u64
-    requires { (places ≤ length work.old) × (room ≤ length output.old) }
-{
-    sampled_number(sample(request, &mut work[..places], &mut output[..room]))
-}
-
-// Whether Sampling answers so, with this digest of the output, and leaves the work as it is to be.
+// Whether Sampling, lent so many places and so many bytes of output, answers so, with this digest of
+// the output, and leaves the work as it is to be.
 fn sample_answers(request: &[u8], places: usize, room: usize, answer: u64, sum: u64) -> bool
     requires { (places ≤ 4096) × (room ≤ 8192) }
 {
-    let mut work = [7.5f64; 4096];
-    let mut output = [165u8; 8192];
-    let found = run_sample(request, &mut work, places, &mut output, room);
-    (found == answer) & (digest(&output) == sum) & is_cleared(&work, places)
+    let mut work = [7.5; 4096];
+    let mut output = [165; 8192];
+    let found = sampled_number(sample(request, &mut work[..places], &mut output[..room]));
+    found == answer && digest(&output) == sum && is_cleared(&work, places)
 }
 
-// Check, lent the first places of work.
-fn run_check(sheet: &[u8], work: &mut [f64], places: usize) -> u64
-    requires { places ≤ length work.old }
-{
-    checked_number(check(sheet, &mut work[..places]))
-}
-
-// Whether Check answers so, and leaves the work as it is to be.
+// Whether Check, lent so many places, answers so, and leaves the work as it is to be.
 fn check_answers(sheet: &[u8], places: usize, answer: u64) -> bool
     requires { places ≤ 4096 }
 {
-    let mut work = [7.5f64; 4096];
-    let found = run_check(sheet, &mut work, places);
-    (found == answer) & is_cleared(&work, places)
+    let mut work = [7.5; 4096];
+    let found = checked_number(check(sheet, &mut work[..places]));
+    found == answer && is_cleared(&work, places)
 }
 
 // The call of Sampling whose line of k words begins at `at`, with a request of n bytes.
-fn sample_agrees(s: &[u8], at: usize, k: usize, n: usize, places: usize) -> bool
+fn sample_agrees(s: &[u8], at: usize, k: usize, n: usize, places: usize) -> Option<bool>
     requires { (at + 17 * k + 2 ≤ length s.now) × (n ≤ 4096) × (places ≤ 4096) }
 {
-    if k < 5 {
-        return false;
+    let stored = k.checked_sub(5)?;
+    if 8 * stored < n {
+        return None;
     }
-    if 8 * (k - 5) < n {
-        return false;
-    }
-    let room = held(word(s, at + 36), 8192);
-    if 8192 < room {
-        return false;
-    }
+    let room = held(word(s, at + 36), 8192)?;
     let answer = word(s, at + 53);
     let sum = word(s, at + 70);
-    let mut request = [0u8; 4096];
-    bytes(s, at + 87, k - 5, n, &mut request);
-    sample_answers(&request[..n], places, room, answer, sum)
+    let mut request = [0; 4096];
+    bytes(s, at + 87, stored, n, &mut request);
+    Some(sample_answers(&request[..n], places, room, answer, sum))
 }
 
 // The call of Check whose line of k words begins at `at`, with a sheet of n bytes.
-fn check_agrees(s: &[u8], at: usize, k: usize, n: usize, places: usize) -> bool
+fn check_agrees(s: &[u8], at: usize, k: usize, n: usize, places: usize) -> Option<bool>
     requires { (at + 17 * k + 2 ≤ length s.now) × (n ≤ 4096) × (places ≤ 4096) }
 {
-    if k < 3 {
-        return false;
-    }
-    if 8 * (k - 3) < n {
-        return false;
+    let stored = k.checked_sub(3)?;
+    if 8 * stored < n {
+        return None;
     }
     let answer = word(s, at + 36);
-    let mut sheet = [0u8; 4096];
-    bytes(s, at + 53, k - 3, n, &mut sheet);
-    check_answers(&sheet[..n], places, answer)
+    let mut sheet = [0; 4096];
+    bytes(s, at + 53, stored, n, &mut sheet);
+    Some(check_answers(&sheet[..n], places, answer))
 }
 
 // Whether the call whose line of k words begins at `at` answers as stored.
-pub(crate) fn agrees(s: &[u8], at: usize, k: usize) -> bool
+pub(crate) fn agrees(s: &[u8], at: usize, k: usize) -> Option<bool>
     requires { at + 17 * k + 2 ≤ length s.now }
 {
     if k < 2 {
-        return false;
+        return None;
     }
-    let n = held(word(s, at + 2), 4096);
-    if 4096 < n {
-        return false;
+    let n = held(word(s, at + 2), 4096)?;
+    let places = held(word(s, at + 19), 4096)?;
+    match s[at] {
+        b'8' => sample_agrees(s, at, k, n, places),
+        _ => check_agrees(s, at, k, n, places),
     }
-    let places = held(word(s, at + 19), 4096);
-    if 4096 < places {
-        return false;
-    }
-    if s[at] == b'8' {
-        return sample_agrees(s, at, k, n, places);
-    }
-    check_agrees(s, at, k, n, places)
 }

@@ -2,7 +2,6 @@
 ghost use Rattle.std.specs.Prelude.{◌≡◌};
 ghost use Rattle.vectors.specs.Digest as Digest;
 
-use digits::hex::wide;
 use std::num::wrapping_add_u64;
 
 // The product with 2^40 + 435, modulo 2^64, by parts that fit.
@@ -18,11 +17,9 @@ fn times_prime(h: u64) -> u64
 pub(crate) fn digest(s: &[u8]) -> u64
     ensures { result ≡ Digest.digest s.now }
 {
-    let mut h = 0xcbf2_9ce4_8422_2325u64;
-    let mut i = 0usize;
-    while i < s.len() {
-        h = times_prime(h ^ wide(s[i]));
-        i += 1;
+    let mut h = 0xcbf2_9ce4_8422_2325;
+    for b in s {
+        h = times_prime(h ^ u64::from(*b));
     }
     h
 }

@@ -44,107 +44,84 @@ mod pages;
 mod parts;
 mod roots;
 
-ghost use Rattle.std.specs.Prelude.{◌+◌, ◌*◌, ◌≤◌, length};
-
 use crate::marks::{agrees, line};
+use std::io;
 use std::io::Write;
-use text::input::{Input, read};
-use text::report::{Tally, deliver};
+use text::input::with_input;
+use text::report::Tally;
 
-// 1 for a sample that differs, else 0.
-fn differs(s: &[u8], at: usize, n: usize) -> u64
-    requires { at + 17 * n + 2 ≤ length s.now }
-    ensures { result ≤ 1 }
-{
-    if agrees(s, at, n) { 0 } else { 1 }
-}
+// The marks in the order in which they are printed, and their names.
+const NAMES: [(u8, &str); 32] = [
+    (b'B', "bits"),
+    (b'F', "is_finite"),
+    (b'P', "is_sign_positive"),
+    (b'A', "abs"),
+    (b'T', "total_le"),
+    (b'R', "rem_euclid"),
+    (b'N', "minimum"),
+    (b'X', "maximum"),
+    (b'C', "clamp"),
+    (b'L', "floor"),
+    (b'M', "mul_add"),
+    (b'S', "sqrt"),
+    (b'E', "product_error"),
+    (b's', "sin"),
+    (b'c', "cos"),
+    (b't', "tan"),
+    (b'h', "hypot"),
+    (b'a', "atan"),
+    (b'q', "atan2"),
+    (b'o', "acos"),
+    (b'i', "asin"),
+    (b'1', "proved"),
+    (b'2', "examples"),
+    (b'3', "generated"),
+    (b'4', "center"),
+    (b'5', "limits"),
+    (b'6', "interval"),
+    (b'7', "pose"),
+    (b'8', "sampling"),
+    (b'9', "check"),
+    (b'D', "decimal"),
+    (b'0', "page"),
+];
 
 // The samples of a mark.
 fn counted(s: &[u8], mark: u8) -> Tally {
-    let mut samples = 0u64;
-    let mut differing = 0u64;
-    let mut at = 0usize;
-    while at < s.len() {
-        let n = line(s, at);
-        if n < 1 {
-            break;
-        }
+    let mut samples = 0;
+    let mut differing = 0;
+    let mut at = 0;
+    while at < s.len()
+        && let Some(n) = line(s, at)
+    {
         if s[at] == mark {
             samples += 1;
-            differing += differs(s, at, n);
+            differing += u64::from(agrees(s, at, n) != Some(true));
         }
         at += 17 * n + 2;
     }
-    let unread = s.len() - at;
     Tally {
         samples,
         differing,
-        unread,
+        unread: s.len() - at,
     }
 }
 
-// Prints the line of a mark; the bytes from the first line on that is no sample.
-fn report<W: Write>(to: &mut W, s: &[u8], mark: u8, name: &[u8]) -> usize {
-    let t = counted(s, mark);
-    text::report::samples(to, name, t);
-    t.unread
-}
-
-fn report_floor<W: Write>(to: &mut W, s: &[u8]) {
-    report(to, s, b'B', b"bits");
-    report(to, s, b'F', b"is_finite");
-    report(to, s, b'P', b"is_sign_positive");
-    report(to, s, b'A', b"abs");
-    report(to, s, b'T', b"total_le");
-    report(to, s, b'R', b"rem_euclid");
-    report(to, s, b'N', b"minimum");
-    report(to, s, b'X', b"maximum");
-    report(to, s, b'C', b"clamp");
-    report(to, s, b'L', b"floor");
-    report(to, s, b'M', b"mul_add");
-    report(to, s, b'S', b"sqrt");
-    report(to, s, b'E', b"product_error");
-}
-
-fn report_angles<W: Write>(to: &mut W, s: &[u8]) {
-    report(to, s, b's', b"sin");
-    report(to, s, b'c', b"cos");
-    report(to, s, b't', b"tan");
-    report(to, s, b'h', b"hypot");
-    report(to, s, b'a', b"atan");
-    report(to, s, b'q', b"atan2");
-    report(to, s, b'o', b"acos");
-    report(to, s, b'i', b"asin");
-}
-
-fn report_layers<W: Write>(to: &mut W, s: &[u8]) -> usize {
-    report(to, s, b'1', b"proved");
-    report(to, s, b'2', b"examples");
-    report(to, s, b'3', b"generated");
-    report(to, s, b'4', b"center");
-    report(to, s, b'5', b"limits");
-    report(to, s, b'6', b"interval");
-    report(to, s, b'7', b"pose");
-    report(to, s, b'8', b"sampling");
-    report(to, s, b'9', b"check");
-    report(to, s, b'D', b"decimal");
-    report(to, s, b'0', b"page")
-}
-
-fn replay<W: Write>(to: &mut W, s: &[u8]) {
-    report_floor(to, s);
-    report_angles(to, s);
-    let rest = report_layers(to, s);
-    text::report::unread(to, rest);
+// Prints a line for each mark, and the bytes from the first line on that is no sample.
+fn replay<W: Write>(to: &mut W, s: &[u8]) -> io::Result<()> {
+    let mut rest = s.len();
+    for (mark, name) in &NAMES {
+        let tally = counted(s, *mark);
+        text::report::samples(to, name.as_bytes(), tally)?;
+        rest = tally.unread;
+    }
+    text::report::unread(to, rest)
 }
 
 fn main(rt: HostRuntime) {
     let mut text = text::lines::room();
-    let input = read(&mut rt.stdin(), &mut text);
-    match input {
-        Input::Bytes(n) => replay(&mut rt.stdout(), &text[..n]),
-        Input::Failed => {
-            deliver(&rt, &mut rt.stderr(), b"not read\n");
-        }
-    }
+    with_input(&rt, &mut text, |input| {
+        // Output that cannot be written is cut short, which its reader sees.
+        let _ = replay(&mut rt.stdout(), input);
+    });
 }

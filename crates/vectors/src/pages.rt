@@ -23,17 +23,17 @@ fn laid_number(a: Laid) -> u64 {
 }
 
 // Whether the float of the line at `at` shows the 16 bytes of its two other words.
-pub(crate) fn decimal_agrees(s: &[u8], at: usize, k: usize) -> bool
+pub(crate) fn decimal_agrees(s: &[u8], at: usize, k: usize) -> Option<bool>
     requires { at + 17 * k + 2 ≤ length s.now }
 {
     if k < 3 {
-        return false;
+        return None;
     }
-    let mut stored = [0u8; 16];
+    let mut stored = [0; 16];
     bytes(s, at + 19, 2, 16, &mut stored);
-    let mut text = [165u8; 16];
+    let mut text = [165; 16];
     let found = laid_number(decimal_text(of_bits(word(s, at + 2)), &mut text));
-    (found == 16) & (digest(&text) == digest(&stored))
+    Some(found == 16 && text == stored)
 }
 
 // What a line says of its call beside the sheet.
@@ -44,66 +44,37 @@ struct Call {
     room: usize,
     answer: u64,
     sum: u64,
+    ghost places_fit: { places ≤ 4096 },
+    ghost room_fits: { room ≤ 8192 },
 }
 
-// Page, lent the first places of work and the first bytes of text.
-fn run_page(
-    sheet: &[u8],
-    page: u64,
-    work: &mut [f64],
-    places: usize,
-    text: &mut [u8],
-    room: usize,
-) -> u64
-    requires { (places ≤ length work.old) × (room ≤ length text.old) }
-{
-    laid_number(page_text(sheet, page, &mut work[..places], &mut text[..room]))
-}
-
-// Whether Page answers so, with this digest of the text, and leaves the work as it is to be.
-fn page_answers(sheet: &[u8], call: Call) -> bool
-    requires { (call.places ≤ 4096) × (call.room ≤ 8192) }
-{
-    let mut work = [7.5f64; 4096];
-    let mut text = [165u8; 8192];
-    let places = call.places;
-    let found = run_page(sheet, call.page, &mut work, places, &mut text, call.room);
-    (found == call.answer) & (digest(&text) == call.sum) & is_cleared(&work, places)
+// Whether Page, lent the first places of work and the first bytes of text, answers so, with this
+// digest of the text, and leaves the work as it is to be.
+fn page_answers(sheet: &[u8], call: Call) -> bool {
+    let mut work = [7.5; 4096];
+    let mut text = [165; 8192];
+    let lent = &mut work[..call.places];
+    let found = laid_number(page_text(sheet, call.page, lent, &mut text[..call.room]));
+    found == call.answer && digest(&text) == call.sum && is_cleared(&work, call.places)
 }
 
 // Whether Page answers as stored, for a call whose line of k words begins at `at`.
-pub(crate) fn agrees(s: &[u8], at: usize, k: usize) -> bool
+pub(crate) fn agrees(s: &[u8], at: usize, k: usize) -> Option<bool>
     requires { at + 17 * k + 2 ≤ length s.now }
 {
-    if k < 6 {
-        return false;
+    let stored = k.checked_sub(6)?;
+    let n = held(word(s, at + 2), 4096)?;
+    if 8 * stored < n {
+        return None;
     }
-    let n = held(word(s, at + 2), 4096);
-    if 4096 < n {
-        return false;
-    }
-    if 8 * (k - 6) < n {
-        return false;
-    }
-    let places = held(word(s, at + 36), 4096);
-    if 4096 < places {
-        return false;
-    }
-    let room = held(word(s, at + 53), 8192);
-    if 8192 < room {
-        return false;
-    }
-    let page = word(s, at + 19);
-    let answer = word(s, at + 70);
-    let sum = word(s, at + 87);
-    let mut sheet = [0u8; 4096];
-    bytes(s, at + 104, k - 6, n, &mut sheet);
     let call = Call {
-        page,
-        places,
-        room,
-        answer,
-        sum,
+        page: word(s, at + 19),
+        places: held(word(s, at + 36), 4096)?,
+        room: held(word(s, at + 53), 8192)?,
+        answer: word(s, at + 70),
+        sum: word(s, at + 87),
     };
-    page_answers(&sheet[..n], call)
+    let mut sheet = [0; 4096];
+    bytes(s, at + 104, stored, n, &mut sheet);
+    Some(page_answers(&sheet[..n], call))
 }

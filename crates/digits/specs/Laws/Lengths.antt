@@ -2,6 +2,7 @@
 use Rattle.std.specs.Prelude.{ℕ, zero, suc, ◌/◌, ◌%◌, ◌*◌, ◌^◌, ◌≤◌, ◌<◌, ◌≡◌, refl, Bool, true, false, [], ◌∷◌, ◌++◌, ltb, length}
 use Rattle.std.proofs.Common.{arith, pow-suc, sym, lit<, length-append, lt-ltb, le-ltb, ltb-true, ltb-false}
 use Rattle.digits.specs.Hex.{spelled}
+use Rattle.digits.specs.Promises.Based as Based
 use Rattle.digits.specs.Decimal.{figure, digits, figures, whole}
 
 pub length_spelled : (k n : ℕ) → length (spelled k n) ≡ k
@@ -13,6 +14,11 @@ pub length_digits : (k n : ℕ) → length (digits k n) ≡ k
 unfolding digits
 length_digits zero n = refl
 length_digits (suc k) n = rw (length-append, length_digits k (n / 10)) (omega arith)
+
+pub length_based : (base k n : ℕ) → length (Based.digits base k n) ≡ k
+unfolding Based.digits
+length_based base zero n = refl
+length_based base (suc k) n = rw (length-append, length_based base k (n / base)) (omega arith)
 
 pub figures_one : (f n : ℕ) → n < 10 → figures f n ≡ figure n ∷ []
 unfolding figures

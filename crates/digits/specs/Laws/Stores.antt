@@ -1,7 +1,9 @@
 -- Runs of stores one after the other are one.
-use Rattle.std.specs.Prelude.{ℕ, suc, ◌+◌, ◌≤◌, ◌≡◌, refl, ◌≢◌, List, [], ◌∷◌, ◌++◌, length, set, drop}
-use Rattle.std.proofs.Common.{arith, add-zero, zero-add, sym, ◌∙◌}
-use Rattle.std.proofs.lemmas.List.Edits.{sets, sets-eq}
+use Rattle.std.specs.Prelude.{ℕ, suc, ◌+◌, ◌-◌, ◌≤◌, ◌<◌, ◌≡◌, refl, ◌≢◌, List, [], ◌∷◌, ◌++◌, length, set, take, drop}
+use Rattle.std.proofs.Common.{arith, add-zero, zero-add, append_assoc, subst, sym, ◌∙◌}
+use Rattle.std.proofs.lemmas.List.Edits.{sets, sets-eq, paste_all}
+use Rattle.std.proofs.lemmas.Slice.{put_mid-paste}
+use borrow.Rule.Slice.PartMut.{put_mid}
 use Rattle.std.proofs.lemmas.List.{set_comm}
 
 module _ {A : Type 0} where
@@ -31,3 +33,16 @@ module _ {A : Type 0} where
   -- the last of a run, stored first
   pub sets_last : (a l : List A) (i k : ℕ) (v : A) → length a ≡ k → sets (set l (i + k) v) i a ≡ sets l i (a ++ (v ∷ []))
   sets_last a l i k v e = rw (sets_append a (v ∷ []) l i, e) (sets_past a l i (i + k) v (omega arith))
+
+  -- the same where the last place is the one before i
+  pub sets_before : (a l : List A) (at i : ℕ) (v : A) → at < i → length a ≡ i - 1 - at → sets (set l (i - 1) v) at a ≡ sets l at (a ++ (v ∷ []))
+  sets_before a l at i v h e =
+      let f : i - 1 ≡ at + (i - 1 - at) = omega arith in
+      subst (λ (j : ℕ). sets (set l j v) at a ≡ sets l at (a ++ (v ∷ []))) (sym f) (sets_last a l at (i - 1 - at) v e)
+
+  -- a part that is written over as a whole
+  pub overwritten : (a l ys : List A) (i k : ℕ) → ys ≡ a → k ≡ length a → i + length a ≤ length l → put_mid i k l ys ≡ sets l i a
+  overwritten a l ys i k e f h =
+      put_mid-paste i k l ys a (length a) e (sym f) refl
+      ∙ paste_all l i a (length a) refl
+      ∙ sym (sets-eq a l i h ∙ append_assoc (take i l) a (drop (i + length a) l))

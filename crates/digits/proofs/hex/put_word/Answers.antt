@@ -1,28 +1,5 @@
-use Rattle.std.proofs.Common.{ℕ, suc, ◌+◌, ◌-◌, ◌/◌, ◌%◌, ◌≤◌, ◌≡◌, List, arith, set, sym, ◌∙◌}
-use Rattle.std.proofs.lemmas.List.Edits.{sets}
-use Rattle.digits.specs.Hex.{spelled, letter}
-use Rattle.digits.specs.Laws.Lengths.{length_spelled}
-use Rattle.digits.specs.Laws.Stores.{sets_last}
+use Rattle.digits.specs.Laws.Based.{spelled_is}
 use Rattle.digits.proofs.hex.put_word.Goals as goal
 
--- a turn stores the last of those that are left
-step : (out : List ℕ) (at m left v : ℕ) → v ≡ letter (left % 16) → sets (set out (at + m) v) at (spelled m (left / 16)) ≡ sets out at (spelled (suc m) left)
-unfolding spelled
-step out at m left v e = sets_last (spelled m (left / 16)) out at m v (length_spelled m (left / 16)) ∙ rw e
-
-done : (out l : List ℕ) (at i left : ℕ) → i ≤ 0 → sets out at (spelled i left) ≡ l → out ≡ l
-unfolding spelled
-done out l at i left h e =
-    let z : i ≡ 0 = omega arith in
-    rw z at e
-
-pub loop-i-preserved : goal.loop-i-preserved
-loop-i-preserved c =
-    let f : c.loop-i.i ≡ suc (c.loop-i.i - 1) = omega arith in
-    record {
-      within = omega arith;
-      stored = step c.loop-i.out c.args.at (c.loop-i.i - 1) c.loop-i.left c.letter.result c.letter.ensures ∙ rw (sym f) c.loop-i.invariant.stored;
-    }
-
 pub returns : goal.returns
-returns c = done _ _ _ _ _ c.loop-i-test.false c.loop-i.invariant.stored
+returns c = rw (← spelled_is 16 c.args.w) c.put_based.ensures

@@ -17,8 +17,8 @@ grown a k n xs ys within fits =
 
 pub loop-done-preserved : goal.loop-done-preserved
 loop-done-preserved g c = record {
-  within = omega (arith, c.in-Ok.ensures.bound.0);
-  given = subst (Consumes _ _) (grown c.loop-done.done (length c.loop-done.buf - c.loop-done.done) c.in-Ok.more c.loop-done.buf
-      c.read.new.buf c.loop-done.invariant.within c.in-Ok.ensures.bound.0)
-      (Consumes-trans _ _ _ _ _ c.loop-done.invariant.given c.in-Ok.ensures.bytes.0);
+  within = omega (arith, c.in_ok-more.ensures.bound.0);
+  given = subst (Consumes _ _) (grown c.loop-done.done (length c.loop-done.buf - c.loop-done.done) c.in_ok-more.more c.loop-done.buf
+      c.read.new.buf c.loop-done.invariant.within c.in_ok-more.ensures.bound.0)
+      (Consumes-trans _ _ _ _ _ c.loop-done.invariant.given c.in_ok-more.ensures.bytes.0);
 }

@@ -1,10 +1,7 @@
 -- `good` says whether the words passed are words.
-use Rattle.std.proofs.Common.{◌≡◌, ◌≤◌, ◌-◌}
+use Rattle.std.proofs.Common.{◌≡◌}
 use Rattle.text.specs.Lines as Lines
 use Rattle.text.proofs.lines.are_words.Given as goal
 
 abbrev pub invariant-loop-i : goal.invariant-loop-i
-invariant-loop-i l = record { within : l.i ≤ l.k; value : l.good ≡ Lines.are_words l.s l.at l.i }
-
-abbrev pub decreases-loop-i : goal.decreases-loop-i
-decreases-loop-i l = l.k - l.i
+invariant-loop-i l = l.good ≡ Lines.are_words l.s l.at l.i
