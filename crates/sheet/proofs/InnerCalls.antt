@@ -1,7 +1,7 @@
 -- For every request that meets none of refusals 1 to 8 and 41, every inner call of the root finder is fair: bounds, coefficients and list are as 02's change 5
 -- says. So refusal 9 never came, and every answer is what it was with it. Of refusals 2 to 8 the arm angles (6) and the offsets (8) are used; a sign byte is
 -- 1 or -1 whatever it is, the matrix lies within 17 in all cases, and a reference need only be a float.
-use Rattle.std.specs.Prelude.{ℕ, ◌≤◌, ◌≡◌, refl, Bool, true, false, cond, List, T}
+use Rattle.std.specs.Prelude.{ℕ, ◌≤◌, ◌≡◌, refl, Bool, true, false, cond, List, T, Option, Some, None}
 use Rattle.std.proofs.Common.{arith, sym, subst, eqb-true}
 use Rattle.std.proofs.lemmas.Bool.{false≢true}
 use Rattle.std.specs.Float.Ieee.{binary64}
@@ -29,8 +29,6 @@ use Rattle.sampling.specs.declared.pose.Quaternion.{Quaternion}
 use Rattle.sampling.specs.declared.pose.Normalized.{Normalized}
 use Rattle.sampling.specs.declared.pose.Normalized.TheVariants.{Unit, NotFinite, Zero}
 use Rattle.sheet.specs.declared.edition.Edition.{Edition}
-use Rattle.sheet.specs.declared.edition.Said.{Said}
-use Rattle.sheet.specs.declared.edition.Said.TheVariants.{Known, Unknown}
 use Rattle.sheet.specs.declared.request.Shape.{Shape}
 use Rattle.sheet.specs.declared.request.Shape.TheVariants.{Bad, Right}
 use Rattle.sheet.specs.declared.request.Field.TheVariants.{Arm, Offset}
@@ -195,10 +193,10 @@ edition_same : (e : Edition) (s : List ℕ) (places : ℕ) → WithNine.check_ed
 unfolding WithNine.check_edition by_edition meets_none
 edition_same e s places = rw (by_request_same e (request_of e s) (accepted 0))
 
-said_same : (k : Said) (s : List ℕ) (places : ℕ) → WithNine.check_said k s places ≡ by_said k s places
+said_same : (k : Option Edition) (s : List ℕ) (places : ℕ) → WithNine.check_said k s places ≡ by_said k s places
 unfolding WithNine.check_said by_said
-said_same (Known e) s places = edition_same e s places
-said_same Unknown s places = refl
+said_same (Some e) s places = edition_same e s places
+said_same None s places = refl
 
 check_same : (upto : Edition) (s : List ℕ) (places : ℕ) → WithNine.check upto s places ≡ Check.answer upto s places
 unfolding WithNine.check Check.answer

@@ -9,13 +9,6 @@ pub enum Edition {
     Two,
 }
 
-// What a number stands for: an edition, or none that is known.
-#[derive(Clone, Copy)]
-pub enum Said {
-    Known(Edition),
-    Unknown,
-}
-
 pub(crate) fn edition_number(e: Edition) -> u64
     ensures { result ≡ Editions.number e }
 {
@@ -32,13 +25,13 @@ pub(crate) fn newest() -> Edition
     Edition::Two
 }
 
-// The edition that has a number, of all up to the newest.
-pub(crate) fn known(k: u16) -> Said
+// The edition that has a number, of all up to the newest, or none that is known.
+pub(crate) fn known(k: u16) -> Option<Edition>
     ensures { result ≡ Editions.known Editions.newest k }
 {
     match k {
-        1 => Said::Known(Edition::One),
-        2 => Said::Known(Edition::Two),
-        _ => Said::Unknown,
+        1 => Some(Edition::One),
+        2 => Some(Edition::Two),
+        _ => None,
     }
 }

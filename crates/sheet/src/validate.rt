@@ -15,14 +15,6 @@ use float::number::is_finite;
 use float::trig::TWO_PI;
 use sampling::pose::{Normalized, Quaternion, try_normalize};
 
-// The rotation, normalized, of a request that meets none of refusals 1 to 8 and 41; or the first
-// that it meets.
-#[derive(Clone, Copy)]
-pub enum Tested {
-    Passed(Quaternion),
-    Refused(Refusal),
-}
-
 // Whether kind and flags are right.
 fn right(s: Shape) -> bool
     ensures { result ≡ Validate.right s }
@@ -156,51 +148,51 @@ fn fields_right(f: Field, request: &[u8], n: usize) -> bool
 }
 
 // 6 to 8: arm angles, references, offsets; for a rotation that is normalized to q.
-fn validate_fields(request: &[u8], q: Quaternion) -> Tested
+fn validate_fields(request: &[u8], q: Quaternion) -> Result<Quaternion, Refusal>
     requires { Request.core_size ≤ length request.now }
     ensures { result ≡ Promise.tested_fields request.now q }
 {
     if !fields_right(Field::Arm, request, 3) {
-        return Tested::Refused(Refusal::Arm);
+        return Err(Refusal::Arm);
     }
     if !fields_right(Field::Reference, request, 6) {
-        return Tested::Refused(Refusal::Reference);
+        return Err(Refusal::Reference);
     }
     if !fields_right(Field::Offset, request, 6) {
-        return Tested::Refused(Refusal::Offset);
+        return Err(Refusal::Offset);
     }
-    Tested::Passed(q)
+    Ok(q)
 }
 
 // Refusals 4 and 5, of the rotation, and then 6 to 8; where none is met, the normalized rotation.
-fn validate_rotation(request: &[u8]) -> Tested
+fn validate_rotation(request: &[u8]) -> Result<Quaternion, Refusal>
     requires { Request.core_size ≤ length request.now }
     ensures { result ≡ Promise.tested_rotation request.now (Pose.try_normalize (Fields.rotation_of request.now)) }
 {
     let n = try_normalize(rotation_of(request));
     match n {
         Normalized::Unit(q) => validate_fields(request, q),
-        Normalized::NotFinite => Tested::Refused(Refusal::NotFinite),
-        Normalized::Zero => Tested::Refused(Refusal::Zero),
+        Normalized::NotFinite => Err(Refusal::NotFinite),
+        Normalized::Zero => Err(Refusal::Zero),
     }
 }
 
-// Refusals 1 to 8 of a request of an edition, in order, 41 after 2; where none is met, the
-// normalized rotation.
-pub(crate) fn validate(e: Edition, request: &[u8]) -> Tested
+// The first of refusals 1 to 8 that a request of an edition meets, in order, 41 after 2; where none
+// is met, the normalized rotation.
+pub(crate) fn validate(e: Edition, request: &[u8]) -> Result<Quaternion, Refusal>
     ensures { result ≡ Promise.tested e request.now }
 {
     if request.len() != request_size(e) {
-        return Tested::Refused(Refusal::Length);
+        return Err(Refusal::Length);
     }
     if !head_right(request) {
-        return Tested::Refused(Refusal::Head);
+        return Err(Refusal::Head);
     }
     if !name_right(request) {
-        return Tested::Refused(Refusal::Name);
+        return Err(Refusal::Name);
     }
     if !signs_right(request) {
-        return Tested::Refused(Refusal::Sign);
+        return Err(Refusal::Sign);
     }
     validate_rotation(request)
 }

@@ -1,5 +1,5 @@
 -- What inner functions find of a request that passed its tests is what the definitions say of it.
-use Rattle.std.specs.Prelude.{ℕ, ◌≡◌, refl, ◌⊎◌, List, [], ◌∷◌, Bool, cond, ◌&&◌, length, get_or, T, eqb, leb, Float}
+use Rattle.std.specs.Prelude.{ℕ, ◌≡◌, refl, ◌⊎◌, List, [], ◌∷◌, Bool, cond, ◌&&◌, length, get_or, T, eqb, leb, Float, Result, Ok, Err}
 use Rattle.std.proofs.Common.{arith, sym, subst, ◌∙◌, inl, inr, leb-true}
 use Rattle.std.proofs.Math.Path.{ap}
 use Rattle.std.proofs.Math.Bool.{true, false}
@@ -28,7 +28,6 @@ use Rattle.sampling.specs.declared.pose.Quaternion.{Quaternion}
 use Rattle.sheet.specs.Edition.{newest}
 use Rattle.sheet.specs.declared.edition.Edition.{Edition}
 use Rattle.sheet.specs.declared.refusals.Refusal.{Refusal}
-use Rattle.sheet.specs.declared.validate.Tested.{Tested}
 use Rattle.sheet.specs.declared.request.Shape.{Shape}
 use Rattle.sheet.specs.declared.request.Shape.TheVariants.{Bad, Right}
 use Rattle.sheet.specs.declared.request.Field.TheVariants.{Sign, Reference, Offset}
@@ -46,7 +45,6 @@ use Rattle.sheet.specs.Laws.Bytes.{floats_words}
 use Rattle.sheet.specs.Laws.Sampling.{length_items}
 use Rattle.sheet.specs.Laws.Tested.{passed_validate, tested_refused, passed_reference, passed_offset}
 use Rattle.sheet.specs.Refusals as Refusals
-use Rattle.sheet.specs.declared.validate.Tested.TheVariants as tests
 
 -- ---- kind 3 reads sign, offset and reference of joint 1
 
@@ -150,12 +148,12 @@ module _ (p : Plan) (w : List Float) (c : Cursor) (t : Step) (g : Ready p w) (e 
 
 -- ---- work, before it is cleared
 
-pub left_passed : (e : Edition) (r : List ℕ) (q : Quaternion) (v w : List Float) → tested e r ≡ tests.Passed q → w ≡ work_after (job_of r) v
+pub left_passed : (e : Edition) (r : List ℕ) (q : Quaternion) (v w : List Float) → tested e r ≡ Ok q → w ≡ work_after (job_of r) v
     → w ≡ work_left e r v
-left_passed e r q v w h f = f ∙ sym (ap (λ (t : Tested). work_tested t r v) h)
+left_passed e r q v w h f = f ∙ sym (ap (λ (t : Result Quaternion Refusal). work_tested t r v) h)
 
-pub left_refused : (e : Edition) (r : List ℕ) (k : Refusal) (w : List Float) → tested e r ≡ tests.Refused k → w ≡ work_left e r w
-left_refused e r k w h = sym (ap (λ (t : Tested). work_tested t r w) h)
+pub left_refused : (e : Edition) (r : List ℕ) (k : Refusal) (w : List Float) → tested e r ≡ Err k → w ≡ work_left e r w
+left_refused e r k w h = sym (ap (λ (t : Result Quaternion Refusal). work_tested t r w) h)
 
 -- ---- Sampling
 
@@ -163,12 +161,12 @@ pub passed_answer : (r : List ℕ) (places room : ℕ) → Passed newest r → p
 unfolding answer by_work planned_answer
 passed_answer r places room p = sym (passed_validate newest r _ p)
 
-pub refused_answer : (r : List ℕ) (k : Refusal) (places room : ℕ) → tested newest r ≡ tests.Refused k → Refusals.refused (number k) ≡ answer r places room
+pub refused_answer : (r : List ℕ) (k : Refusal) (places room : ℕ) → tested newest r ≡ Err k → Refusals.refused (number k) ≡ answer r places room
 unfolding answer by_work
 refused_answer r k places room e = sym (tested_refused newest r k _ e)
 
 -- ---- Check
 
-pub refused_meets : (e : Edition) (r : List ℕ) (k : Refusal) → tested e r ≡ tests.Refused k → meets_none e r ≡ false
+pub refused_meets : (e : Edition) (r : List ℕ) (k : Refusal) → tested e r ≡ Err k → meets_none e r ≡ false
 unfolding meets_none
 refused_meets e r k h = ap is_accepted (tested_refused e r k _ h)

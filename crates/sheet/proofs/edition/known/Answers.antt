@@ -4,10 +4,11 @@ use mathlib.Core.Bool.{Bool, true, false, cond}
 use lib.Dec.{leb}
 use borrow.Author.Tests.{ne_eqb}
 use Rattle.sheet.specs.Edition.{number, newest, known, numbered}
-use Rattle.sheet.specs.declared.edition.Said.TheVariants.{Unknown}
+use Rattle.sheet.specs.declared.edition.Edition.{Edition}
+use Rattle.std.specs.Prelude.{Option, None}
 use Rattle.sheet.proofs.edition.known.Goals as goal
 
-either : (b : Bool) → Unknown ≡ cond b Unknown Unknown
+either : (b : Bool) → ◌≡◌ {A = Option Edition} None (cond b None None)
 either true = refl
 either false = refl
 
