@@ -30,7 +30,6 @@ use Rattle.sampling.specs.declared.pose.Normalized.{Normalized}
 use Rattle.sampling.specs.declared.pose.Normalized.TheVariants.{Unit, NotFinite, Zero}
 use Rattle.sheet.specs.declared.edition.Edition.{Edition}
 use Rattle.sheet.specs.declared.request.Shape.{Shape}
-use Rattle.sheet.specs.declared.request.Shape.TheVariants.{Bad, Right}
 use Rattle.sheet.specs.declared.request.Field.TheVariants.{Arm, Offset}
 use Rattle.sheet.specs.Edition.{known}
 use Rattle.sheet.specs.Request.{shape_of, reads}
@@ -72,15 +71,15 @@ rotation_fits r = record { x = of_bits-fits binary64 _; y = of_bits-fits binary6
 
 -- ---- what each kind reads
 
-arm_reads : (s : Shape) (k : Kind) (q : ℕ) → right s ≡ true → kind_of s ≡ k → T (arm_read k q) → T (reads s Arm q)
+arm_reads : (s : Option Shape) (k : Kind) (q : ℕ) → right s ≡ true → kind_of s ≡ k → T (arm_read k q) → T (reads s Arm q)
 unfolding right kind_of reads
-arm_reads Bad k q h e t = absurd (false≢true h)
-arm_reads (Right j l f) k q h e t = subst (λ (x : Kind). T (arm_read x q)) (sym e) t
+arm_reads None k q h e t = absurd (false≢true h)
+arm_reads (Some s) k q h e t = subst (λ (x : Kind). T (arm_read x q)) (sym e) t
 
-offset_reads : (s : Shape) (k : Kind) (j : ℕ) → right s ≡ true → kind_of s ≡ k → T (joint_read k (limited_of s) (fixed_of s) j) → T (reads s Offset j)
+offset_reads : (s : Option Shape) (k : Kind) (j : ℕ) → right s ≡ true → kind_of s ≡ k → T (joint_read k (limited_of s) (fixed_of s) j) → T (reads s Offset j)
 unfolding right kind_of limited_of fixed_of reads
-offset_reads Bad k j h e t = absurd (false≢true h)
-offset_reads (Right i l f) k j h e t = subst (λ (x : Kind). T (joint_read x l f j)) (sym e) t
+offset_reads None k j h e t = absurd (false≢true h)
+offset_reads (Some s) k j h e t = subst (λ (x : Kind). T (joint_read x s.limits s.fixed j)) (sym e) t
 
 -- kind 3 with limits reads joints 4, 5 and, unless fixed, 6
 fourth_read : (l f : Bool) → T l → T (joint_read J1j2free l f 4)

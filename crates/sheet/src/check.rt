@@ -11,13 +11,14 @@ ghost use Rattle.sheet.specs.Sheet as Sheet;
 ghost use Rattle.sheet.specs.Check as Check;
 ghost use Rattle.sheet.specs.Promises.Plan as Promise;
 
-use crate::bytes::{half, pair, same_at, same_float};
+use crate::bytes::{bytes_at, same_at, same_float};
 use crate::edition::{Edition, known};
 use crate::plan::{is_short, plan_request};
 use crate::refusals::Fault;
 use crate::request::unread_zero;
 use crate::trailer::{ITEMS_BOUND, LEAST, TRAILER, frame_size, put_trailer};
 use crate::validate::validate;
+use crate::view::View;
 use sampling::lists::Plan;
 use sampling::plan::{next, start};
 use sampling::stream::Step;
@@ -57,7 +58,7 @@ fn count_of(sheet: &[u8]) -> usize
     ensures upper_bound { result < 2 ^ 32 }
 {
     let at = sheet.len() - TRAILER;
-    half(sheet, at) as usize
+    u32::from_le_bytes(bytes_at(sheet, at)) as usize
 }
 
 // The edition that the trailer says.
@@ -66,7 +67,7 @@ fn edition_of(sheet: &[u8]) -> Option<Edition>
     ensures { result ≡ known newest (Check.edition_of sheet.now) }
 {
     let at = sheet.len() - TRAILER;
-    known(pair(sheet, at + 8))
+    known(u16::from_le_bytes(bytes_at(sheet, at + 8)))
 }
 
 // 32: the length is that of n angles, 8n is a u32, and the trailer is theirs.
@@ -88,12 +89,12 @@ fn formed(e: Edition, sheet: &[u8], n: usize) -> bool
 }
 
 // 34 to 36.
-fn compare(s: &[u8], request: &[u8], work: &[f64], plan: Plan, n: usize) -> Result<usize, Fault>
-    requires in_bounds { Request.core_size ≤ length request.now }
-    requires planned_for { Promise.PlannedFor request.now plan work.now }
-    ensures { Check.answer_of result ≡ Promise.compared request.now s.now n (length work.now) }
+#[tactic(auto, unfolding(crate::specs::Promises::Plan::compared, crate::specs::Refusals::need))]
+fn compare(s: &[u8], view: View, work: &[f64], plan: Plan, n: usize) -> Result<usize, Fault>
+    requires { Promise.PlannedFor view.request.now plan work.now }
+    ensures { Check.answer_of result ≡ Promise.compared view.entry.request.now s.now n (length work.now) }
 {
-    if !unread_zero(request) {
+    if !unread_zero(view) {
         return Err(Fault::Unread);
     }
     if is_short(plan) {
@@ -119,8 +120,9 @@ fn check_request(
     let Ok(q) = validate(e, request) else {
         return Err(Fault::Request);
     };
-    let plan = plan_request(work, request, q);
-    compare(s, request, work, plan, n)
+    let view = View { request };
+    let plan = plan_request(work, view, q);
+    compare(s, view, work, plan, n)
 }
 
 // 32 to 36 of a sheet that says this edition.

@@ -9,7 +9,7 @@ pub enum Edition {
     Two,
 }
 
-pub(crate) fn edition_number(e: Edition) -> u64
+pub(crate) fn edition_number(e: Edition) -> u16
     ensures { result ≡ Editions.number e }
 {
     match e {
@@ -26,6 +26,7 @@ pub(crate) fn newest() -> Edition
 }
 
 // The edition that has a number, of all up to the newest, or none that is known.
+#[tactic(auto, unfolding(crate::specs::Edition::known, crate::specs::Edition::numbered))]
 pub(crate) fn known(k: u16) -> Option<Edition>
     ensures { result ≡ Editions.known Editions.newest k }
 {

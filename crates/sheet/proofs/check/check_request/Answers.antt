@@ -9,11 +9,15 @@ use Rattle.sheet.specs.Laws.Places.{core_least}
 use Rattle.sheet.specs.Laws.Tested.{tested_passed, tested_unit}
 use Rattle.sheet.proofs.check.check_request.Goals as goal
 
+pub invariant_of-view : goal.invariant_of-view
+invariant_of-view c = let g = tested_passed c.args.e _ _ (sym c.validate.ensures ∙ c.in-Ok.is) in
+    record { whole = omega (arith, g.whole, core_least c.args.e) }
+
 pub plan_request-plan-requires : goal.plan_request-plan-requires
 plan_request-plan-requires c = let e = sym c.validate.ensures ∙ c.in-Ok.is in
     let a = c.args in
     let g = tested_passed a.e _ _ e in
-    record { in_bounds = omega (arith, g.whole, core_least a.e); request_value = tested_unit a.e _ _ e; drawable = passed_drawable _ g }
+    record { request_value = tested_unit a.e _ _ e; drawable = passed_drawable _ g }
 
 pub compare-requires : goal.compare-requires
 compare-requires c = let e = sym c.validate.ensures ∙ c.in-Ok.is in
@@ -21,7 +25,7 @@ compare-requires c = let e = sym c.validate.ensures ∙ c.in-Ok.is in
     let g = tested_passed _ _ _ e in
     let a = c.args in
     let f = planned_for _ g p.result a.work.now p.new.work p.ensures.value p.ensures.work_after p.auto.work in
-    record { in_bounds = omega (arith, g.whole, core_least a.e); planned_for = f }
+    f
 
 pub returns : goal.returns
 unfolding checked need

@@ -19,10 +19,14 @@ use Rattle.sheet.proofs.sample.run.Goals as goal
 now_newest : {e : Edition} {t : Result Quaternion Refusal} (r : List ℕ) → e ≡ newest → t ≡ tested e r → tested newest r ≡ t
 now_newest r f h = sym (h ∙ ap (λ (e : Edition). tested e r) f)
 
+pub invariant_of-view : goal.invariant_of-view
+invariant_of-view c = let g = tested_passed newest _ _ (now_newest _ c.newest.ensures c.validate.ensures ∙ c.in_ok-q.was) in
+    record { whole = omega (arith, g.whole) }
+
 pub plan_request-plan-requires : goal.plan_request-plan-requires
 plan_request-plan-requires c = let e = now_newest _ c.newest.ensures c.validate.ensures ∙ c.in_ok-q.was in
     let g = tested_passed newest _ _ e in
-    record { in_bounds = omega (arith, g.whole); request_value = tested_unit newest _ _ e; drawable = passed_drawable _ g }
+    record { request_value = tested_unit newest _ _ e; drawable = passed_drawable _ g }
 
 pub finish-requires : goal.finish-requires
 finish-requires c = let e = now_newest _ c.newest.ensures c.validate.ensures ∙ c.in_ok-q.was in
