@@ -11,6 +11,9 @@ use Rattle.sheet.specs.declared.refusals.Refusal.{Refusal}
 use Rattle.sheet.specs.declared.refusals.Fault.{Fault}
 use Rattle.sheet.specs.declared.refusals.Refusal.TheVariants as refusal
 use Rattle.sheet.specs.declared.refusals.Fault.TheVariants as fault
+use Rattle.page.specs.Operation as Operation
+use Rattle.page.specs.declared.refusals.Refusal as Page
+use Rattle.page.specs.declared.refusals.Refusal.TheVariants as page
 
 pub number_small : (k : Refusal) → number k < 64
 number_small refusal.Length = omega arith
@@ -32,6 +35,11 @@ fault_small fault.Request = omega arith
 fault_small fault.Unread = omega arith
 fault_small fault.Work = omega arith
 fault_small fault.Angles = omega arith
+
+pub page_small : (k : Page.Refusal) → Operation.number k < 64
+page_small (page.Sheet f) = fault_small f
+page_small page.NoPage = omega arith
+page_small page.Short = omega arith
 
 module _ (k : ℕ) (h : k < 64) where
   pub fits_pos : SFits w64 (pos k)

@@ -8,19 +8,16 @@ ghost use Rattle.page.specs.Decimal as Decimal;
 ghost use Rattle.page.specs.Operation as Operation;
 
 use float::number::of_bits;
-use page::laid::Laid;
-use sheet::refusals::fault_number;
+use page::refusals::{Refusal, refusal_number};
 
 // The text's length, or minus the refusal's number.
-fn laid_number(a: Laid) -> i64
+fn laid_number(a: Result<usize, Refusal>) -> i64
     requires { (n : ℕ) → Operation.answer_of a ≡ Refusals.accepted n → n < 2 ^ 63 }
     ensures { result ≡ Refusals.signed (Operation.answer_of a) }
 {
     match a {
-        Laid::Text(n) => n as i64,
-        Laid::Refused(f) => -(fault_number(f) as i64),
-        Laid::NoPage => -43,
-        Laid::Short => -42,
+        Ok(n) => n as i64,
+        Err(k) => -(refusal_number(k) as i64),
     }
 }
 

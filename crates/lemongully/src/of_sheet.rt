@@ -6,28 +6,28 @@ ghost use Rattle.sheet.specs.Refusals as Refusals;
 ghost use Rattle.sheet.specs.Sampling as Sampling;
 ghost use Rattle.sheet.specs.Check as Check;
 
-use sheet::check::{Checked, check};
-use sheet::refusals::{fault_number, refusal_number};
-use sheet::sample::{Sampled, sample};
+use sheet::check::check;
+use sheet::refusals::{Fault, Refusal, fault_number, refusal_number};
+use sheet::sample::sample;
 
 // The count, or minus the refusal's number.
-fn sampled_number(a: Sampled) -> i64
+fn sampled_number(a: Result<usize, Refusal>) -> i64
     requires { (n : ℕ) → Sampling.answer_of a ≡ Refusals.accepted n → n < 2 ^ 63 }
     ensures { result ≡ Refusals.signed (Sampling.answer_of a) }
 {
     match a {
-        Sampled::Angles(n) => n as i64,
-        Sampled::Refused(k) => -(refusal_number(k) as i64),
+        Ok(n) => n as i64,
+        Err(k) => -(refusal_number(k) as i64),
     }
 }
 
-fn checked_number(a: Checked) -> i64
+fn checked_number(a: Result<usize, Fault>) -> i64
     requires { (n : ℕ) → Check.answer_of a ≡ Refusals.accepted n → n < 2 ^ 63 }
     ensures { result ≡ Refusals.signed (Check.answer_of a) }
 {
     match a {
-        Checked::Accepted(n) => n as i64,
-        Checked::Refused(f) => -(fault_number(f) as i64),
+        Ok(n) => n as i64,
+        Err(f) => -(fault_number(f) as i64),
     }
 }
 

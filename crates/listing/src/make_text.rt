@@ -3,7 +3,7 @@ ghost use Rattle.std.specs.Prelude.{◌≡◌, ◌≤◌, length};
 ghost use Rattle.listing.specs.Listing as Listing;
 
 use sheet::refusals::refusal_number;
-use sheet::sample::{Sampled, sample};
+use sheet::sample::sample;
 use sheet::trailer::FRAME;
 use text::decimal::put_number;
 
@@ -26,11 +26,11 @@ pub fn make_text(request: &[u8], output: &mut [u8], error: &mut [u8]) -> Made
     let mut work = [0.0f64; 4096];
     let a = sample(request, &mut work, output);
     match a {
-        Sampled::Angles(n) => Made {
+        Ok(n) => Made {
             output: 8 * n + FRAME,
             error: 0,
         },
-        Sampled::Refused(k) => Made {
+        Err(k) => Made {
             output: 0,
             error: put_number(error, b"refused ", refusal_number(k)),
         },

@@ -10,7 +10,7 @@ ghost use Rattle.listing.specs.Pages as Pages;
 use crate::printed::{Printed, print};
 use page::lines::LINE;
 use page::page::{PER_PAGE, pages, put_page};
-use sheet::check::{Checked, check};
+use sheet::check::check;
 use sheet::refusals::{Fault, fault_number};
 use text::decimal::put_number;
 
@@ -71,7 +71,7 @@ pub fn pages_text(input: &[u8], text: &mut [u8]) -> Printed
     let mut work = [0.0f64; 4096];
     let checked = check(input, &mut work);
     match checked {
-        Checked::Accepted(n) => print_pages(text, input, n),
-        Checked::Refused(f) => print_refusal(text, f),
+        Ok(n) => print_pages(text, input, n),
+        Err(f) => print_refusal(text, f),
     }
 }

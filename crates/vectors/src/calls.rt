@@ -4,9 +4,9 @@ ghost use Rattle.std.specs.Prelude.{◌+◌, ◌*◌, ◌<◌, ◌≤◌, IfSome
 use crate::digest::digest;
 use digits::hex::word;
 use float::number::bits;
-use sheet::check::{Checked, check};
-use sheet::refusals::{fault_number, refusal_number};
-use sheet::sample::{Sampled, sample};
+use sheet::check::check;
+use sheet::refusals::{Fault, Refusal, fault_number, refusal_number};
+use sheet::sample::sample;
 use std::num::wrapping_sub_u64;
 use text::lines::{bytes, held};
 
@@ -34,18 +34,18 @@ pub(crate) fn words(s: &[u8], at: usize) -> Option<usize>
 }
 
 // The count, or minus 01's number of the refusal, in two's complement.
-fn sampled_number(a: Sampled) -> u64 {
+fn sampled_number(a: Result<usize, Refusal>) -> u64 {
     match a {
-        Sampled::Angles(n) => n as u64,
-        Sampled::Refused(k) => wrapping_sub_u64(0, refusal_number(k)),
+        Ok(n) => n as u64,
+        Err(k) => wrapping_sub_u64(0, refusal_number(k)),
     }
 }
 
 // The number of Check's answer, as it is stored.
-fn checked_number(a: Checked) -> u64 {
+fn checked_number(a: Result<usize, Fault>) -> u64 {
     match a {
-        Checked::Accepted(n) => n as u64,
-        Checked::Refused(f) => wrapping_sub_u64(0, fault_number(f)),
+        Ok(n) => n as u64,
+        Err(f) => wrapping_sub_u64(0, fault_number(f)),
     }
 }
 

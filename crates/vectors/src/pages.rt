@@ -6,19 +6,16 @@ use crate::digest::digest;
 use digits::hex::word;
 use float::number::of_bits;
 use page::decimal::decimal_text;
-use page::laid::Laid;
 use page::page::page_text;
-use sheet::refusals::fault_number;
+use page::refusals::{Refusal, refusal_number};
 use std::num::wrapping_sub_u64;
 use text::lines::{bytes, held};
 
 // The text's length, or minus 02's number of the refusal, in two's complement.
-fn laid_number(a: Laid) -> u64 {
+fn laid_number(a: Result<usize, Refusal>) -> u64 {
     match a {
-        Laid::Text(n) => n as u64,
-        Laid::Refused(f) => wrapping_sub_u64(0, fault_number(f)),
-        Laid::NoPage => wrapping_sub_u64(0, 43),
-        Laid::Short => wrapping_sub_u64(0, 42),
+        Ok(n) => n as u64,
+        Err(k) => wrapping_sub_u64(0, refusal_number(k)),
     }
 }
 

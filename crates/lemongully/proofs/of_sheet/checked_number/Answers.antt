@@ -6,23 +6,24 @@ use mir.Syntax.{w64}
 use mir.ValLaws.{to_z-of_z}
 use Rattle.sheet.specs.Refusals.{signed}
 use Rattle.sheet.specs.Check.{answer_of}
-use Rattle.sheet.specs.declared.check.Checked.{Checked}
+use Rattle.std.specs.Prelude.{Result}
+use Rattle.sheet.specs.declared.refusals.Fault.{Fault}
 use Rattle.lemongully.proofs.Signed.{fault_small, fits_pos, fits_negative, reads_negative}
 use Rattle.lemongully.proofs.of_sheet.checked_number.Goals as goal
 
 pub overflow_cast-result : goal.overflow_cast-result
-overflow_cast-result c = record { sfits = c.requires _ (ap answer_of c.in-Accepted.is) }
+overflow_cast-result c = record { sfits = c.requires _ (ap answer_of c.in-Ok.is) }
 
-pub overflow_cast-result-in-Refused : goal.overflow_cast-result-in-Refused
-overflow_cast-result-in-Refused c = fits_pos _ (subst⁻¹ (λ (n : ℕ). n < 64) c.fault_number.ensures (fault_small c.in-Refused.f))
+pub overflow_cast-result-in-Err : goal.overflow_cast-result-in-Err
+overflow_cast-result-in-Err c = fits_pos _ (subst⁻¹ (λ (n : ℕ). n < 64) c.fault_number.ensures (fault_small c.in-Err.f))
 
 pub overflow_sub-result : goal.overflow_sub-result
-overflow_sub-result c = fits_negative _ (subst⁻¹ (λ (n : ℕ). n < 64) c.fault_number.ensures (fault_small c.in-Refused.f))
+overflow_sub-result c = fits_negative _ (subst⁻¹ (λ (n : ℕ). n < 64) c.fault_number.ensures (fault_small c.in-Err.f))
 
-pub returns-in-Accepted : goal.returns-in-Accepted
-returns-in-Accepted c = to_z-of_z w64 (pos c.in-Accepted.n) (overflow_cast-result c) ∙ sym (ap (λ (x : Checked). signed (answer_of x)) c.in-Accepted.is)
+pub returns-in-Ok : goal.returns-in-Ok
+returns-in-Ok c = to_z-of_z w64 (pos c.in-Ok.n) (overflow_cast-result c) ∙ sym (ap (λ (x : Result ℕ Fault). signed (answer_of x)) c.in-Ok.is)
 
-pub returns-in-Refused : goal.returns-in-Refused
-returns-in-Refused c = let e = c.fault_number.ensures in
-    reads_negative _ (subst⁻¹ (λ (n : ℕ). n < 64) e (fault_small c.in-Refused.f)) ∙ ap (λ (n : ℕ). neg_ℤ (pos n)) e
-    ∙ sym (ap (λ (x : Checked). signed (answer_of x)) c.in-Refused.is)
+pub returns-in-Err : goal.returns-in-Err
+returns-in-Err c = let e = c.fault_number.ensures in
+    reads_negative _ (subst⁻¹ (λ (n : ℕ). n < 64) e (fault_small c.in-Err.f)) ∙ ap (λ (n : ℕ). neg_ℤ (pos n)) e
+    ∙ sym (ap (λ (x : Result ℕ Fault). signed (answer_of x)) c.in-Err.is)
