@@ -42,8 +42,8 @@ fn transverse_range(
     ensures { Pushed 4 (Of.transverse_range radius azimuth extreme range) n out.old result out.new }
 {
     match range {
-        Range::Nothing => n,
-        Range::Between(lower, upper) => {
+        None => n,
+        Some((lower, upper)) => {
             let a = sin_cos(lower);
             let m = transverse(radius, azimuth, extreme * a.sine, out, n);
             let b = sin_cos(upper);
@@ -89,8 +89,8 @@ fn axes_range(m: Matrix, q5: SinCos, range: Range, out: &mut [f64], n: usize) ->
     ensures { Pushed 4 (Of.axes_range m q5 range) n out.old result out.new }
 {
     match range {
-        Range::Nothing => n,
-        Range::Between(lower, upper) => {
+        None => n,
+        Some((lower, upper)) => {
             let k = axis_angles(arm_axis(m, q5, sin_cos(lower)), out, n);
             axis_angles(arm_axis(m, q5, sin_cos(upper)), out, k)
         }
@@ -125,8 +125,8 @@ fn folds_range(z: Vector, q3: f64, s5: f64, range: Range, out: &mut [f64], n: us
     ensures { Pushed 116 (Of.folds_range z q3 s5 range) n out.old result out.new }
 {
     match range {
-        Range::Nothing => n,
-        Range::Between(lower, upper) => {
+        None => n,
+        Some((lower, upper)) => {
             let m = folds(z, q3, s5, lower, out, n);
             folds(z, q3, s5, upper, out, m)
         }
@@ -169,8 +169,8 @@ pub(crate) fn bend_slices(
     ensures { Pushed 256 (Of.bend_slices m q3 range2 range4 range5 range6) n out.old result out.new }
 {
     match range5 {
-        Range::Nothing => n,
-        Range::Between(lower, upper) => {
+        None => n,
+        Some((lower, upper)) => {
             let k = bend_slice(m, q3, range2, range4, range6, lower, out, n);
             bend_slice(m, q3, range2, range4, range6, upper, out, k)
         }

@@ -8,7 +8,7 @@ ghost use Rattle.sampling.specs.Bends as Of;
 
 use crate::continuum::{Polar, Trig};
 use crate::intervals::Range;
-use crate::marks::{Marks, Sixth};
+use crate::marks::Marks;
 use crate::push::push;
 use crate::rays::{poles, ray_angles, roots_by, sixth_angles};
 use crate::wrist::{Ray, Wrist};
@@ -75,8 +75,8 @@ fn bend_range(cos5: Trig, polar: Polar, q4: Ray, range: Range, out: &mut [f64], 
     ensures { Pushed 120 (Of.bend_range cos5 q4 range) n out.old result out.new }
 {
     match range {
-        Range::Nothing => n,
-        Range::Between(a, b) => {
+        None => n,
+        Some((a, b)) => {
             let m = bend_at(cos5, polar, q4, a, out, n);
             bend_at(cos5, polar, q4, b, out, m)
         }
@@ -90,10 +90,9 @@ fn bend_marks(cos5: Trig, polar: Polar, q4: Ray, marks: Marks, out: &mut [f64], 
     ensures { Pushed 240 (Of.bend_marks cos5 q4 marks) n out.old result out.new }
 {
     let n1 = bend_at(cos5, polar, q4, marks.reference, out, n);
-    if marks.limited {
-        let n2 = bend_at(cos5, polar, q4, marks.center, out, n1);
-        let range = marks.range;
-        return bend_range(cos5, polar, q4, range, out, n2);
+    if let Some(limits) = marks.limits {
+        let n2 = bend_at(cos5, polar, q4, limits.center, out, n1);
+        return bend_range(cos5, polar, q4, limits.range, out, n2);
     }
     n1
 }
@@ -104,7 +103,7 @@ pub(crate) fn all_roots(
     near: f64,
     fourth: Marks,
     fifth: Marks,
-    sixth: Sixth,
+    sixth: Option<Marks>,
     center: f64,
     out: &mut [f64],
 ) -> usize

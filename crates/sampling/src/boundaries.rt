@@ -163,7 +163,7 @@ pub(crate) fn wrist_limits(limited: bool, j: Joint) -> Range
 {
     let c = centered(limited, j);
     if !limited | (P <= c.tolerance) {
-        return Range::Nothing;
+        return None;
     }
     limits_of(c, j.sign, j.offset)
 }
@@ -214,8 +214,8 @@ fn second_curves(c: Curves, q3: f64, range: Range) -> Curves
     ensures { Pushed 2 (Of.second_curves q3 range) c.count c.at result.count result.at }
 {
     match range {
-        Range::Nothing => c,
-        Range::Between(lower, upper) => {
+        None => c,
+        Some((lower, upper)) => {
             let d = add(c, second_curve(q3, lower));
             add(d, second_curve(q3, upper))
         }
@@ -235,8 +235,8 @@ fn fourth_curves(c: Curves, z: Vector, range: Range) -> Curves
     ensures { Pushed 2 (Of.fourth_curves z range) c.count c.at result.count result.at }
 {
     match range {
-        Range::Nothing => c,
-        Range::Between(lower, upper) => {
+        None => c,
+        Some((lower, upper)) => {
             let d = add(c, fourth_curve(z, lower));
             add(d, fourth_curve(z, upper))
         }
@@ -248,8 +248,8 @@ fn fifth_curves(c: Curves, z: Vector, range: Range) -> Curves
     ensures { Pushed 2 (Of.fifth_curves z range) c.count c.at result.count result.at }
 {
     match range {
-        Range::Nothing => c,
-        Range::Between(lower, upper) => {
+        None => c,
+        Some((lower, upper)) => {
             let d = add(c, fifth_curve(z, lower));
             add(d, fifth_curve(z, upper))
         }
@@ -261,8 +261,8 @@ fn sixth_curves(c: Curves, m: Matrix, range: Range) -> Curves
     ensures { Pushed 2 (Of.sixth_curves m range) c.count c.at result.count result.at }
 {
     match range {
-        Range::Nothing => c,
-        Range::Between(lower, upper) => {
+        None => c,
+        Some((lower, upper)) => {
             let d = add(c, sixth_curve(m, lower));
             add(d, sixth_curve(m, upper))
         }
@@ -285,10 +285,10 @@ fn corner_curves(x: Curves, m: Matrix, range4: Range, range6: Range) -> Curves
     ensures { Pushed 8 (Of.corner_curves m range4 range6) x.count x.at result.count result.at }
 {
     match range4 {
-        Range::Nothing => x,
-        Range::Between(a, b) => match range6 {
-            Range::Nothing => x,
-            Range::Between(c, d) => {
+        None => x,
+        Some((a, b)) => match range6 {
+            None => x,
+            Some((c, d)) => {
                 let y = signed_corners(x, m, -1.0, a, b, c, d);
                 signed_corners(y, m, 1.0, a, b, c, d)
             }

@@ -44,13 +44,6 @@ pub struct Axes {
     pub z: TrigVector,
 }
 
-// Angles where a polynomial equals its target.
-#[derive(Clone, Copy)]
-pub enum Crossings {
-    Neither,
-    Both(f64, f64),
-}
-
 impl Trig {
     // Multiplies every coefficient by the given factor.
     pub(crate) fn scaled(self, factor: f64) -> Self
@@ -101,25 +94,25 @@ impl Trig {
     }
 
     // The wrapped angles on both sides of the phase.
-    fn around(self, polar: Polar, target: f64) -> Crossings
+    fn around(self, polar: Polar, target: f64) -> (f64, f64)
         ensures { result ≡ By.around self polar target }
     {
         let constant = self.constant - target;
         let offset = acos(clamp(-constant / polar.radius));
         let first = wrapped_angle(polar.phase - offset);
         let second = wrapped_angle(polar.phase + offset);
-        Crossings::Both(first, second)
+        (first, second)
     }
 
     // The wrapped angles where the polynomial equals the target, by its radius and phase.
-    pub(crate) fn crossings_by(self, polar: Polar, target: f64) -> Crossings
+    pub(crate) fn crossings_by(self, polar: Polar, target: f64) -> Option<(f64, f64)>
         requires { polar ≡ By.polar self }
         ensures { result ≡ Of.crossings self target }
     {
         if self.meets(polar.radius, target) {
-            return self.around(polar, target);
+            return Some(self.around(polar, target));
         }
-        Crossings::Neither
+        None
     }
 }
 

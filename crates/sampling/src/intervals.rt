@@ -8,11 +8,7 @@ use float::trig::{P, TWO_PI};
 use polynomial::angle::wrapped_angle;
 
 // A limit interval: none, or a pair of angles.
-#[derive(Clone, Copy)]
-pub enum Range {
-    Nothing,
-    Between(f64, f64),
-}
+pub type Range = Option<(f64, f64)>;
 
 // Allowed displacements: the range shifted by a turn down, as it is, and by a turn up.
 #[derive(Clone, Copy)]
@@ -46,9 +42,9 @@ fn interval(c: Center, shift: f64) -> Range
     let lower = maximum(c.center + shift - c.tolerance, -P);
     let upper = minimum(c.center + shift + c.tolerance, P);
     if is_finite(c.center) & (0.0 <= c.tolerance) & (lower <= upper) {
-        return Range::Between(lower, upper);
+        return Some((lower, upper));
     }
-    Range::Nothing
+    None
 }
 
 // The range with its neighbouring copies, since it may cross the ±P cut.

@@ -8,7 +8,6 @@ ghost use Rattle.sampling.specs.Promises.Curves.{most_curves};
 ghost use Rattle.sampling.specs.Promises.Halves.{half_values, start, both};
 ghost use Rattle.sampling.specs.Promises.Plan.{halves_of, folded_plan, folded_cuts, granted, where_laid};
 ghost use Rattle.sampling.specs.J1j2free as Of;
-ghost use Rattle.sampling.specs.declared.intervals.Range.TheVariants.{Between};
 
 use crate::bend_slices::bend_slices;
 use crate::boundaries::{Curves, boundaries, wrist_limits};
@@ -49,7 +48,7 @@ fn sixth_limits(fixed: bool, limited: bool, j: Joint) -> Range
     ensures { result ≡ Of.sixth_limits fixed limited j }
 {
     if fixed {
-        return Range::Nothing;
+        return None;
     }
     wrist_limits(limited, j)
 }
@@ -127,7 +126,7 @@ fn halves_of(reference: f64, first: Put, second: Put) -> Plan
 
 // The cuts of both halves, one list after the other in the front of work.
 fn cut_halves(work: &mut [f64], t: Folded, lower: f64, upper: f64) -> Plan
-    requires { Charted (Between lower upper) }
+    requires { Charted (Some (lower, upper)) }
     ensures value { result ≡ granted (length (Of.first_half t lower upper) + length (Of.second_half t lower upper))
         (halves_of t.reference (Of.first_half t lower upper) (Of.second_half t lower upper)) (length work.old) }
     ensures work_after { where_laid result work.new [] ≡
@@ -158,11 +157,11 @@ pub(crate) fn cut(work: &mut [f64], t: Folded) -> Plan
 {
     let range1 = t.range1;
     match range1 {
-        Range::Nothing => Plan::Lists(Lists {
+        None => Plan::Lists(Lists {
             first: 0,
             second: 0,
             third: 0,
         }),
-        Range::Between(lower, upper) => cut_halves(work, t, lower, upper),
+        Some((lower, upper)) => cut_halves(work, t, lower, upper),
     }
 }

@@ -10,20 +10,27 @@ use float::number::is_finite;
 use float::trig::P;
 use polynomial::angle::wrapped_angle;
 
-// The reference and, with limits, their centre and ends.
+// The centre and the ends of limits.
 #[derive(Clone, Copy)]
-pub struct Marks {
-    pub reference: f64,
-    pub limited: bool,
+pub struct Limits {
     pub center: f64,
     pub range: Range,
 }
 
-// Joint 6, which may be fixed.
+// The reference and, with limits, their centre and ends.
 #[derive(Clone, Copy)]
-pub enum Sixth {
-    Fixed,
-    Moves(Marks),
+pub struct Marks {
+    pub reference: f64,
+    pub limits: Option<Limits>,
+}
+
+impl Marks {
+    // The ends of the limits, where there are any.
+    pub(crate) fn range(self) -> Range
+        ensures { result ≡ Of.range self }
+    {
+        self.limits?.range
+    }
 }
 
 // An angle of a joint as a model angle. The offset is wrapped here.
@@ -39,9 +46,9 @@ fn ends(center: f64, tolerance: f64) -> Range
     ensures { result ≡ Of.ends center tolerance }
 {
     if is_finite(tolerance) & (0.0 <= tolerance) & (tolerance < P) {
-        return Range::Between(center - tolerance, center + tolerance);
+        return Some((center - tolerance, center + tolerance));
     }
-    Range::Nothing
+    None
 }
 
 // A wrist joint's angles that count: its reference and, with limits, their centre and ends.
@@ -55,15 +62,11 @@ pub(crate) fn marks_of(limited: bool, j: Joint) -> Marks
         let range = ends(center, c.tolerance);
         return Marks {
             reference,
-            limited: true,
-            center,
-            range,
+            limits: Some(Limits { center, range }),
         };
     }
     Marks {
         reference,
-        limited: false,
-        center: 0.0,
-        range: Range::Nothing,
+        limits: None,
     }
 }

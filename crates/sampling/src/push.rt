@@ -3,8 +3,6 @@ ghost use Rattle.std.specs.Prelude.{[], ◌∷◌, ◌+◌, ◌≤◌, ◌<◌, 
 ghost use Rattle.sampling.specs.Promises.Pushed.{Pushed};
 ghost use Rattle.sampling.specs.Continuum as Continuum;
 
-use crate::continuum::Crossings;
-
 pub(crate) fn push(v: f64, out: &mut [f64], n: usize) -> usize
     requires { n < length out.old }
     ensures { Pushed 1 (v ∷ []) n out.old result out.new }
@@ -13,13 +11,13 @@ pub(crate) fn push(v: f64, out: &mut [f64], n: usize) -> usize
     n + 1
 }
 
-pub(crate) fn push_crossings(p: Crossings, out: &mut [f64], n: usize) -> usize
+pub(crate) fn push_crossings(p: Option<(f64, f64)>, out: &mut [f64], n: usize) -> usize
     requires { n + 2 ≤ length out.old }
     ensures { Pushed 2 (Continuum.listed p) n out.old result out.new }
 {
     match p {
-        Crossings::Neither => n,
-        Crossings::Both(a, b) => {
+        None => n,
+        Some((a, b)) => {
             let m = push(a, out, n);
             push(b, out, m)
         }

@@ -10,7 +10,7 @@ ghost use Rattle.sampling.specs.Rays as Of;
 use crate::continuum::{Polar, Trig, line};
 use crate::deferred::{angles_of, defer};
 use crate::intervals::Range;
-use crate::marks::{Marks, Sixth};
+use crate::marks::Marks;
 use crate::push::push_crossings;
 use crate::wrist::{Ray, Wrist};
 use float::number::is_finite;
@@ -57,8 +57,8 @@ fn ray_range(ray: Ray, range: Range, deferred: &mut [f64], n: usize) -> usize
     ensures { Deferred 6 (Of.ray_range ray range) n deferred.old result deferred.new }
 {
     match range {
-        Range::Nothing => n,
-        Range::Between(a, b) => {
+        None => n,
+        Some((a, b)) => {
             let m = ray_at(ray, a, deferred, n);
             ray_at(ray, b, deferred, m)
         }
@@ -71,10 +71,9 @@ fn ray_marks(ray: Ray, marks: Marks, deferred: &mut [f64], n: usize) -> usize
     ensures { Deferred 12 (Of.ray_marks ray marks) n deferred.old result deferred.new }
 {
     let m = ray_at(ray, marks.reference, deferred, n);
-    if marks.limited {
-        let k = ray_at(ray, marks.center, deferred, m);
-        let range = marks.range;
-        return ray_range(ray, range, deferred, k);
+    if let Some(limits) = marks.limits {
+        let k = ray_at(ray, limits.center, deferred, m);
+        return ray_range(ray, limits.range, deferred, k);
     }
     m
 }
@@ -100,10 +99,10 @@ fn corners(
     ensures { Deferred 12 (Of.corners ray sign fourth sixth) n deferred.old result deferred.new }
 {
     match fourth {
-        Range::Nothing => n,
-        Range::Between(a, b) => match sixth {
-            Range::Nothing => n,
-            Range::Between(c, d) => {
+        None => n,
+        Some((a, b)) => match sixth {
+            None => n,
+            Some((c, d)) => {
                 let n1 = corner(ray, sign, a, c, deferred, n);
                 let n2 = corner(ray, sign, a, d, deferred, n1);
                 let n3 = corner(ray, sign, b, c, deferred, n2);
@@ -125,9 +124,7 @@ fn phase_roots(
     ensures { Deferred 15 (Of.phase_roots ray sign fourth sixth) n deferred.old result deferred.new }
 {
     let m = corner(ray, sign, fourth.reference, sixth.reference, deferred, n);
-    let range4 = fourth.range;
-    let range6 = sixth.range;
-    corners(ray, sign, range4, range6, deferred, m)
+    corners(ray, sign, fourth.range(), sixth.range(), deferred, m)
 }
 
 fn phases(w: Wrist, fourth: Marks, sixth: Marks, deferred: &mut [f64], n: usize) -> usize
@@ -139,13 +136,19 @@ fn phases(w: Wrist, fourth: Marks, sixth: Marks, deferred: &mut [f64], n: usize)
 }
 
 // Joint 6, if it is not fixed.
-fn sixth_roots(w: Wrist, fourth: Marks, sixth: Sixth, deferred: &mut [f64], n: usize) -> usize
+fn sixth_roots(
+    w: Wrist,
+    fourth: Marks,
+    sixth: Option<Marks>,
+    deferred: &mut [f64],
+    n: usize,
+) -> usize
     requires { n + 42 ≤ length deferred.old }
     ensures { Deferred 42 (Of.sixth_roots w fourth sixth) n deferred.old result deferred.new }
 {
     match sixth {
-        Sixth::Fixed => n,
-        Sixth::Moves(marks) => {
+        None => n,
+        Some(marks) => {
             let k = ray_marks(w.q6, marks, deferred, n);
             phases(w, fourth, marks, deferred, k)
         }
@@ -166,7 +169,7 @@ pub(crate) fn ray_angles(ray: Ray, marks: Marks, out: &mut [f64], n: usize) -> u
 pub(crate) fn sixth_angles(
     w: Wrist,
     fourth: Marks,
-    sixth: Sixth,
+    sixth: Option<Marks>,
     out: &mut [f64],
     n: usize,
 ) -> usize

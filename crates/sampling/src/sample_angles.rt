@@ -11,7 +11,7 @@ use crate::continuum::Axes;
 use crate::intervals::{Intervals, wrist_limit_intervals};
 use crate::job::{Job, Joint};
 use crate::lists::{Lists, Plan};
-use crate::marks::{Marks, Sixth, marks_of, model_angle};
+use crate::marks::{Marks, marks_of, model_angle};
 use crate::samples::interval_cuts;
 use crate::wrist::{Wrist, wrist_of};
 use float::number::is_finite;
@@ -26,7 +26,7 @@ pub struct Free {
     pub wrist: Wrist,
     pub fourth: Marks,
     pub fifth: Marks,
-    pub sixth: Sixth,
+    pub sixth: Option<Marks>,
 }
 
 // The free joint's limits as a model angle.
@@ -48,13 +48,13 @@ fn free_limits(limited: bool, j: Joint) -> Center
 }
 
 // A fixed sixth joint is not read.
-fn sixth_of(fixed: bool, limited: bool, j: Joint) -> Sixth
+fn sixth_of(fixed: bool, limited: bool, j: Joint) -> Option<Marks>
     ensures { result ≡ Of.sixth fixed limited j }
 {
     if fixed {
-        return Sixth::Fixed;
+        return None;
     }
-    Sixth::Moves(marks_of(limited, j))
+    Some(marks_of(limited, j))
 }
 
 // What counts of a job whose joint j is free.
@@ -111,13 +111,12 @@ pub(crate) fn cut(work: &mut [f64], f: Free) -> Plan
 {
     if is_finite(f.near) {
         let mut roots = [0.0; 300];
-        let sixth = f.sixth;
         let n = all_roots(
             f.wrist,
             f.near,
             f.fourth,
             f.fifth,
-            sixth,
+            f.sixth,
             f.limits.center,
             &mut roots,
         );

@@ -107,8 +107,8 @@ pub(crate) fn interval_cuts(
     ensures { Kept (Of.interval_values near (take n roots.now) range) work.old work.new result }
 {
     match range {
-        Range::Nothing => Put::Count(0),
-        Range::Between(a, b) => {
+        None => Put::Count(0),
+        Some((a, b)) => {
             let lower = near + a;
             let upper = near + b;
             let first = put_in(work, 0, lower);

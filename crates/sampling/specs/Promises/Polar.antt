@@ -9,8 +9,6 @@ use Rattle.polynomial.specs.Angle.{wrapped_angle}
 use Rattle.sampling.specs.Continuum.{error}
 use Rattle.sampling.specs.declared.continuum.Trig.{Trig}
 use Rattle.sampling.specs.declared.continuum.Polar.{Polar}
-use Rattle.sampling.specs.declared.continuum.Crossings.{Crossings}
-use Rattle.sampling.specs.declared.continuum.Crossings.TheVariants.{Both}
 
 unfoldable pub polar : Trig → Polar
 polar t = record { radius = hypot t.cosine t.sine; phase = atan2 t.sine t.cosine }
@@ -22,7 +20,7 @@ meets t radius target =
     finite radius && finite constant && not (eq radius zero_float) && not (lt (radius ⊕ error t target) (abs constant))
 
 -- the wrapped angles on both sides of the phase
-unfoldable pub around : Trig → Polar → Float → Crossings
+unfoldable pub around : Trig → Polar → Float → Float × Float
 around t p target =
     let offset = acos (clamp (neg (t.constant ⊖ target) ⊘ p.radius)) in
-    Both (wrapped_angle (p.phase ⊖ offset)) (wrapped_angle (p.phase ⊕ offset))
+    (wrapped_angle (p.phase ⊖ offset), wrapped_angle (p.phase ⊕ offset))

@@ -3,10 +3,10 @@ use Rattle.sampling.specs.BendSlices.{bend_slices}
 use Rattle.sampling.proofs.Pushed.{none, then}
 use Rattle.sampling.proofs.bend_slices.bend_slices.Goals as goal
 
-pub returns-in-Nothing : goal.returns-in-Nothing
+pub returns-in-None : goal.returns-in-None
 unfolding bend_slices
-returns-in-Nothing c = simp c.in-Nothing.is (none 256 _ _)
+returns-in-None c = simp c.in-None.is (none 256 _ _)
 
-pub returns-in-Between : goal.returns-in-Between
+pub returns-in-Some : goal.returns-in-Some
 unfolding bend_slices
-returns-in-Between c = simp c.in-Between.is (then c.bend_slice-k.ensures c.bend_slice.ensures)
+returns-in-Some c = simp c.in-Some.is (then c.bend_slice-k.ensures c.bend_slice.ensures)

@@ -3,10 +3,10 @@ use Rattle.sampling.specs.BendSlices.{folds_range}
 use Rattle.sampling.proofs.Pushed.{none, then}
 use Rattle.sampling.proofs.bend_slices.folds_range.Goals as goal
 
-pub returns-in-Nothing : goal.returns-in-Nothing
+pub returns-in-None : goal.returns-in-None
 unfolding folds_range
-returns-in-Nothing c = simp c.in-Nothing.is (none 116 _ _)
+returns-in-None c = simp c.in-None.is (none 116 _ _)
 
-pub returns-in-Between : goal.returns-in-Between
+pub returns-in-Some : goal.returns-in-Some
 unfolding folds_range
-returns-in-Between c = simp c.in-Between.is (then c.folds-m.ensures c.folds.ensures)
+returns-in-Some c = simp c.in-Some.is (then c.folds-m.ensures c.folds.ensures)

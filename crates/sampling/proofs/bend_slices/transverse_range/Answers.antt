@@ -3,11 +3,11 @@ use Rattle.sampling.specs.BendSlices.{transverse_range}
 use Rattle.sampling.proofs.Pushed.{none, then}
 use Rattle.sampling.proofs.bend_slices.transverse_range.Goals as goal
 
-pub returns-in-Nothing : goal.returns-in-Nothing
+pub returns-in-None : goal.returns-in-None
 unfolding transverse_range
-returns-in-Nothing c = simp c.in-Nothing.is (none 4 _ _)
+returns-in-None c = simp c.in-None.is (none 4 _ _)
 
-pub returns-in-Between : goal.returns-in-Between
+pub returns-in-Some : goal.returns-in-Some
 unfolding transverse_range
-returns-in-Between c = simp (c.in-Between.is, ← c.sin_cos-a.ensures, ← c.sin_cos-b.ensures)
+returns-in-Some c = simp (c.in-Some.is, ← c.sin_cos-a.ensures, ← c.sin_cos-b.ensures)
     (then c.transverse-m.ensures c.transverse.ensures)

@@ -13,11 +13,11 @@ bend_at-n2-requires c = record { n_in_bounds = search rules; polar_value = searc
 pub bend_range-requires : goal.bend_range-requires
 bend_range-requires c = record { n_in_bounds = search rules; polar_value = search rules }
 
-pub returns-then-marks : goal.returns-then-marks
+pub returns-in-Some : goal.returns-in-Some
 unfolding bend_marks
-returns-then-marks c = simp c.if-marks.true
+returns-in-Some c = simp c.in-Some.is
     (then c.bend_at-n1.ensures (then c.bend_at-n2.ensures c.bend_range.ensures))
 
 pub returns : goal.returns
 unfolding bend_marks
-returns c = simp c.if-marks.false (then c.bend_at-n1.ensures (none 180 _ _))
+returns c = simp c.in_default.is (then c.bend_at-n1.ensures (none 180 _ _))

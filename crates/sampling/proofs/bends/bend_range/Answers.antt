@@ -10,10 +10,10 @@ bend_at-m-requires c = record { n_in_bounds = search rules; polar_value = search
 pub bend_at-requires : goal.bend_at-requires
 bend_at-requires c = record { n_in_bounds = search rules; polar_value = search rules }
 
-pub returns-in-Nothing : goal.returns-in-Nothing
+pub returns-in-None : goal.returns-in-None
 unfolding bend_range
-returns-in-Nothing c = simp c.in-Nothing.is (none 120 _ _)
+returns-in-None c = simp c.in-None.is (none 120 _ _)
 
-pub returns-in-Between : goal.returns-in-Between
+pub returns-in-Some : goal.returns-in-Some
 unfolding bend_range
-returns-in-Between c = simp c.in-Between.is (then c.bend_at-m.ensures c.bend_at.ensures)
+returns-in-Some c = simp c.in-Some.is (then c.bend_at-m.ensures c.bend_at.ensures)

@@ -4,15 +4,15 @@ use Rattle.sampling.specs.Boundaries.{corner_curves}
 use Rattle.sampling.proofs.Pushed.{none, then}
 use Rattle.sampling.proofs.boundaries.corner_curves.Goals as goal
 
-pub returns-in-Nothing : goal.returns-in-Nothing
+pub returns-in-None : goal.returns-in-None
 unfolding corner_curves of_bits
-returns-in-Nothing c = simp c.in-Nothing.is (none 8 _ _)
+returns-in-None c = simp c.in-None.is (none 8 _ _)
 
-pub returns-in-Nothing-range6 : goal.returns-in-Nothing-range6
+pub returns-in-None-range6 : goal.returns-in-None-range6
 unfolding corner_curves of_bits
-returns-in-Nothing-range6 c = simp (c.in-Between.is, c.in-Nothing-range6.is) (none 8 _ _)
+returns-in-None-range6 c = simp (c.in-Some.is, c.in-None-range6.is) (none 8 _ _)
 
-pub returns-in-Between-range6 : goal.returns-in-Between-range6
+pub returns-in-Some-range6 : goal.returns-in-Some-range6
 unfolding corner_curves of_bits
-returns-in-Between-range6 c = simp (c.in-Between.is, c.in-Between-range6.is)
+returns-in-Some-range6 c = simp (c.in-Some.is, c.in-Some-range6.is)
     (then c.signed_corners-y.ensures c.signed_corners.ensures)

@@ -3,11 +3,11 @@ use Rattle.sampling.specs.Boundaries.{sixth_curves}
 use Rattle.sampling.proofs.Pushed.{none, then}
 use Rattle.sampling.proofs.boundaries.sixth_curves.Goals as goal
 
-pub returns-in-Nothing : goal.returns-in-Nothing
+pub returns-in-None : goal.returns-in-None
 unfolding sixth_curves
-returns-in-Nothing c = simp c.in-Nothing.is (none 2 _ _)
+returns-in-None c = simp c.in-None.is (none 2 _ _)
 
-pub returns-in-Between : goal.returns-in-Between
+pub returns-in-Some : goal.returns-in-Some
 unfolding sixth_curves
-returns-in-Between c = simp (c.in-Between.is, ← c.sixth_curve.ensures, ← c.sixth_curve-in-Between.ensures)
+returns-in-Some c = simp (c.in-Some.is, ← c.sixth_curve.ensures, ← c.sixth_curve-in-Some.ensures)
     (then c.add-d.ensures c.add.ensures)

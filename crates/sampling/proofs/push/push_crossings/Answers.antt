@@ -2,8 +2,8 @@
 use Rattle.sampling.proofs.Pushed.{none, then}
 use Rattle.sampling.proofs.push.push_crossings.Goals as goal
 
-pub returns-in-Neither : goal.returns-in-Neither
-returns-in-Neither c = simp c.in-Neither.is (none 2 _ _)
+pub returns-in-None : goal.returns-in-None
+returns-in-None c = simp c.in-None.is (none 2 _ _)
 
-pub returns-in-Both : goal.returns-in-Both
-returns-in-Both c = simp c.in-Both.is (then c.push-m.ensures c.push.ensures)
+pub returns-in-Some : goal.returns-in-Some
+returns-in-Some c = simp c.in-Some.is (then c.push-m.ensures c.push.ensures)

@@ -3,16 +3,16 @@ use Rattle.sampling.proofs.Deferrals.{none, then}
 use Rattle.sampling.specs.Rays.{corners}
 use Rattle.sampling.proofs.rays.corners.Goals as goal
 
-pub returns-in-Nothing : goal.returns-in-Nothing
+pub returns-in-None : goal.returns-in-None
 unfolding corners
-returns-in-Nothing c = simp c.in-Nothing.is (none 12 _ _)
+returns-in-None c = simp c.in-None.is (none 12 _ _)
 
-pub returns-in-Nothing-sixth : goal.returns-in-Nothing-sixth
+pub returns-in-None-sixth : goal.returns-in-None-sixth
 unfolding corners
-returns-in-Nothing-sixth c = simp (c.in-Between.is, c.in-Nothing-sixth.is) (none 12 _ _)
+returns-in-None-sixth c = simp (c.in-Some.is, c.in-None-sixth.is) (none 12 _ _)
 
-pub returns-in-Between-sixth : goal.returns-in-Between-sixth
+pub returns-in-Some-sixth : goal.returns-in-Some-sixth
 unfolding corners
-returns-in-Between-sixth c = simp (c.in-Between.is, c.in-Between-sixth.is)
+returns-in-Some-sixth c = simp (c.in-Some.is, c.in-Some-sixth.is)
     (then (then (then c.corner-n1.ensures c.corner-n2.ensures) c.corner-n3.ensures)
     c.corner.ensures)

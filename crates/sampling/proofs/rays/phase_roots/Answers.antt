@@ -5,4 +5,4 @@ use Rattle.sampling.proofs.rays.phase_roots.Goals as goal
 
 pub returns : goal.returns
 unfolding phase_roots
-returns c = then c.corner-m.ensures c.corners.ensures
+returns c = simp (← c.range.ensures, ← c.range-2.ensures) (then c.corner-m.ensures c.corners.ensures)

@@ -3,10 +3,10 @@ use Rattle.sampling.proofs.Deferrals.{none, then}
 use Rattle.sampling.specs.Rays.{ray_range}
 use Rattle.sampling.proofs.rays.ray_range.Goals as goal
 
-pub returns-in-Nothing : goal.returns-in-Nothing
+pub returns-in-None : goal.returns-in-None
 unfolding ray_range
-returns-in-Nothing c = simp c.in-Nothing.is (none 6 _ _)
+returns-in-None c = simp c.in-None.is (none 6 _ _)
 
-pub returns-in-Between : goal.returns-in-Between
+pub returns-in-Some : goal.returns-in-Some
 unfolding ray_range
-returns-in-Between c = simp c.in-Between.is (then c.ray_at-m.ensures c.ray_at.ensures)
+returns-in-Some c = simp c.in-Some.is (then c.ray_at-m.ensures c.ray_at.ensures)

@@ -3,10 +3,10 @@ use Rattle.sampling.proofs.Deferrals.{none, then}
 use Rattle.sampling.specs.Rays.{sixth_roots}
 use Rattle.sampling.proofs.rays.sixth_roots.Goals as goal
 
-pub returns-in-Fixed : goal.returns-in-Fixed
+pub returns-in-None : goal.returns-in-None
 unfolding sixth_roots
-returns-in-Fixed c = simp c.in-Fixed.is (none 42 _ _)
+returns-in-None c = simp c.in-None.is (none 42 _ _)
 
-pub returns-in-Moves : goal.returns-in-Moves
+pub returns-in-Some : goal.returns-in-Some
 unfolding sixth_roots
-returns-in-Moves c = simp c.in-Moves.is (then c.ray_marks-k.ensures c.phases.ensures)
+returns-in-Some c = simp c.in-Some.is (then c.ray_marks-k.ensures c.phases.ensures)

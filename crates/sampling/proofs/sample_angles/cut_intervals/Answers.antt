@@ -6,9 +6,9 @@ use lib.Ieee.{Float}
 use borrow.Author.Rules.{rules}
 use Rattle.sampling.specs.Samples.{interval_cuts}
 use Rattle.sampling.proofs.Laid.{no_place_behind, laid_first, laid_next, short_first, short_second, short_third, all_three, laid_three}
-use Rattle.sampling.specs.declared.intervals.Range.{Range}
 use Rattle.polynomial.specs.Laws.Held.{kept_full}
 use Rattle.sampling.proofs.sample_angles.cut_intervals.Goals as goal
+use Rattle.sampling.specs.Intervals.{Range}
 
 pub returns-in_default : goal.returns-in_default
 unfolding interval_cuts
