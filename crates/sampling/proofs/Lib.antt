@@ -3,7 +3,6 @@
 -- `Laws`: theorems that upper crates cite.
 pub mod Laws
 mod Pushed
-mod Deferrals
 mod Grown
 mod Laid
 mod CriticalSlices

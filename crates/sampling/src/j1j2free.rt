@@ -76,16 +76,9 @@ pub(crate) fn folded_of(job: Job) -> Folded
 }
 
 // The cuts of one half, in the front of the slice.
-fn half_cuts(
-    work: &mut [f64],
-    curves: Curves,
-    bends: &[f64],
-    n: usize,
-    lower: f64,
-    upper: f64,
-) -> Put
-    requires { (curves.count ≤ most_curves) × (n ≤ length bends.now) × Bounded (chart lower upper) }
-    ensures { Kept (half_values (take curves.count curves.at) (take n bends.now) lower upper) work.old work.new result }
+fn half_cuts(work: &mut [f64], curves: Curves, bends: &[f64], lower: f64, upper: f64) -> Put
+    requires { (curves.count ≤ most_curves) × Bounded (chart lower upper) }
+    ensures { Kept (half_values (take curves.count curves.at) bends.now lower upper) work.old work.new result }
 {
     let c = chart_of(lower, upper);
     let first = push(work, Put::Count(0), lower);
@@ -93,7 +86,7 @@ fn half_cuts(
     let count = curves.count;
     let at = curves.at;
     let cuts = critical(work, ends, c, at, count);
-    all_copies(work, cuts, lower, upper, bends, n)
+    all_copies(work, cuts, lower, upper, bends)
 }
 
 // Where the second half's list starts: behind the first, or, where that has too few places, at the
@@ -137,15 +130,13 @@ fn cut_halves(work: &mut [f64], t: Folded, lower: f64, upper: f64) -> Plan
     let range4 = t.range4;
     let range5 = t.range5;
     let range6 = t.range6;
-    let mut bends = [0.0; 256];
-    let n = bend_slices(
-        t.matrix, t.q3, range2, range4, range5, range6, &mut bends, 0,
-    );
+    let found = bend_slices(t);
+    let bends = found.as_slice();
     let curves = boundaries(t.matrix, t.q3, range2, range4, range5, range6);
     let m = middle(lower, upper);
-    let first = half_cuts(work, curves, &bends, n, lower, m);
+    let first = half_cuts(work, curves, bends, lower, m);
     let start = start_of(first, work.len());
-    let second = half_cuts(&mut work[start..], curves, &bends, n, m, upper);
+    let second = half_cuts(&mut work[start..], curves, bends, m, upper);
     halves_of(t.reference, first, second)
 }
 

@@ -78,23 +78,21 @@ pub(crate) fn free_of(axes: Axes, job: Job, j: Joint) -> Free
 }
 
 // The cuts of three intervals, one list after the other in the front of work.
-fn cut_intervals(work: &mut [f64], near: f64, three: Intervals, roots: &[f64], n: usize) -> Plan
-    requires { n ≤ length roots.now }
-    ensures { ListsLaid (interval_cuts near (take n roots.now) three.first)
-        (interval_cuts near (take n roots.now) three.second)
-        (interval_cuts near (take n roots.now) three.third) work.old result work.new }
+fn cut_intervals(work: &mut [f64], near: f64, three: Intervals, roots: &[f64]) -> Plan
+    ensures { ListsLaid (interval_cuts near roots.now three.first)
+        (interval_cuts near roots.now three.second)
+        (interval_cuts near roots.now three.third) work.old result work.new }
 {
     let range1 = three.first;
-    let Put::Count(first) = interval_cuts(work, near, range1, roots, n) else {
+    let Put::Count(first) = interval_cuts(work, near, range1, roots) else {
         return Plan::Short;
     };
     let range2 = three.second;
-    let Put::Count(second) = interval_cuts(&mut work[first..], near, range2, roots, n) else {
+    let Put::Count(second) = interval_cuts(&mut work[first..], near, range2, roots) else {
         return Plan::Short;
     };
     let range3 = three.third;
-    let Put::Count(third) = interval_cuts(&mut work[first + second..], near, range3, roots, n)
-    else {
+    let Put::Count(third) = interval_cuts(&mut work[first + second..], near, range3, roots) else {
         return Plan::Short;
     };
     Plan::Lists(Lists {
@@ -110,18 +108,9 @@ pub(crate) fn cut(work: &mut [f64], f: Free) -> Plan
     ensures work_after { where_laid result work.new [] ≡ where_laid result (free_cuts f ++ drop (Of.cut_count f) work.old) [] }
 {
     if is_finite(f.near) {
-        let mut roots = [0.0; 300];
-        let n = all_roots(
-            f.wrist,
-            f.near,
-            f.fourth,
-            f.fifth,
-            f.sixth,
-            f.limits.center,
-            &mut roots,
-        );
+        let roots = all_roots(f.wrist, f.near, f.fourth, f.fifth, f.sixth, f.limits.center);
         let three = wrist_limit_intervals(f.limits, f.near, 1.0);
-        return cut_intervals(work, f.near, three, &roots, n);
+        return cut_intervals(work, f.near, three, &roots);
     }
     Plan::Lists(Lists {
         first: 0,

@@ -39,24 +39,13 @@ fn copies(work: &mut [f64], cuts: usize, lower: f64, upper: f64, angle: f64) -> 
     inside(work, second, lower, upper, above)
 }
 
-// The copies of each of the first n angles.
-pub(crate) fn all_copies(
-    work: &mut [f64],
-    cuts: Put,
-    lower: f64,
-    upper: f64,
-    angles: &[f64],
-    n: usize,
-) -> Put
-    requires { n ≤ length angles.now }
-    ensures { Grown (Of.all_copies lower upper (take n angles.now)) work.old cuts work.new result }
+// The copies of each angle.
+pub(crate) fn all_copies(work: &mut [f64], cuts: Put, lower: f64, upper: f64, angles: &[f64]) -> Put
+    ensures { Grown (Of.all_copies lower upper angles.now) work.old cuts work.new result }
 {
     let mut state = number_of(cuts, work.len());
-    let mut i = 0;
-    while i < n {
-        let angle = angles[i];
-        i += 1;
-        state = copies(work, state, lower, upper, angle);
+    for angle in angles {
+        state = copies(work, state, lower, upper, *angle);
     }
     put_of(state, work.len())
 }
@@ -72,39 +61,21 @@ fn windings(work: &mut [f64], cuts: usize, lower: f64, upper: f64, root: f64) ->
     cuts
 }
 
-// The windings of each of the first n roots.
-fn all_windings(
-    work: &mut [f64],
-    cuts: usize,
-    lower: f64,
-    upper: f64,
-    roots: &[f64],
-    n: usize,
-) -> usize
-    requires { n ≤ length roots.now }
-    ensures { Grown (Of.all_windings lower upper (take n roots.now)) work.old
+// The windings of each root.
+fn all_windings(work: &mut [f64], cuts: usize, lower: f64, upper: f64, roots: &[f64]) -> usize
+    ensures { Grown (Of.all_windings lower upper roots.now) work.old
         (counted cuts work.old) work.new (counted result work.new) }
 {
     let mut state = cuts;
-    let mut i = 0;
-    while i < n {
-        let root = roots[i];
-        i += 1;
-        state = windings(work, state, lower, upper, root);
+    for root in roots {
+        state = windings(work, state, lower, upper, *root);
     }
     state
 }
 
 // The cuts of one interval, in the front of the slice.
-pub(crate) fn interval_cuts(
-    work: &mut [f64],
-    near: f64,
-    range: Range,
-    roots: &[f64],
-    n: usize,
-) -> Put
-    requires { n ≤ length roots.now }
-    ensures { Kept (Of.interval_values near (take n roots.now) range) work.old work.new result }
+pub(crate) fn interval_cuts(work: &mut [f64], near: f64, range: Range, roots: &[f64]) -> Put
+    ensures { Kept (Of.interval_values near roots.now range) work.old work.new result }
 {
     match range {
         None => Put::Count(0),
@@ -113,7 +84,7 @@ pub(crate) fn interval_cuts(
             let upper = near + b;
             let first = put_in(work, 0, lower);
             let ends = put_in(work, first, upper);
-            let all = all_windings(work, ends, lower, upper, roots, n);
+            let all = all_windings(work, ends, lower, upper, roots);
             put_of(all, work.len())
         }
     }

@@ -12,6 +12,7 @@ use Rattle.sampling.specs.Promises.Deferred.{angles_of}
 use Rattle.sampling.specs.Promises.Polar.{polar, meets, around}
 use Rattle.sampling.specs.declared.continuum.Trig.{Trig}
 use Rattle.sampling.specs.declared.continuum.Polar.{Polar}
+use Rattle.sampling.specs.declared.deferred.Pending.{Pending}
 
 -- four tests as one
 as_one : {A : Type 0} (a b c d : Bool) (x z : A) → cond (not a || not b || c || d) z x ≡ cond (a && b && not c && not d) x z
@@ -54,10 +55,13 @@ missed_apart : (t : Trig) (target r : Float) (b : Bool) → r ≡ hypot t.cosine
 missed_apart t target r b d m h = missed t target (both r (atan2 t.sine t.cosine)) b (both_are t r (atan2 t.sine t.cosine) d refl) m h
 
 -- as a list
+abbrev pub deferred : Trig → Float → Pending
+deferred t v = record { sine = t.sine; cosine = t.cosine; ratio = v }
+
 pub met_roots : (t : Trig) (target r v : Float) (b : Bool) → r ≡ hypot t.cosine t.sine → v ≡ clamp (neg (t.constant ⊖ target) ⊘ r)
-    → b ≡ meets t r target → b ≡ true → angles_of t.sine t.cosine v ≡ roots t target
+    → b ≡ meets t r target → b ≡ true → angles_of (deferred t v) ≡ roots t target
 unfolding angles_of roots around
-met_roots t target r v b d e m h = ap (angles_of t.sine t.cosine) e ∙ ap listed (met_apart t target r (atan2 t.sine t.cosine) b d refl m h)
+met_roots t target r v b d e m h = ap (λ (x : Float). angles_of (deferred t x)) e ∙ ap listed (met_apart t target r (atan2 t.sine t.cosine) b d refl m h)
 
 pub missed_roots : (t : Trig) (target r : Float) (b : Bool) → r ≡ hypot t.cosine t.sine → b ≡ meets t r target → b ≡ false → [] ≡ roots t target
 unfolding roots

@@ -1,20 +1,14 @@
 -- `sampling::bend_slices::transverse` meets its contract: at each return, what the calls and the tests on the way to it say.
-use Rattle.sampling.specs.BendSlices.{transverse}
-use Rattle.sampling.proofs.Pushed.{none, then}
+use Rattle.std.proofs.Common.{arith}
+use Rattle.std.proofs.lemmas.Grind.{common_steps}
 use lib.Ieee.{of_bits}
+use Rattle.sampling.specs.BendSlices.{transverse}
 use Rattle.sampling.proofs.bend_slices.transverse.Goals as goal
 
-pub returns-then-radius-abs : goal.returns-then-radius-abs
+pub returns-then-radius-abs-clause-items : goal.returns-then-radius-abs-clause-items
 unfolding transverse of_bits
-returns-then-radius-abs c = simp (
-  ← c.abs.ensures,
-  c.if-radius-abs.true,
-  ← c.clamp.ensures,
-  ← c.asin-offset.ensures,
-  ← c.wrapped_angle.ensures,
-  ← c.wrapped_angle-then-radius-abs.ensures,
-) (then c.push-m.ensures c.push.ensures)
+returns-then-radius-abs-clause-items c = grind (arith, common_steps)
 
-pub returns : goal.returns
+pub returns-else-radius-abs-clause-items : goal.returns-else-radius-abs-clause-items
 unfolding transverse of_bits
-returns c = simp (← c.abs.ensures, c.if-radius-abs.false) (none 2 _ _)
+returns-else-radius-abs-clause-items c = grind (arith, common_steps)

@@ -3,6 +3,6 @@ use lib.Ieee.{of_bits}
 use Rattle.sampling.specs.Continuum.{ray_roots}
 use Rattle.sampling.proofs.rays.ray_roots.Goals as goal
 
-pub returns : goal.returns
+pub returns-clause-items : goal.returns-clause-items
 unfolding ray_roots of_bits
-returns c = simp (← c.line.ensures) c.defer.ensures
+returns-clause-items c = simp (← c.line.ensures) c.defer.ensures.items

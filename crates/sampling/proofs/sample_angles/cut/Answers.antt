@@ -15,13 +15,15 @@ returns-then-is_finite c = record {
   value = simp (
     ← c.is_finite.ensures,
     c.if-is_finite.true,
-    ← c.all_roots-n.ensures.front,
+    ← c.all_roots-roots.ensures,
+    ← c.deref.ensures.0,
     ← c.wrist_limit_intervals-three.ensures,
   ) c.cut_intervals.ensures.0;
   work_after = simp (
     ← c.is_finite.ensures,
     c.if-is_finite.true,
-    ← c.all_roots-n.ensures.front,
+    ← c.all_roots-roots.ensures,
+    ← c.deref.ensures.0,
     ← c.wrist_limit_intervals-three.ensures,
   ) c.cut_intervals.ensures.1;
 }

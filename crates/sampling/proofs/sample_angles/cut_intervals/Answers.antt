@@ -1,7 +1,6 @@
 -- `sampling::sample_angles::cut_intervals` meets its contract: one list after the other, by `Laid`.
 use mathlib.Core.Path.{refl}
 use mathlib.Core.List.{List}
-use lib.ListN.{take}
 use lib.Ieee.{Float}
 use borrow.Author.Rules.{rules}
 use Rattle.sampling.specs.Samples.{interval_cuts}
@@ -14,7 +13,7 @@ pub returns-in_default : goal.returns-in_default
 unfolding interval_cuts
 returns-in_default c =
     let a = c.args in
-    let of : Range → List Float = interval_cuts a.near (take a.n a.roots.now) in (
+    let of : Range → List Float = interval_cuts a.near a.roots.now in (
       short_first (of a.three.first) (of a.three.second) (of a.three.third) _
           (kept_full _ _ _ _ c.interval_cuts.ensures c.in_default.is),
       refl,
@@ -30,7 +29,7 @@ pub returns-in_default-interval_cuts : goal.returns-in_default-interval_cuts
 unfolding interval_cuts
 returns-in_default-interval_cuts c =
     let a = c.args in
-    let of : Range → List Float = interval_cuts a.near (take a.n a.roots.now) in
+    let of : Range → List Float = interval_cuts a.near a.roots.now in
     let one = laid_first _ _ _ _ c.interval_cuts.ensures _ c.in-Count.is in (
       short_second (of a.three.first) (of a.three.second) (of a.three.third) _
           (no_place_behind _ _ _ _ one _ _ _ c.interval_cuts-2.ensures c.in_default-interval_cuts.is),
@@ -59,7 +58,7 @@ pub returns-in_default-interval_cuts-2 : goal.returns-in_default-interval_cuts-2
 unfolding interval_cuts
 returns-in_default-interval_cuts-2 c =
     let a = c.args in
-    let of : Range → List Float = interval_cuts a.near (take a.n a.roots.now) in
+    let of : Range → List Float = interval_cuts a.near a.roots.now in
     let one = laid_first _ _ _ _ c.interval_cuts.ensures _ c.in-Count.is in
     let two = laid_next _ _ _ _ one _ _ _ c.interval_cuts-2.ensures _ c.in-Count-interval_cuts.is in (
       short_third (of a.three.first) (of a.three.second) (of a.three.third) _
@@ -71,7 +70,7 @@ pub returns : goal.returns
 unfolding interval_cuts
 returns c =
     let a = c.args in
-    let of : Range → List Float = interval_cuts a.near (take a.n a.roots.now) in
+    let of : Range → List Float = interval_cuts a.near a.roots.now in
     let one = laid_first _ _ _ _ c.interval_cuts.ensures _ c.in-Count.is in
     let two = laid_next _ _ _ _ one _ _ _ c.interval_cuts-2.ensures _ c.in-Count-interval_cuts.is in
     let three = laid_next _ _ _ _ two _ _ _ c.interval_cuts-3.ensures _ c.in-Count-interval_cuts-2.is in
