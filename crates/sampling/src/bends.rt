@@ -2,16 +2,17 @@
 ghost use Rattle.std.specs.Prelude.{◌≡◌, ◌+◌, ◌≤◌};
 ghost use Rattle.polynomial.specs.Curve.{squared_norm_roots};
 ghost use Rattle.arrayvec.specs.ArrayVec.{array_vec_len, Extends};
-ghost use Rattle.sampling.specs.Promises.Polar as By;
+ghost use Rattle.sampling.specs.SampleAngles.{roots};
 ghost use Rattle.sampling.specs.Bends as Of;
 
 use crate::angles::Angles;
-use crate::continuum::{Polar, Trig};
+use crate::continuum::Trig;
 use crate::intervals::Range;
 use crate::marks::Marks;
-use crate::rays::{poles, ray_angles, roots_by, sixth_angles};
-use crate::wrist::{Ray, Wrist};
-use arrayvec::ArrayVec;
+use crate::polar::Polar;
+use crate::rays::{poles, ray_angles, roots_at, sixth_angles};
+use crate::sample_angles::Free;
+use crate::wrist::Ray;
 use float::number::{abs, is_finite};
 use float::trig::sin_cos;
 use polynomial::curve::Harmonic;
@@ -47,14 +48,13 @@ fn narrow(sine: f64) -> bool
 
 // Where joint 5 is bent by an angle; narrow ranges near the poles are kept.
 #[tactic(auto, unfolding(crate::specs::Bends::bend_roots))]
-fn bend_roots(cos5: Trig, polar: Polar, q4: Ray, angle: f64, out: &mut Angles)
-    requires room { array_vec_len out.old + 60 ≤ 300 }
-    requires polar_value { polar ≡ By.polar cos5 }
-    ensures items { Extends out.old (Of.bend_roots cos5 q4 angle) out.new }
+fn bend_roots(cos5: &Polar, q4: &Ray, angle: f64, out: &mut Angles)
+    requires { array_vec_len out.old + 60 ≤ 300 }
+    ensures items { Extends out.old (Of.bend_roots cos5.now.harmonic q4.now angle) out.new }
     ensures most { array_vec_len out.new ≤ array_vec_len out.old + 60 }
 {
     let a = sin_cos(angle);
-    roots_by(cos5, polar, a.cosine, out);
+    roots_at(cos5, a.cosine, out);
     let sine = abs(a.sine);
     if narrow(sine) {
         norm_roots(harmonic(q4.x), harmonic(q4.y), sine, out);
@@ -63,64 +63,54 @@ fn bend_roots(cos5: Trig, polar: Polar, q4: Ray, angle: f64, out: &mut Angles)
 
 // An angle counts if it is finite.
 #[tactic(auto, unfolding(crate::specs::Bends::bend_at))]
-fn bend_at(cos5: Trig, polar: Polar, q4: Ray, angle: f64, out: &mut Angles)
-    requires room { array_vec_len out.old + 60 ≤ 300 }
-    requires polar_value { polar ≡ By.polar cos5 }
-    ensures items { Extends out.old (Of.bend_at cos5 q4 angle) out.new }
+fn bend_at(cos5: &Polar, q4: &Ray, angle: f64, out: &mut Angles)
+    requires { array_vec_len out.old + 60 ≤ 300 }
+    ensures items { Extends out.old (Of.bend_at cos5.now.harmonic q4.now angle) out.new }
     ensures most { array_vec_len out.new ≤ array_vec_len out.old + 60 }
 {
     if is_finite(angle) {
-        bend_roots(cos5, polar, q4, angle, out);
+        bend_roots(cos5, q4, angle, out);
     }
 }
 
 #[tactic(auto, unfolding(crate::specs::Bends::bend_range))]
-fn bend_range(cos5: Trig, polar: Polar, q4: Ray, range: Range, out: &mut Angles)
-    requires room { array_vec_len out.old + 120 ≤ 300 }
-    requires polar_value { polar ≡ By.polar cos5 }
-    ensures items { Extends out.old (Of.bend_range cos5 q4 range) out.new }
+fn bend_range(cos5: &Polar, q4: &Ray, range: Range, out: &mut Angles)
+    requires { array_vec_len out.old + 120 ≤ 300 }
+    ensures items { Extends out.old (Of.bend_range cos5.now.harmonic q4.now range) out.new }
     ensures most { array_vec_len out.new ≤ array_vec_len out.old + 120 }
 {
     if let Some((lower, upper)) = range {
-        bend_at(cos5, polar, q4, lower, out);
-        bend_at(cos5, polar, q4, upper, out);
+        bend_at(cos5, q4, lower, out);
+        bend_at(cos5, q4, upper, out);
     }
 }
 
 // The reference and, with limits, their centre and ends.
 #[tactic(auto, unfolding(crate::specs::Bends::bend_marks))]
-fn bend_marks(cos5: Trig, polar: Polar, q4: Ray, marks: Marks, out: &mut Angles)
-    requires room { array_vec_len out.old + 240 ≤ 300 }
-    requires polar_value { polar ≡ By.polar cos5 }
-    ensures items { Extends out.old (Of.bend_marks cos5 q4 marks) out.new }
+fn bend_marks(cos5: &Polar, q4: &Ray, marks: &Marks, out: &mut Angles)
+    requires { array_vec_len out.old + 240 ≤ 300 }
+    ensures items { Extends out.old (Of.bend_marks cos5.now.harmonic q4.now marks.now) out.new }
     ensures most { array_vec_len out.new ≤ array_vec_len out.old + 240 }
 {
-    bend_at(cos5, polar, q4, marks.reference, out);
+    bend_at(cos5, q4, marks.reference, out);
     if let Some(limits) = marks.limits {
-        bend_at(cos5, polar, q4, limits.center, out);
-        bend_range(cos5, polar, q4, limits.range, out);
+        bend_at(cos5, q4, limits.center, out);
+        bend_range(cos5, q4, limits.range, out);
     }
 }
 
-// All boundary angles of a free joint whose reference is near.
-#[tactic(auto, unfolding(crate::specs::Bends::all_roots))]
-pub(crate) fn all_roots(
-    w: Wrist,
-    near: f64,
-    fourth: Marks,
-    fifth: Marks,
-    sixth: Option<Marks>,
-    center: f64,
-) -> Angles
-    ensures { result.items ≡ Of.all_roots w near fourth fifth sixth center }
+// All boundary angles of a free joint.
+#[tactic(auto, unfolding(crate::specs::SampleAngles::roots, crate::specs::Bends::all_roots))]
+pub(crate) fn all_roots(f: &Free, out: &mut Angles)
+    requires { array_vec_len out.old ≡ 0 }
+    ensures { out.new.items ≡ roots f.now }
 {
-    let mut out = ArrayVec::new();
-    let polar = w.cos5.polar();
-    out.push(near);
-    poles(w.cos5, polar, &mut out);
-    ray_angles(w.q4, fourth, &mut out);
-    bend_marks(w.cos5, polar, w.q4, fifth, &mut out);
-    sixth_angles(w, fourth, sixth, &mut out);
-    out.push(center);
-    out
+    let w = &f.wrist;
+    let cos5 = Polar::new(w.cos5);
+    out.push(f.near);
+    poles(&cos5, out);
+    ray_angles(&w.q4, &f.fourth, out);
+    bend_marks(&cos5, &w.q4, &f.fifth, out);
+    sixth_angles(w, &f.fourth, &f.sixth, out);
+    out.push(f.limits.center);
 }

@@ -5,10 +5,8 @@ ghost use Rattle.sampling.specs.Continuum as Of;
 ghost use Rattle.sampling.specs.Promises.Polar as By;
 
 use crate::pose::{Vector, dot};
-use float::arc::{acos, atan2};
-use float::number::{abs, clamp, is_finite};
-use float::trig::{hypot, sin_cos};
-use polynomial::angle::wrapped_angle;
+use float::number::{abs, is_finite};
+use float::trig::sin_cos;
 
 // 64 ε.
 pub(crate) const ROOT_ROUNDOFF: f64 = 1.4210854715202004e-14;
@@ -19,13 +17,6 @@ pub struct Trig {
     pub cosine: f64,
     pub sine: f64,
     pub constant: f64,
-}
-
-// Radius and phase of a polynomial.
-#[derive(Clone, Copy)]
-pub struct Polar {
-    pub radius: f64,
-    pub phase: f64,
 }
 
 // A vector whose components are first-harmonic polynomials of the free angle.
@@ -74,15 +65,6 @@ impl Trig {
         ROOT_ROUNDOFF * (abs(self.cosine) + abs(self.sine) + abs(self.constant) + abs(target))
     }
 
-    // Worked out once where a polynomial has many targets.
-    pub(crate) fn polar(self) -> Polar
-        ensures { result ≡ By.polar self }
-    {
-        let radius = hypot(self.cosine, self.sine);
-        let phase = atan2(self.sine, self.cosine);
-        Polar { radius, phase }
-    }
-
     // Whether the polynomial, of this radius, equals the target anywhere.
     pub(crate) fn meets(self, radius: f64, target: f64) -> bool
         ensures { result ≡ By.meets self radius target }
@@ -91,28 +73,6 @@ impl Trig {
         let room = radius + self.error(target);
         let finite = is_finite(radius) & is_finite(constant);
         finite & !(radius == 0.0) & !(room < abs(constant))
-    }
-
-    // The wrapped angles on both sides of the phase.
-    fn around(self, polar: Polar, target: f64) -> (f64, f64)
-        ensures { result ≡ By.around self polar target }
-    {
-        let constant = self.constant - target;
-        let offset = acos(clamp(-constant / polar.radius));
-        let first = wrapped_angle(polar.phase - offset);
-        let second = wrapped_angle(polar.phase + offset);
-        (first, second)
-    }
-
-    // The wrapped angles where the polynomial equals the target, by its radius and phase.
-    pub(crate) fn crossings_by(self, polar: Polar, target: f64) -> Option<(f64, f64)>
-        requires { polar ≡ By.polar self }
-        ensures { result ≡ Of.crossings self target }
-    {
-        if self.meets(polar.radius, target) {
-            return Some(self.around(polar, target));
-        }
-        None
     }
 }
 

@@ -1,6 +1,6 @@
 // Crossings that are deferred and worked out later, two at a time: what is worked out of one
 // does not wait for the other.
-ghost use Rattle.std.specs.Prelude.{◌≡◌, ◌∷◌, [], ◌++◌, ◌+◌, ◌*◌, ◌≤◌, ◌<◌, length};
+ghost use Rattle.std.specs.Prelude.{◌≡◌, ◌++◌, ◌+◌, ◌*◌, ◌≤◌, ◌<◌, length};
 ghost use Rattle.std.specs.List.{flat_map};
 ghost use Rattle.arrayvec.specs.ArrayVec.{array_vec_len, Extends};
 ghost use Rattle.sampling.specs.Continuum as Continuum;
@@ -44,9 +44,19 @@ pub(crate) fn defer(t: Trig, target: f64, deferred: &mut Deferred)
     }
 }
 
+// The two angles of a deferred crossing.
+#[tactic(auto, unfolding(crate::specs::Promises::Deferred::angles_of))]
+fn angles_of_one(p: Pending) -> [f64; 2]
+    ensures { result ≡ Of.angles_of p }
+{
+    let phase = atan2(p.sine, p.cosine);
+    let offset = acos(p.ratio);
+    [wrapped_angle(phase - offset), wrapped_angle(phase + offset)]
+}
+
 // The four angles of two deferred crossings.
-fn angles_of_two(p: Pending, q: Pending) -> Four
-    ensures { result.a ∷ (result.b ∷ (result.c ∷ (result.d ∷ []))) ≡ Of.angles_of p ++ Of.angles_of q }
+fn angles_of_two(p: Pending, q: Pending) -> [f64; 4]
+    ensures { result ≡ Of.angles_of p ++ Of.angles_of q }
 {
     let y = Four {
         a: p.sine,
@@ -61,36 +71,12 @@ fn angles_of_two(p: Pending, q: Pending) -> Four
         d: q.ratio,
     };
     let v = atan2_four(y, x);
-    Four {
-        a: wrapped_angle(v.a - v.b),
-        b: wrapped_angle(v.a + v.b),
-        c: wrapped_angle(v.c - v.d),
-        d: wrapped_angle(v.c + v.d),
-    }
-}
-
-fn push_two(p: Pending, q: Pending, out: &mut Angles)
-    requires { array_vec_len out.old + 4 ≤ 300 }
-    ensures items { Extends out.old (Of.angles_of p ++ Of.angles_of q) out.new }
-    ensures len { array_vec_len out.new ≡ array_vec_len out.old + 4 }
-{
-    let v = angles_of_two(p, q);
-    out.push(v.a);
-    out.push(v.b);
-    out.push(v.c);
-    out.push(v.d);
-}
-
-#[tactic(auto, unfolding(crate::specs::Promises::Deferred::angles_of))]
-fn push_one(p: Pending, out: &mut Angles)
-    requires { array_vec_len out.old + 2 ≤ 300 }
-    ensures items { Extends out.old (Of.angles_of p) out.new }
-    ensures len { array_vec_len out.new ≡ array_vec_len out.old + 2 }
-{
-    let phase = atan2(p.sine, p.cosine);
-    let offset = acos(p.ratio);
-    out.push(wrapped_angle(phase - offset));
-    out.push(wrapped_angle(phase + offset));
+    [
+        wrapped_angle(v.a - v.b),
+        wrapped_angle(v.a + v.b),
+        wrapped_angle(v.c - v.d),
+        wrapped_angle(v.c + v.d),
+    ]
 }
 
 // The angles of all deferred crossings.
@@ -101,10 +87,10 @@ pub(crate) fn angles_of(deferred: &[Pending], out: &mut Angles)
 {
     let mut left = deferred;
     while let [p, q, rest @ ..] = left {
-        push_two(*p, *q, out);
+        out.try_extend_from_slice(&angles_of_two(*p, *q)).unwrap();
         left = rest;
     }
     if let [p] = left {
-        push_one(*p, out);
+        out.try_extend_from_slice(&angles_of_one(*p)).unwrap();
     }
 }

@@ -18,6 +18,7 @@ pub mod limits;
 pub mod lists;
 pub mod marks;
 pub mod plan;
+pub mod polar;
 pub mod pose;
 pub mod rays;
 pub mod reads;

@@ -4,46 +4,44 @@ ghost use Rattle.std.specs.Prelude.{◌≡◌, ◌+◌, ◌≤◌, ◌<◌};
 ghost use Rattle.arrayvec.specs.ArrayVec.{array_vec_len, Extends};
 ghost use Rattle.sampling.specs.Promises.Deferred.{Defers};
 ghost use Rattle.sampling.specs.Continuum as Continuum;
-ghost use Rattle.sampling.specs.Promises.Polar as By;
 ghost use Rattle.sampling.specs.Rays as Of;
 
 use crate::angles::Angles;
-use crate::continuum::{Polar, Trig, line};
+use crate::continuum::line;
 use crate::deferred::{Deferred, angles_of, defer};
 use crate::intervals::Range;
 use crate::marks::Marks;
+use crate::polar::Polar;
 use crate::wrist::{Ray, Wrist};
 use arrayvec::ArrayVec;
 use float::number::is_finite;
 
-// Angles where the polynomial equals the target, by its radius and phase.
+// Angles where the harmonic equals the target.
 #[tactic(auto, unfolding(crate::specs::Continuum::roots))]
-pub(crate) fn roots_by(t: Trig, polar: Polar, target: f64, out: &mut Angles)
-    requires room { array_vec_len out.old + 2 ≤ 300 }
-    requires polar_value { polar ≡ By.polar t }
-    ensures items { Extends out.old (Continuum.roots t target) out.new }
+pub(crate) fn roots_at(t: &Polar, target: f64, out: &mut Angles)
+    requires { array_vec_len out.old + 2 ≤ 300 }
+    ensures items { Extends out.old (Continuum.roots t.now.harmonic target) out.new }
     ensures most { array_vec_len out.new ≤ array_vec_len out.old + 2 }
 {
-    if let Some((first, second)) = t.crossings_by(polar, target) {
+    if let Some((first, second)) = t.crossings(target) {
         out.push(first);
         out.push(second);
     }
 }
 
-pub(crate) fn poles(cos5: Trig, polar: Polar, out: &mut Angles)
-    requires room { array_vec_len out.old + 4 ≤ 300 }
-    requires polar_value { polar ≡ By.polar cos5 }
-    ensures items { Extends out.old (Of.poles cos5) out.new }
+pub(crate) fn poles(cos5: &Polar, out: &mut Angles)
+    requires { array_vec_len out.old + 4 ≤ 300 }
+    ensures items { Extends out.old (Of.poles cos5.now.harmonic) out.new }
     ensures most { array_vec_len out.new ≤ array_vec_len out.old + 4 }
 {
-    roots_by(cos5, polar, 1.0, out);
-    roots_by(cos5, polar, -1.0, out);
+    roots_at(cos5, 1.0, out);
+    roots_at(cos5, -1.0, out);
 }
 
 // Asks for the angles where the vector lies on the boundary line of an angle.
-fn ray_roots(ray: Ray, angle: f64, deferred: &mut Deferred)
+fn ray_roots(ray: &Ray, angle: f64, deferred: &mut Deferred)
     requires { array_vec_len deferred.old < 14 }
-    ensures items { Defers deferred.old (Continuum.ray_roots ray.x ray.y angle) deferred.new }
+    ensures items { Defers deferred.old (Continuum.ray_roots ray.now.x ray.now.y angle) deferred.new }
     ensures most { array_vec_len deferred.new ≤ array_vec_len deferred.old + 1 }
 {
     defer(line(ray.x, ray.y, angle), 0.0, deferred);
@@ -51,9 +49,9 @@ fn ray_roots(ray: Ray, angle: f64, deferred: &mut Deferred)
 
 // An angle counts if it is finite.
 #[tactic(auto, unfolding(crate::specs::Rays::ray_at))]
-fn ray_at(ray: Ray, angle: f64, deferred: &mut Deferred)
+fn ray_at(ray: &Ray, angle: f64, deferred: &mut Deferred)
     requires { array_vec_len deferred.old < 14 }
-    ensures items { Defers deferred.old (Of.ray_at ray angle) deferred.new }
+    ensures items { Defers deferred.old (Of.ray_at ray.now angle) deferred.new }
     ensures most { array_vec_len deferred.new ≤ array_vec_len deferred.old + 1 }
 {
     if is_finite(angle) {
@@ -62,9 +60,9 @@ fn ray_at(ray: Ray, angle: f64, deferred: &mut Deferred)
 }
 
 #[tactic(auto, unfolding(crate::specs::Rays::ray_range))]
-fn ray_range(ray: Ray, range: Range, deferred: &mut Deferred)
+fn ray_range(ray: &Ray, range: Range, deferred: &mut Deferred)
     requires { array_vec_len deferred.old + 2 ≤ 14 }
-    ensures items { Defers deferred.old (Of.ray_range ray range) deferred.new }
+    ensures items { Defers deferred.old (Of.ray_range ray.now range) deferred.new }
     ensures most { array_vec_len deferred.new ≤ array_vec_len deferred.old + 2 }
 {
     if let Some((lower, upper)) = range {
@@ -75,9 +73,9 @@ fn ray_range(ray: Ray, range: Range, deferred: &mut Deferred)
 
 // The reference and, with limits, their centre and ends.
 #[tactic(auto, unfolding(crate::specs::Rays::ray_marks))]
-fn ray_marks(ray: Ray, marks: Marks, deferred: &mut Deferred)
+fn ray_marks(ray: &Ray, marks: &Marks, deferred: &mut Deferred)
     requires { array_vec_len deferred.old + 4 ≤ 14 }
-    ensures items { Defers deferred.old (Of.ray_marks ray marks) deferred.new }
+    ensures items { Defers deferred.old (Of.ray_marks ray.now marks.now) deferred.new }
     ensures most { array_vec_len deferred.new ≤ array_vec_len deferred.old + 4 }
 {
     ray_at(ray, marks.reference, deferred);
@@ -89,9 +87,9 @@ fn ray_marks(ray: Ray, marks: Marks, deferred: &mut Deferred)
 
 // An angle of joint 4 with one of joint 6, at a pole.
 #[tactic(auto, unfolding(crate::specs::Rays::corner))]
-fn corner(ray: Ray, sign: f64, a: f64, b: f64, deferred: &mut Deferred)
+fn corner(ray: &Ray, sign: f64, a: f64, b: f64, deferred: &mut Deferred)
     requires { array_vec_len deferred.old < 14 }
-    ensures items { Defers deferred.old (Of.corner ray sign a b) deferred.new }
+    ensures items { Defers deferred.old (Of.corner ray.now sign a b) deferred.new }
     ensures most { array_vec_len deferred.new ≤ array_vec_len deferred.old + 1 }
 {
     ray_roots(ray, a + sign * b, deferred);
@@ -99,9 +97,9 @@ fn corner(ray: Ray, sign: f64, a: f64, b: f64, deferred: &mut Deferred)
 
 // Each end of joint 4's limits with each of joint 6's.
 #[tactic(auto, unfolding(crate::specs::Rays::corners))]
-fn corners(ray: Ray, sign: f64, fourth: Range, sixth: Range, deferred: &mut Deferred)
+fn corners(ray: &Ray, sign: f64, fourth: Range, sixth: Range, deferred: &mut Deferred)
     requires { array_vec_len deferred.old + 4 ≤ 14 }
-    ensures items { Defers deferred.old (Of.corners ray sign fourth sixth) deferred.new }
+    ensures items { Defers deferred.old (Of.corners ray.now sign fourth sixth) deferred.new }
     ensures most { array_vec_len deferred.new ≤ array_vec_len deferred.old + 4 }
 {
     if let (Some((a, b)), Some((c, d))) = (fourth, sixth) {
@@ -113,41 +111,41 @@ fn corners(ray: Ray, sign: f64, fourth: Range, sixth: Range, deferred: &mut Defe
 }
 
 #[tactic(auto, unfolding(crate::specs::Rays::phase_roots))]
-fn phase_roots(ray: Ray, sign: f64, fourth: Marks, sixth: Marks, deferred: &mut Deferred)
+fn phase_roots(ray: &Ray, sign: f64, fourth: &Marks, sixth: &Marks, deferred: &mut Deferred)
     requires { array_vec_len deferred.old + 5 ≤ 14 }
-    ensures items { Defers deferred.old (Of.phase_roots ray sign fourth sixth) deferred.new }
+    ensures items { Defers deferred.old (Of.phase_roots ray.now sign fourth.now sixth.now) deferred.new }
     ensures most { array_vec_len deferred.new ≤ array_vec_len deferred.old + 5 }
 {
     corner(ray, sign, fourth.reference, sixth.reference, deferred);
     corners(ray, sign, fourth.range(), sixth.range(), deferred);
 }
 
-fn phases(w: Wrist, fourth: Marks, sixth: Marks, deferred: &mut Deferred)
+fn phases(w: &Wrist, fourth: &Marks, sixth: &Marks, deferred: &mut Deferred)
     requires { array_vec_len deferred.old + 10 ≤ 14 }
-    ensures items { Defers deferred.old (Of.phases w fourth sixth) deferred.new }
+    ensures items { Defers deferred.old (Of.phases w.now fourth.now sixth.now) deferred.new }
     ensures most { array_vec_len deferred.new ≤ array_vec_len deferred.old + 10 }
 {
-    phase_roots(w.sum, 1.0, fourth, sixth, deferred);
-    phase_roots(w.difference, -1.0, fourth, sixth, deferred);
+    phase_roots(&w.sum, 1.0, fourth, sixth, deferred);
+    phase_roots(&w.difference, -1.0, fourth, sixth, deferred);
 }
 
 // Joint 6, if it is not fixed.
 #[tactic(auto, unfolding(crate::specs::Rays::sixth_roots))]
-fn sixth_roots(w: Wrist, fourth: Marks, sixth: Option<Marks>, deferred: &mut Deferred)
+fn sixth_roots(w: &Wrist, fourth: &Marks, sixth: &Option<Marks>, deferred: &mut Deferred)
     requires { array_vec_len deferred.old + 14 ≤ 14 }
-    ensures items { Defers deferred.old (Of.sixth_roots w fourth sixth) deferred.new }
+    ensures items { Defers deferred.old (Of.sixth_roots w.now fourth.now sixth.now) deferred.new }
     ensures most { array_vec_len deferred.new ≤ array_vec_len deferred.old + 14 }
 {
     if let Some(marks) = sixth {
-        ray_marks(w.q6, marks, deferred);
+        ray_marks(&w.q6, marks, deferred);
         phases(w, fourth, marks, deferred);
     }
 }
 
 // The angles at which a ray meets a joint's marks, worked out together.
-pub(crate) fn ray_angles(ray: Ray, marks: Marks, out: &mut Angles)
+pub(crate) fn ray_angles(ray: &Ray, marks: &Marks, out: &mut Angles)
     requires { array_vec_len out.old + 8 ≤ 300 }
-    ensures items { Extends out.old (Of.ray_marks ray marks) out.new }
+    ensures items { Extends out.old (Of.ray_marks ray.now marks.now) out.new }
     ensures most { array_vec_len out.new ≤ array_vec_len out.old + 8 }
 {
     let mut deferred = ArrayVec::new();
@@ -156,9 +154,9 @@ pub(crate) fn ray_angles(ray: Ray, marks: Marks, out: &mut Angles)
 }
 
 // The angles at which joint 6, or its sum or difference with joint 4, meets their marks.
-pub(crate) fn sixth_angles(w: Wrist, fourth: Marks, sixth: Option<Marks>, out: &mut Angles)
+pub(crate) fn sixth_angles(w: &Wrist, fourth: &Marks, sixth: &Option<Marks>, out: &mut Angles)
     requires { array_vec_len out.old + 28 ≤ 300 }
-    ensures items { Extends out.old (Of.sixth_roots w fourth sixth) out.new }
+    ensures items { Extends out.old (Of.sixth_roots w.now fourth.now sixth.now) out.new }
     ensures most { array_vec_len out.new ≤ array_vec_len out.old + 28 }
 {
     let mut deferred = ArrayVec::new();

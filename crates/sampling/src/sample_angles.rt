@@ -14,6 +14,7 @@ use crate::lists::{Lists, Plan};
 use crate::marks::{Marks, marks_of, model_angle};
 use crate::samples::interval_cuts;
 use crate::wrist::{Wrist, wrist_of};
+use arrayvec::ArrayVec;
 use float::number::is_finite;
 use float::trig::P;
 use polynomial::cuts::Put;
@@ -103,12 +104,14 @@ fn cut_intervals(work: &mut [f64], near: f64, three: Intervals, roots: &[f64]) -
 }
 
 // The cuts of a free joint, in the front of work.
-pub(crate) fn cut(work: &mut [f64], f: Free) -> Plan
-    ensures value { result ≡ granted (Of.cut_count f) (free_plan f) (length work.old) }
-    ensures work_after { where_laid result work.new [] ≡ where_laid result (free_cuts f ++ drop (Of.cut_count f) work.old) [] }
+pub(crate) fn cut(work: &mut [f64], f: &Free) -> Plan
+    ensures value { result ≡ granted (Of.cut_count f.now) (free_plan f.now) (length work.old) }
+    ensures work_after { where_laid result work.new [] ≡
+        where_laid result (free_cuts f.now ++ drop (Of.cut_count f.now) work.old) [] }
 {
     if is_finite(f.near) {
-        let roots = all_roots(f.wrist, f.near, f.fourth, f.fifth, f.sixth, f.limits.center);
+        let mut roots = ArrayVec::new();
+        all_roots(f, &mut roots);
         let three = wrist_limit_intervals(f.limits, f.near, 1.0);
         return cut_intervals(work, f.near, three, &roots);
     }

@@ -10,7 +10,7 @@ use Rattle.sampling.proofs.deferred.defer.Goals as goal
 pub returns-then-meets-clause-items : goal.returns-then-meets-clause-items
 returns-then-meets-clause-items c =
     let a = c.args in
-    let e = met_roots a.t a.target c.hypot-radius.result c.clamp-ratio.result _ c.hypot-radius.ensures c.clamp-ratio.ensures c.meets.ensures c.if-meets.true in
+    let e = met_roots a.t a.target c.hypot-radius.result _ c.hypot-radius.ensures c.meets.ensures c.clamp-ratio.result c.clamp-ratio.ensures c.if-meets.true in
     let old = a.deferred.now.items in
     ap (flat_map angles_of) c.push.ensures.items ∙ flat_map-append angles_of old (deferred a.t c.clamp-ratio.result ∷ [])
     ∙ ap (λ (z : List Float). flat_map angles_of old ++ z) (append-nil (angles_of (deferred a.t c.clamp-ratio.result)) ∙ e)
