@@ -4,5 +4,6 @@
 pub mod Laws
 mod Pushed
 mod Grown
+mod Literals
 mod Laid
 mod CriticalSlices

@@ -18,6 +18,7 @@ use polynomial::angle::wrapped_angle;
 use polynomial::curve::Harmonic;
 
 // Where the transverse component has a value.
+#[tactic(auto, unfolding(crate::specs::BendSlices::transverse, crate::proofs::Literals::of_bits))]
 fn transverse(radius: f64, azimuth: f64, component: f64, out: &mut Angles)
     requires { array_vec_len out.old + 2 ≤ 300 }
     ensures items { Extends out.old (Of.transverse radius azimuth component) out.new }
@@ -59,6 +60,7 @@ fn transverses(z: Vector, s5: f64, range4: Range, out: &mut Angles)
 }
 
 // The arm's axis, by joints 5 and 6.
+#[tactic(auto, unfolding(crate::specs::BendSlices::arm_axis))]
 fn arm_axis(m: Matrix, q5: SinCos, q6: SinCos) -> Vector
     ensures { result ≡ Of.arm_axis m q5 q6 }
 {
@@ -68,6 +70,7 @@ fn arm_axis(m: Matrix, q5: SinCos, q6: SinCos) -> Vector
 }
 
 // The two angles at which joint 1 points along a vector, or against it.
+#[tactic(auto, unfolding(crate::specs::BendSlices::axis_angles, crate::proofs::Literals::of_bits))]
 fn axis_angles(v: Vector, out: &mut Angles)
     requires { array_vec_len out.old + 2 ≤ 300 }
     ensures items { Extends out.old (Of.axis_angles v) out.new }
@@ -91,6 +94,7 @@ fn axes_range(m: Matrix, q5: SinCos, range: Range, out: &mut Angles)
 }
 
 // X of joint 4's vector, where joints 2 and 3 together are at an angle.
+#[tactic(auto, unfolding(crate::specs::BendSlices::fold))]
 fn fold(z: Vector, angle: f64) -> Harmonic
     ensures { result ≡ Of.fold z angle }
 {

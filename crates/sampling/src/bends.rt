@@ -29,6 +29,7 @@ pub(crate) fn norm_roots(x: Harmonic, y: Harmonic, norm: f64, out: &mut Angles)
     out.try_extend_from_slice(&found[..n]).unwrap();
 }
 
+#[tactic(auto, unfolding(crate::specs::Bends::harmonic))]
 fn harmonic(t: Trig) -> Harmonic
     ensures { result ≡ Of.harmonic t }
 {
@@ -40,6 +41,7 @@ fn harmonic(t: Trig) -> Harmonic
 }
 
 // Whether a bend of joint 5, by its sine, is close to a pole, not at it: its cosine hardly changes there.
+#[tactic(auto, unfolding(crate::specs::Bends::narrow, crate::proofs::Literals::of_bits, crate::proofs::Literals::round))]
 fn narrow(sine: f64) -> bool
     ensures { result ≡ Of.narrow sine }
 {

@@ -22,6 +22,7 @@ pub struct Curves {
 }
 
 // A harmonic that is a constant.
+#[tactic(auto, unfolding(crate::specs::Boundaries::level, crate::proofs::Literals::of_bits))]
 fn level(x: f64) -> Harmonic
     ensures { result ≡ Of.level x }
 {
@@ -33,6 +34,7 @@ fn level(x: f64) -> Harmonic
 }
 
 // 0, x, y of a column.
+#[tactic(auto, unfolding(crate::specs::Boundaries::along, crate::proofs::Literals::of_bits))]
 fn along(v: Vector) -> Harmonic
     ensures { result ≡ Of.along v }
 {
@@ -44,6 +46,7 @@ fn along(v: Vector) -> Harmonic
 }
 
 // 0, y, -x of a column.
+#[tactic(auto, unfolding(crate::specs::Boundaries::across, crate::proofs::Literals::of_bits))]
 pub(crate) fn across(v: Vector) -> Harmonic
     ensures { result ≡ Of.across v }
 {
@@ -55,6 +58,7 @@ pub(crate) fn across(v: Vector) -> Harmonic
 }
 
 // Adds corresponding coefficients of two J1 harmonics.
+#[tactic(auto, unfolding(crate::specs::Boundaries::plus))]
 fn plus(a: Harmonic, b: Harmonic) -> Harmonic
     ensures { result ≡ Of.plus a b }
 {
@@ -66,6 +70,7 @@ fn plus(a: Harmonic, b: Harmonic) -> Harmonic
 }
 
 // Scales every coefficient of a J1 harmonic.
+#[tactic(auto, unfolding(crate::specs::Boundaries::times))]
 fn times(a: Harmonic, factor: f64) -> Harmonic
     ensures { result ≡ Of.times a factor }
 {
@@ -77,6 +82,7 @@ fn times(a: Harmonic, factor: f64) -> Harmonic
 }
 
 // A(q1) cos(t) + B(q1) sin(t) + C(q1) = 0.
+#[tactic(auto, unfolding(crate::specs::Boundaries::curve))]
 fn curve_of(a: Harmonic, b: Harmonic, c: Harmonic) -> Curve
     ensures { result ≡ Of.curve a b c }
 {
@@ -93,6 +99,7 @@ fn curve_of(a: Harmonic, b: Harmonic, c: Harmonic) -> Curve
     }
 }
 
+#[tactic(auto, unfolding(crate::specs::Boundaries::second_curve, crate::proofs::Literals::of_bits))]
 fn second_curve(q3: f64, angle: f64) -> Curve
     ensures { result ≡ Of.second_curve q3 angle }
 {
@@ -104,6 +111,7 @@ fn second_curve(q3: f64, angle: f64) -> Curve
 }
 
 // The curve along which the cosine of joint 5 has a value.
+#[tactic(auto, unfolding(crate::specs::Boundaries::bend_curve))]
 fn bend_curve(z: Vector, cosine: f64) -> Curve
     ensures { result ≡ Of.bend_curve z cosine }
 {
@@ -113,6 +121,7 @@ fn bend_curve(z: Vector, cosine: f64) -> Curve
     curve_of(a, b, c)
 }
 
+#[tactic(auto, unfolding(crate::specs::Boundaries::fourth_curve))]
 fn fourth_curve(z: Vector, angle: f64) -> Curve
     ensures { result ≡ Of.fourth_curve z angle }
 {
@@ -123,6 +132,7 @@ fn fourth_curve(z: Vector, angle: f64) -> Curve
     curve_of(a, b, c)
 }
 
+#[tactic(auto, unfolding(crate::specs::Boundaries::fifth_curve))]
 fn fifth_curve(z: Vector, angle: f64) -> Curve
     ensures { result ≡ Of.fifth_curve z angle }
 {
@@ -130,6 +140,7 @@ fn fifth_curve(z: Vector, angle: f64) -> Curve
     bend_curve(z, t.cosine)
 }
 
+#[tactic(auto, unfolding(crate::specs::Boundaries::sixth_curve, crate::proofs::Literals::of_bits))]
 fn sixth_curve(m: Matrix, angle: f64) -> Curve
     ensures { result ≡ Of.sixth_curve m angle }
 {
@@ -141,6 +152,7 @@ fn sixth_curve(m: Matrix, angle: f64) -> Curve
 }
 
 // At a pole, an angle of joint 4 with one of joint 6.
+#[tactic(auto, unfolding(crate::specs::Boundaries::corner_curve))]
 fn corner_curve(m: Matrix, sign: f64, q4: f64, q6: f64) -> Curve
     ensures { result ≡ Of.corner_curve m sign q4 q6 }
 {
@@ -158,6 +170,7 @@ fn corner_curve(m: Matrix, sign: f64, q4: f64, q6: f64) -> Curve
 }
 
 // The limits of a wrist joint, where they are present and leave a part of the turn out.
+#[tactic(auto, unfolding(crate::specs::Boundaries::wrist_limits, crate::proofs::Literals::of_bits))]
 pub(crate) fn wrist_limits(limited: bool, j: Joint) -> Range
     ensures { result ≡ Of.wrist_limits limited j }
 {
@@ -209,6 +222,7 @@ fn add(c: Curves, v: Curve) -> Curves
 }
 
 // Both ends of joint 2's interval.
+#[tactic(auto, unfolding(crate::specs::Boundaries::second_curves))]
 fn second_curves(c: Curves, q3: f64, range: Range) -> Curves
     requires { c.count + 2 ≤ most_curves }
     ensures { Pushed 2 (Of.second_curves q3 range) c.count c.at result.count result.at }
@@ -222,6 +236,7 @@ fn second_curves(c: Curves, q3: f64, range: Range) -> Curves
     }
 }
 
+#[tactic(auto, unfolding(crate::specs::Boundaries::pole_curves, crate::proofs::Literals::of_bits))]
 fn pole_curves(c: Curves, z: Vector) -> Curves
     requires { c.count + 2 ≤ most_curves }
     ensures { Pushed 2 (Of.pole_curves z) c.count c.at result.count result.at }
@@ -230,6 +245,7 @@ fn pole_curves(c: Curves, z: Vector) -> Curves
     add(d, bend_curve(z, 1.0))
 }
 
+#[tactic(auto, unfolding(crate::specs::Boundaries::fourth_curves))]
 fn fourth_curves(c: Curves, z: Vector, range: Range) -> Curves
     requires { c.count + 2 ≤ most_curves }
     ensures { Pushed 2 (Of.fourth_curves z range) c.count c.at result.count result.at }
@@ -243,6 +259,7 @@ fn fourth_curves(c: Curves, z: Vector, range: Range) -> Curves
     }
 }
 
+#[tactic(auto, unfolding(crate::specs::Boundaries::fifth_curves))]
 fn fifth_curves(c: Curves, z: Vector, range: Range) -> Curves
     requires { c.count + 2 ≤ most_curves }
     ensures { Pushed 2 (Of.fifth_curves z range) c.count c.at result.count result.at }
@@ -256,6 +273,7 @@ fn fifth_curves(c: Curves, z: Vector, range: Range) -> Curves
     }
 }
 
+#[tactic(auto, unfolding(crate::specs::Boundaries::sixth_curves))]
 fn sixth_curves(c: Curves, m: Matrix, range: Range) -> Curves
     requires { c.count + 2 ≤ most_curves }
     ensures { Pushed 2 (Of.sixth_curves m range) c.count c.at result.count result.at }
@@ -270,6 +288,7 @@ fn sixth_curves(c: Curves, m: Matrix, range: Range) -> Curves
 }
 
 // Each end of joint 4's limits with each of joint 6's.
+#[tactic(auto, unfolding(crate::specs::Boundaries::signed_corners))]
 fn signed_corners(x: Curves, m: Matrix, sign: f64, a: f64, b: f64, c: f64, d: f64) -> Curves
     requires { x.count + 4 ≤ most_curves }
     ensures { Pushed 4 (Of.signed_corners m sign a b c d) x.count x.at result.count result.at }
@@ -297,6 +316,7 @@ fn corner_curves(x: Curves, m: Matrix, range4: Range, range6: Range) -> Curves
 }
 
 // Joint 2's interval, the poles, the wrist limits and the phases at a pole.
+#[tactic(auto, unfolding(crate::specs::Boundaries::boundaries))]
 pub(crate) fn boundaries(
     m: Matrix,
     q3: f64,

@@ -37,6 +37,7 @@ pub struct Axes {
 
 impl Trig {
     // Multiplies every coefficient by the given factor.
+    #[tactic(auto, unfolding(crate::specs::Continuum::scaled))]
     pub(crate) fn scaled(self, factor: f64) -> Self
         ensures { result ≡ Of.scaled self factor }
     {
@@ -48,6 +49,7 @@ impl Trig {
     }
 
     // Adds two polynomials coefficient by coefficient.
+    #[tactic(auto, unfolding(crate::specs::Continuum::plus))]
     pub(crate) fn plus(self, other: Trig) -> Self
         ensures { result ≡ Of.plus self other }
     {
@@ -59,6 +61,7 @@ impl Trig {
     }
 
     // How far rounding may carry the constant past the radius.
+    #[tactic(auto, unfolding(crate::specs::Continuum::error, crate::proofs::Literals::of_bits))]
     fn error(self, target: f64) -> f64
         ensures { result ≡ Of.error self target }
     {
@@ -66,6 +69,7 @@ impl Trig {
     }
 
     // Whether the polynomial, of this radius, equals the target anywhere.
+    #[tactic(auto, unfolding(crate::specs::Promises::Polar::meets, crate::proofs::Literals::of_bits))]
     pub(crate) fn meets(self, radius: f64, target: f64) -> bool
         ensures { result ≡ By.meets self radius target }
     {
@@ -78,6 +82,7 @@ impl Trig {
 
 impl TrigVector {
     // Projects the vector polynomial onto a fixed vector.
+    #[tactic(auto, unfolding(crate::specs::Continuum::dot))]
     pub(crate) fn dot(self, vector: Vector) -> Trig
         ensures { result ≡ Of.dot self vector }
     {
@@ -93,6 +98,7 @@ impl TrigVector {
 }
 
 // The polynomial that is zero where the vector (x, y) lies on the boundary line of an angle.
+#[tactic(auto, unfolding(crate::specs::Continuum::line))]
 pub(crate) fn line(x: Trig, y: Trig, angle: f64) -> Trig
     ensures { result ≡ Of.line x y angle }
 {

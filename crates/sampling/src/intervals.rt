@@ -19,6 +19,7 @@ pub struct Intervals {
 }
 
 // The centre seen from the reference; a tolerance of P or more is the whole turn.
+#[tactic(auto, unfolding(crate::specs::Intervals::seen, crate::proofs::Literals::of_bits))]
 fn seen(c: Center, reference: f64, sign: f64) -> Center
     ensures { result ≡ Of.seen c reference sign }
 {
@@ -36,6 +37,7 @@ fn seen(c: Center, reference: f64, sign: f64) -> Center
 }
 
 // The copy of the range that is shifted by a turn, cut off at -P and P.
+#[tactic(auto, unfolding(crate::specs::Intervals::interval, crate::proofs::Literals::of_bits, crate::proofs::Literals::neg))]
 fn interval(c: Center, shift: f64) -> Range
     ensures { result ≡ Of.interval c shift }
 {
@@ -48,6 +50,7 @@ fn interval(c: Center, shift: f64) -> Range
 }
 
 // The range with its neighbouring copies, since it may cross the ±P cut.
+#[tactic(auto, unfolding(crate::specs::Intervals::wrist_limit_intervals, crate::proofs::Literals::of_bits, crate::proofs::Literals::neg))]
 pub fn wrist_limit_intervals(c: Center, reference: f64, sign: f64) -> Intervals
     ensures { result ≡ Of.wrist_limit_intervals c reference sign }
 {

@@ -8,6 +8,7 @@ use crate::pose::Vector;
 use float::trig::sin_cos;
 
 // The columns of the arm's rotation as functions of joint 1.
+#[tactic(auto, unfolding(crate::specs::J1free::arm_axes, crate::proofs::Literals::of_bits))]
 pub(crate) fn arm_axes(arm: Arm) -> Axes
     ensures { result ≡ Of.arm_axes arm }
 {

@@ -37,6 +37,7 @@ pub struct Folded {
 }
 
 // Joint 1's reference as a model angle; neither it nor the offset is wrapped first.
+#[tactic(auto, unfolding(crate::specs::J1j2free::model_reference))]
 fn model_reference(j: Joint) -> f64
     ensures { result ≡ Of.model_reference j }
 {
@@ -44,6 +45,7 @@ fn model_reference(j: Joint) -> f64
 }
 
 // The limits of joint 6, which may be fixed.
+#[tactic(auto, unfolding(crate::specs::J1j2free::sixth_limits))]
 fn sixth_limits(fixed: bool, limited: bool, j: Joint) -> Range
     ensures { result ≡ Of.sixth_limits fixed limited j }
 {
@@ -53,6 +55,7 @@ fn sixth_limits(fixed: bool, limited: bool, j: Joint) -> Range
     wrist_limits(limited, j)
 }
 
+#[tactic(auto, unfolding(crate::specs::J1j2free::folded))]
 pub(crate) fn folded_of(job: Job) -> Folded
     ensures { result ≡ Of.folded job }
 {

@@ -8,6 +8,7 @@ use crate::pose::Vector;
 use float::trig::{SinCos, sin_cos};
 
 // The first column, by the direction of joint 1 and the angle of joint 3.
+#[tactic(auto, unfolding(crate::specs::J2free::x_axis, crate::proofs::Literals::of_bits))]
 fn x_axis(radial: Vector, third: SinCos) -> TrigVector
     ensures { result ≡ Of.x_axis radial third }
 {
@@ -23,6 +24,7 @@ fn x_axis(radial: Vector, third: SinCos) -> TrigVector
 }
 
 // The arm's third column, by the direction of joint 1 and the angle of joint 3.
+#[tactic(auto, unfolding(crate::specs::J2free::z_axis, crate::proofs::Literals::of_bits))]
 fn z_axis(radial: Vector, third: SinCos) -> TrigVector
     ensures { result ≡ Of.z_axis radial third }
 {
@@ -37,6 +39,7 @@ fn z_axis(radial: Vector, third: SinCos) -> TrigVector
 }
 
 // The columns of the arm's rotation as functions of joint 2.
+#[tactic(auto, unfolding(crate::specs::J2free::arm_axes, crate::proofs::Literals::of_bits))]
 pub(crate) fn arm_axes(arm: Arm) -> Axes
     ensures { result ≡ Of.arm_axes arm }
 {

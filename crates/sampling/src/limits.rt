@@ -11,6 +11,7 @@ use polynomial::angle::wrapped_angle;
 
 // The centre and the tolerance of a joint: of its limits where they are present, else its reference
 // and P.
+#[tactic(auto, unfolding(crate::specs::Limits::centered, crate::proofs::Literals::of_bits))]
 pub(crate) fn centered(limited: bool, j: Joint) -> Center
     ensures { result ≡ Limits.centered limited j }
 {
@@ -24,6 +25,7 @@ pub(crate) fn centered(limited: bool, j: Joint) -> Center
 }
 
 // The interval around a centre, seen as a model angle.
+#[tactic(auto, unfolding(crate::specs::Limits::limits_of, crate::proofs::Literals::of_bits))]
 pub(crate) fn limits_of(c: Center, sign: f64, offset: f64) -> Range
     ensures { result ≡ Limits.limits_of c sign offset }
 {
@@ -36,6 +38,7 @@ pub(crate) fn limits_of(c: Center, sign: f64, offset: f64) -> Range
 }
 
 // The continuous interval of a joint's model angle, or none for limits that admit no angle.
+#[tactic(auto, unfolding(crate::specs::Limits::limits))]
 pub fn limits(limited: bool, j: Joint) -> Range
     ensures { result ≡ Limits.limits limited j }
 {

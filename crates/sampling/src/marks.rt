@@ -34,6 +34,7 @@ impl Marks {
 }
 
 // An angle of a joint as a model angle. The offset is wrapped here.
+#[tactic(auto, unfolding(crate::specs::Marks::model_angle))]
 pub(crate) fn model_angle(sign: f64, offset: f64, angle: f64) -> f64
     ensures { result ≡ Of.model_angle sign offset angle }
 {
@@ -42,6 +43,7 @@ pub(crate) fn model_angle(sign: f64, offset: f64, angle: f64) -> f64
 }
 
 // The ends of limits, where there are any.
+#[tactic(auto, unfolding(crate::specs::Marks::ends, crate::proofs::Literals::of_bits))]
 fn ends(center: f64, tolerance: f64) -> Range
     ensures { result ≡ Of.ends center tolerance }
 {
@@ -52,6 +54,7 @@ fn ends(center: f64, tolerance: f64) -> Range
 }
 
 // A wrist joint's angles that count: its reference and, with limits, their centre and ends.
+#[tactic(auto, unfolding(crate::specs::Marks::marks, crate::proofs::Literals::of_bits))]
 pub(crate) fn marks_of(limited: bool, j: Joint) -> Marks
     ensures { result ≡ Of.marks limited j }
 {

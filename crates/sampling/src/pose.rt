@@ -21,12 +21,14 @@ pub struct Vector {
 }
 
 impl Vector {
+    #[tactic(auto, unfolding(crate::specs::Pose::vector))]
     pub fn new(x: f64, y: f64, z: f64) -> Self
         ensures { result ≡ Pose.vector x y z }
     {
         Self { x, y, z }
     }
 
+    #[tactic(auto, unfolding(crate::specs::Pose::times, crate::specs::Pose::vector))]
     pub(crate) fn times(self, factor: f64) -> Self
         ensures { result ≡ Pose.times self factor }
     {
@@ -37,6 +39,7 @@ impl Vector {
         }
     }
 
+    #[tactic(auto, unfolding(crate::specs::Pose::plus, crate::specs::Pose::vector))]
     pub(crate) fn plus(self, other: Vector) -> Self
         ensures { result ≡ Pose.plus self other }
     {
@@ -47,6 +50,7 @@ impl Vector {
         }
     }
 
+    #[tactic(auto, unfolding(crate::specs::Pose::minus, crate::specs::Pose::vector))]
     pub(crate) fn minus(self, other: Vector) -> Self
         ensures { result ≡ Pose.minus self other }
     {
@@ -57,6 +61,7 @@ impl Vector {
         }
     }
 
+    #[tactic(auto, unfolding(crate::specs::Pose::negated, crate::specs::Pose::vector))]
     pub(crate) fn negated(self) -> Self
         ensures { result ≡ Pose.negated self }
     {
@@ -89,6 +94,7 @@ fn all_finite(q: Quaternion) -> bool
     is_finite(q.x) & is_finite(q.y) & is_finite(q.z) & is_finite(q.w)
 }
 
+#[tactic(auto, unfolding(crate::specs::Pose::quaternion_length))]
 fn quaternion_length(q: Quaternion) -> f64
     ensures { result ≡ Pose.quaternion_length q }
 {
@@ -96,6 +102,7 @@ fn quaternion_length(q: Quaternion) -> f64
 }
 
 // q over its length, unless a part or the length is not finite, or the length is zero.
+#[tactic(auto, unfolding(crate::specs::Pose::try_normalize, crate::proofs::Literals::of_bits))]
 pub fn try_normalize(q: Quaternion) -> Normalized
     ensures { result ≡ Pose.try_normalize q }
 {
@@ -115,6 +122,7 @@ pub fn try_normalize(q: Quaternion) -> Normalized
 }
 
 // The rotation matrix of a normalized quaternion.
+#[tactic(auto, unfolding(crate::specs::Pose::from_quat, crate::proofs::Literals::of_bits))]
 pub fn from_quat(q: Quaternion) -> Matrix
     ensures { result ≡ Pose.from_quat q }
 {
@@ -140,12 +148,14 @@ pub fn from_quat(q: Quaternion) -> Matrix
     }
 }
 
+#[tactic(auto, unfolding(crate::specs::Pose::dot))]
 pub(crate) fn dot(a: Vector, b: Vector) -> f64
     ensures { result ≡ Pose.dot a b }
 {
     a.x * b.x + a.y * b.y + a.z * b.z
 }
 
+#[tactic(auto, unfolding(crate::specs::Pose::vector_length))]
 pub(crate) fn vector_length(a: Vector) -> f64
     ensures { result ≡ Pose.vector_length a }
 {

@@ -29,6 +29,7 @@ pub(crate) fn roots_at(t: &Polar, target: f64, out: &mut Angles)
     }
 }
 
+#[tactic(auto, unfolding(crate::specs::Rays::poles, crate::proofs::Literals::of_bits))]
 pub(crate) fn poles(cos5: &Polar, out: &mut Angles)
     requires { array_vec_len out.old + 4 ≤ 300 }
     ensures items { Extends out.old (Of.poles cos5.now.harmonic) out.new }
@@ -39,6 +40,7 @@ pub(crate) fn poles(cos5: &Polar, out: &mut Angles)
 }
 
 // Asks for the angles where the vector lies on the boundary line of an angle.
+#[tactic(auto, unfolding(crate::specs::Continuum::ray_roots, crate::proofs::Literals::of_bits))]
 fn ray_roots(ray: &Ray, angle: f64, deferred: &mut Deferred)
     requires { array_vec_len deferred.old < 14 }
     ensures items { Defers deferred.old (Continuum.ray_roots ray.now.x ray.now.y angle) deferred.new }
@@ -120,6 +122,7 @@ fn phase_roots(ray: &Ray, sign: f64, fourth: &Marks, sixth: &Marks, deferred: &m
     corners(ray, sign, fourth.range(), sixth.range(), deferred);
 }
 
+#[tactic(auto, unfolding(crate::specs::Rays::phases, crate::proofs::Literals::of_bits))]
 fn phases(w: &Wrist, fourth: &Marks, sixth: &Marks, deferred: &mut Deferred)
     requires { array_vec_len deferred.old + 10 ≤ 14 }
     ensures items { Defers deferred.old (Of.phases w.now fourth.now sixth.now) deferred.new }

@@ -31,6 +31,7 @@ pub struct Free {
 }
 
 // The free joint's limits as a model angle.
+#[tactic(auto, unfolding(crate::specs::SampleAngles::free_limits, crate::proofs::Literals::of_bits))]
 fn free_limits(limited: bool, j: Joint) -> Center
     ensures { result ≡ Of.free_limits limited j }
 {
@@ -49,6 +50,7 @@ fn free_limits(limited: bool, j: Joint) -> Center
 }
 
 // A fixed sixth joint is not read.
+#[tactic(auto, unfolding(crate::specs::SampleAngles::sixth))]
 fn sixth_of(fixed: bool, limited: bool, j: Joint) -> Option<Marks>
     ensures { result ≡ Of.sixth fixed limited j }
 {
@@ -59,6 +61,7 @@ fn sixth_of(fixed: bool, limited: bool, j: Joint) -> Option<Marks>
 }
 
 // What counts of a job whose joint j is free.
+#[tactic(auto, unfolding(crate::specs::SampleAngles::free))]
 pub(crate) fn free_of(axes: Axes, job: Job, j: Joint) -> Free
     ensures { result ≡ Of.free axes job j }
 {

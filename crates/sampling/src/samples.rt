@@ -14,6 +14,7 @@ use float::trig::TWO_PI;
 use polynomial::cuts::Put;
 
 // An angle counts where it lies in the interval.
+#[tactic(auto, unfolding(crate::specs::Samples::inside))]
 fn inside(work: &mut [f64], cuts: usize, lower: f64, upper: f64, angle: f64) -> usize
     ensures { Grown (Of.inside lower upper angle) work.old (counted cuts work.old) work.new
         (counted result work.new) }
@@ -25,6 +26,7 @@ fn inside(work: &mut [f64], cuts: usize, lower: f64, upper: f64, angle: f64) -> 
 }
 
 // An angle, a turn below, as it is and a turn above. Mostly the two outer ones lie outside.
+#[tactic(auto, unfolding(crate::specs::Samples::inside, crate::specs::Samples::copies, crate::proofs::Literals::of_bits))]
 fn copies(work: &mut [f64], cuts: usize, lower: f64, upper: f64, angle: f64) -> usize
     ensures { Grown (Of.copies lower upper angle) work.old (counted cuts work.old) work.new
         (counted result work.new) }
@@ -51,6 +53,7 @@ pub(crate) fn all_copies(work: &mut [f64], cuts: Put, lower: f64, upper: f64, an
 }
 
 // A root counts if it is finite.
+#[tactic(auto, unfolding(crate::specs::Samples::windings))]
 fn windings(work: &mut [f64], cuts: usize, lower: f64, upper: f64, root: f64) -> usize
     ensures { Grown (Of.windings lower upper root) work.old (counted cuts work.old) work.new
         (counted result work.new) }
@@ -91,6 +94,7 @@ pub(crate) fn interval_cuts(work: &mut [f64], near: f64, range: Range, roots: &[
 }
 
 // How far inside a pair of neighbouring cuts the outer samples lie.
+#[tactic(auto, unfolding(crate::specs::Samples::inset, crate::proofs::Literals::of_bits))]
 fn inset(lower: f64, upper: f64) -> f64
     ensures { result ≡ Of.inset lower upper }
 {
@@ -107,6 +111,7 @@ pub struct Three {
 }
 
 // The three samples between two neighbours.
+#[tactic(auto, unfolding(crate::specs::Samples::between))]
 pub fn between(lower: f64, upper: f64) -> Three
     ensures { result.first ∷ (result.second ∷ (result.third ∷ [])) ≡ Of.between lower upper }
 {
@@ -119,6 +124,7 @@ pub fn between(lower: f64, upper: f64) -> Three
 }
 
 // Of the three samples between two neighbours, the first (0), the second (1) or the third.
+#[tactic(auto, unfolding(crate::specs::Samples::between))]
 fn between_at(lower: f64, upper: f64, k: usize) -> f64
     requires { k ≤ 2 }
     ensures { result ≡ get_or (Of.between lower upper) k nan }

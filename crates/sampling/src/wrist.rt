@@ -25,6 +25,7 @@ pub struct Wrist {
 }
 
 // The sum (sign 1) or the difference (sign -1) of joints 4 and 6, at a pole.
+#[tactic(auto, unfolding(crate::specs::Wrist::phase, crate::proofs::Literals::of_bits))]
 fn phase(axis: Axes, m: Matrix, sign: f64) -> Ray
     ensures { result ≡ Of.phase axis m sign }
 {
@@ -36,6 +37,7 @@ fn phase(axis: Axes, m: Matrix, sign: f64) -> Ray
 }
 
 // All of them, by the arm's columns and the target's.
+#[tactic(auto, unfolding(crate::specs::Wrist::wrist, crate::proofs::Literals::of_bits))]
 pub(crate) fn wrist_of(axis: Axes, m: Matrix) -> Wrist
     ensures { result ≡ Of.wrist axis m }
 {
