@@ -64,9 +64,7 @@ fn transverses(z: Vector, s5: f64, range4: Range, out: &mut Angles)
 fn arm_axis(m: Matrix, q5: SinCos, q6: SinCos) -> Vector
     ensures { result ≡ Of.arm_axis m q5 q6 }
 {
-    let x = m.x.times(-q5.sine * q6.cosine);
-    let y = m.y.times(q5.sine * q6.sine);
-    x.plus(y).plus(m.z.times(q5.cosine))
+    m.x * (-q5.sine * q6.cosine) + m.y * (q5.sine * q6.sine) + m.z * q5.cosine
 }
 
 // The two angles at which joint 1 points along a vector, or against it.

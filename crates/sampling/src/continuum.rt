@@ -7,6 +7,7 @@ ghost use Rattle.sampling.specs.Promises.Polar as By;
 use crate::pose::{Vector, dot};
 use float::number::{abs, is_finite};
 use float::trig::sin_cos;
+use std::ops::{Add, Mul};
 
 // 64 ε.
 pub(crate) const ROOT_ROUNDOFF: f64 = 1.4210854715202004e-14;
@@ -35,31 +36,39 @@ pub struct Axes {
     pub z: TrigVector,
 }
 
-impl Trig {
-    // Multiplies every coefficient by the given factor.
+// Multiplies every coefficient by the given factor.
+impl Mul<f64> for Trig {
+    type Output = Trig;
+
+    ghost mul_gives = { λ t factor r. r ≡ Of.scaled t factor };
+
     #[tactic(auto, unfolding(crate::specs::Continuum::scaled))]
-    pub(crate) fn scaled(self, factor: f64) -> Self
-        ensures { result ≡ Of.scaled self factor }
-    {
-        Self {
+    fn mul(self, factor: f64) -> Trig {
+        Trig {
             cosine: self.cosine * factor,
             sine: self.sine * factor,
             constant: self.constant * factor,
         }
     }
+}
 
-    // Adds two polynomials coefficient by coefficient.
+// Adds two polynomials coefficient by coefficient.
+impl Add for Trig {
+    type Output = Trig;
+
+    ghost add_gives = { λ t u r. r ≡ Of.plus t u };
+
     #[tactic(auto, unfolding(crate::specs::Continuum::plus))]
-    pub(crate) fn plus(self, other: Trig) -> Self
-        ensures { result ≡ Of.plus self other }
-    {
-        Self {
+    fn add(self, other: Trig) -> Trig {
+        Trig {
             cosine: self.cosine + other.cosine,
             sine: self.sine + other.sine,
             constant: self.constant + other.constant,
         }
     }
+}
 
+impl Trig {
     // How far rounding may carry the constant past the radius.
     #[tactic(auto, unfolding(crate::specs::Continuum::error, crate::proofs::Literals::of_bits))]
     fn error(self, target: f64) -> f64
@@ -103,6 +112,5 @@ pub(crate) fn line(x: Trig, y: Trig, angle: f64) -> Trig
     ensures { result ≡ Of.line x y angle }
 {
     let a = sin_cos(angle);
-    let first = y.scaled(a.cosine);
-    first.plus(x.scaled(-a.sine))
+    y * a.cosine + x * -a.sine
 }

@@ -22,7 +22,7 @@ pub(crate) fn arm_axes(arm: Arm) -> Axes
         },
         y: TrigVector {
             cosine: Vector::new(0.0, 1.0, 0.0),
-            sine: x_axis.negated(),
+            sine: -x_axis,
             constant: Vector::new(0.0, 0.0, 0.0),
         },
         z: TrigVector {

@@ -13,12 +13,9 @@ fn x_axis(radial: Vector, third: SinCos) -> TrigVector
     ensures { result ≡ Of.x_axis radial third }
 {
     let z = Vector::new(0.0, 0.0, 1.0);
-    let along = radial.times(third.cosine);
-    let back = radial.negated();
-    let across = back.times(third.sine);
     TrigVector {
-        cosine: along.minus(z.times(third.sine)),
-        sine: across.minus(z.times(third.cosine)),
+        cosine: radial * third.cosine - z * third.sine,
+        sine: -radial * third.sine - z * third.cosine,
         constant: Vector::new(0.0, 0.0, 0.0),
     }
 }
@@ -29,11 +26,9 @@ fn z_axis(radial: Vector, third: SinCos) -> TrigVector
     ensures { result ≡ Of.z_axis radial third }
 {
     let z = Vector::new(0.0, 0.0, 1.0);
-    let across = radial.times(third.sine);
-    let along = radial.times(third.cosine);
     TrigVector {
-        cosine: across.plus(z.times(third.cosine)),
-        sine: along.minus(z.times(third.sine)),
+        cosine: radial * third.sine + z * third.cosine,
+        sine: radial * third.cosine - z * third.sine,
         constant: Vector::new(0.0, 0.0, 0.0),
     }
 }

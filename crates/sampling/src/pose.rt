@@ -4,6 +4,7 @@ ghost use Rattle.sampling.specs.Pose as Pose;
 
 use float::number::is_finite;
 use float::sqrt::sqrt;
+use std::ops::{Add, Mul, Neg, Sub};
 
 #[derive(Clone, Copy)]
 pub struct Quaternion {
@@ -27,45 +28,61 @@ impl Vector {
     {
         Self { x, y, z }
     }
+}
+
+impl Mul<f64> for Vector {
+    type Output = Vector;
+
+    ghost mul_gives = { λ a factor r. r ≡ Pose.times a factor };
 
     #[tactic(auto, unfolding(crate::specs::Pose::times, crate::specs::Pose::vector))]
-    pub(crate) fn times(self, factor: f64) -> Self
-        ensures { result ≡ Pose.times self factor }
-    {
-        Self {
+    fn mul(self, factor: f64) -> Vector {
+        Vector {
             x: self.x * factor,
             y: self.y * factor,
             z: self.z * factor,
         }
     }
+}
+
+impl Add for Vector {
+    type Output = Vector;
+
+    ghost add_gives = { λ a b r. r ≡ Pose.plus a b };
 
     #[tactic(auto, unfolding(crate::specs::Pose::plus, crate::specs::Pose::vector))]
-    pub(crate) fn plus(self, other: Vector) -> Self
-        ensures { result ≡ Pose.plus self other }
-    {
-        Self {
+    fn add(self, other: Vector) -> Vector {
+        Vector {
             x: self.x + other.x,
             y: self.y + other.y,
             z: self.z + other.z,
         }
     }
+}
+
+impl Sub for Vector {
+    type Output = Vector;
+
+    ghost sub_gives = { λ a b r. r ≡ Pose.minus a b };
 
     #[tactic(auto, unfolding(crate::specs::Pose::minus, crate::specs::Pose::vector))]
-    pub(crate) fn minus(self, other: Vector) -> Self
-        ensures { result ≡ Pose.minus self other }
-    {
-        Self {
+    fn sub(self, other: Vector) -> Vector {
+        Vector {
             x: self.x - other.x,
             y: self.y - other.y,
             z: self.z - other.z,
         }
     }
+}
+
+impl Neg for Vector {
+    type Output = Vector;
+
+    ghost neg_gives = { λ a r. r ≡ Pose.negated a };
 
     #[tactic(auto, unfolding(crate::specs::Pose::negated, crate::specs::Pose::vector))]
-    pub(crate) fn negated(self) -> Self
-        ensures { result ≡ Pose.negated self }
-    {
-        Self {
+    fn neg(self) -> Vector {
+        Vector {
             x: -self.x,
             y: -self.y,
             z: -self.z,
