@@ -1,6 +1,7 @@
 // The slices of narrow bends, from src/singularity/j1j2free.rs.
 ghost use Rattle.std.specs.Prelude.{◌≡◌, ◌+◌, ◌≤◌};
 ghost use Rattle.arrayvec.specs.ArrayVec.{array_vec_len, Extends};
+ghost use Rattle.sampling.specs.J1j2free.{bends};
 ghost use Rattle.sampling.specs.BendSlices as Of;
 
 use crate::angles::Angles;
@@ -131,9 +132,9 @@ fn folds_range(z: Vector, q3: f64, s5: f64, range: Range, out: &mut Angles)
 
 // One end of joint 5's limits.
 #[tactic(auto, unfolding(crate::specs::BendSlices::bend_slice))]
-fn bend_slice(t: Folded, angle5: f64, out: &mut Angles)
+fn bend_slice(t: &Folded, angle5: f64, out: &mut Angles)
     requires { array_vec_len out.old + 128 ≤ 300 }
-    ensures items { Extends out.old (Of.bend_slice t.matrix t.q3 t.range2 t.range4 t.range6 angle5) out.new }
+    ensures items { Extends out.old (Of.bend_slice t.now.matrix t.now.q3 t.now.range2 t.now.range4 t.now.range6 angle5) out.new }
     ensures most { array_vec_len out.new ≤ array_vec_len out.old + 128 }
 {
     let z = t.matrix.z;
@@ -145,10 +146,9 @@ fn bend_slice(t: Folded, angle5: f64, out: &mut Angles)
 
 // Critical slices of joint 1 where a cosine of joint 5 differs from that of a pole by less than the
 // roundoff.
-#[tactic(auto, unfolding(crate::specs::BendSlices::bend_slices))]
-pub(crate) fn bend_slices(t: Folded) -> Angles
-    ensures items { result.items ≡ Of.bend_slices t.matrix t.q3 t.range2 t.range4 t.range5 t.range6 }
-    ensures most { array_vec_len result ≤ 256 }
+#[tactic(auto, unfolding(crate::specs::J1j2free::bends, crate::specs::BendSlices::bend_slices))]
+pub(crate) fn bend_slices(t: &Folded) -> Angles
+    ensures { result.items ≡ bends t.now }
 {
     let mut out = ArrayVec::new();
     if let Some((lower, upper)) = t.range5 {

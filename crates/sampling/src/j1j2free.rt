@@ -10,7 +10,7 @@ ghost use Rattle.sampling.specs.Promises.Plan.{halves_of, folded_plan, folded_cu
 ghost use Rattle.sampling.specs.J1j2free as Of;
 
 use crate::bend_slices::bend_slices;
-use crate::boundaries::{Curves, boundaries, wrist_limits};
+use crate::boundaries::{boundaries, wrist_limits};
 use crate::critical_slices::{chart_of, critical};
 use crate::intervals::Range;
 use crate::job::{Job, Joint};
@@ -21,6 +21,7 @@ use crate::samples::all_copies;
 use crate::work::push;
 use float::number::middle;
 use polynomial::angle::wrapped_angle;
+use polynomial::curve::Curve;
 use polynomial::cuts::Put;
 
 // What counts of a job whose joints 1 and 2 are free.
@@ -79,16 +80,14 @@ pub(crate) fn folded_of(job: Job) -> Folded
 }
 
 // The cuts of one half, in the front of the slice.
-fn half_cuts(work: &mut [f64], curves: Curves, bends: &[f64], lower: f64, upper: f64) -> Put
-    requires { (curves.count ≤ most_curves) × Bounded (chart lower upper) }
-    ensures { Kept (half_values (take curves.count curves.at) bends.now lower upper) work.old work.new result }
+fn half_cuts(work: &mut [f64], curves: &[Curve], bends: &[f64], lower: f64, upper: f64) -> Put
+    requires { (length curves.now ≤ most_curves) × Bounded (chart lower upper) }
+    ensures { Kept (half_values curves.now bends.now lower upper) work.old work.new result }
 {
     let c = chart_of(lower, upper);
     let first = push(work, Put::Count(0), lower);
     let ends = push(work, first, upper);
-    let count = curves.count;
-    let at = curves.at;
-    let cuts = critical(work, ends, c, at, count);
+    let cuts = critical(work, ends, c, curves);
     all_copies(work, cuts, lower, upper, bends)
 }
 
@@ -121,21 +120,18 @@ fn halves_of(reference: f64, first: Put, second: Put) -> Plan
 }
 
 // The cuts of both halves, one list after the other in the front of work.
-fn cut_halves(work: &mut [f64], t: Folded, lower: f64, upper: f64) -> Plan
+fn cut_halves(work: &mut [f64], t: &Folded, lower: f64, upper: f64) -> Plan
     requires { Charted (Some (lower, upper)) }
-    ensures value { result ≡ granted (length (Of.first_half t lower upper) + length (Of.second_half t lower upper))
-        (halves_of t.reference (Of.first_half t lower upper) (Of.second_half t lower upper)) (length work.old) }
+    ensures value { result ≡ granted (length (Of.first_half t.now lower upper) + length (Of.second_half t.now lower upper))
+        (halves_of t.now.reference (Of.first_half t.now lower upper) (Of.second_half t.now lower upper)) (length work.old) }
     ensures work_after { where_laid result work.new [] ≡
-        where_laid result ((Of.first_half t lower upper ++ Of.second_half t lower upper)
-        ++ drop (length (Of.first_half t lower upper) + length (Of.second_half t lower upper)) work.old) [] }
+        where_laid result ((Of.first_half t.now lower upper ++ Of.second_half t.now lower upper)
+        ++ drop (length (Of.first_half t.now lower upper) + length (Of.second_half t.now lower upper)) work.old) [] }
 {
-    let range2 = t.range2;
-    let range4 = t.range4;
-    let range5 = t.range5;
-    let range6 = t.range6;
-    let found = bend_slices(t);
-    let bends = found.as_slice();
-    let curves = boundaries(t.matrix, t.q3, range2, range4, range5, range6);
+    let bends = bend_slices(t);
+    let bends = bends.as_slice();
+    let curves = boundaries(t);
+    let curves = curves.as_slice();
     let m = middle(lower, upper);
     let first = half_cuts(work, curves, bends, lower, m);
     let start = start_of(first, work.len());
@@ -144,10 +140,10 @@ fn cut_halves(work: &mut [f64], t: Folded, lower: f64, upper: f64) -> Plan
 }
 
 // The cuts of both halves of joint 1's interval; where it has none there is no cut and no angle.
-pub(crate) fn cut(work: &mut [f64], t: Folded) -> Plan
-    requires { Charted t.range1 }
-    ensures value { result ≡ granted (Of.cut_count t) (folded_plan t) (length work.old) }
-    ensures work_after { where_laid result work.new [] ≡ where_laid result (folded_cuts t ++ drop (Of.cut_count t) work.old) [] }
+pub(crate) fn cut(work: &mut [f64], t: &Folded) -> Plan
+    requires { Charted t.now.range1 }
+    ensures value { result ≡ granted (Of.cut_count t.now) (folded_plan t.now) (length work.old) }
+    ensures work_after { where_laid result work.new [] ≡ where_laid result (folded_cuts t.now ++ drop (Of.cut_count t.now) work.old) [] }
 {
     let range1 = t.range1;
     match range1 {

@@ -103,7 +103,7 @@ fn cut(work: &mut [f64], job: Job) -> Plan
     match kind {
         Kind::J1free => sample_angles::cut(work, &first_free(job)),
         Kind::J2free => sample_angles::cut(work, &second_free(job)),
-        Kind::J1j2free => j1j2free::cut(work, folded_of(job)),
+        Kind::J1j2free => j1j2free::cut(work, &folded_of(job)),
     }
 }
 

@@ -26,8 +26,8 @@ pub returns : goal.returns
 unfolding curves bends
 returns c =
     let a = c.args in
-    let all = laid_halves a.t a.lower a.upper _ (subst T (sym c.well_formed.1.1.0.1) tt) (subst T (sym c.well_formed.1.1.1.0.1) tt)
+    let all = laid_halves a.t.now a.lower a.upper _ (subst T (sym c.well_formed.1.1.0.1) tt) (subst T (sym c.well_formed.1.1.1.0.1) tt)
     c.middle-m.ensures
-    _ c.boundaries-curves.ensures.1 _ (c.as_slice-bends.ensures.value ∙ c.bend_slices-found.ensures.items)
+    _ (c.as_slice-curves.ensures.value ∙ c.boundaries-curves.ensures) _ (c.as_slice-bends.ensures.value ∙ c.bend_slices-bends.ensures)
     _ _ _ c.half_cuts-first.result c.half_cuts-second.result _ c.start_of-start.ensures
     c.half_cuts-first.ensures c.half_cuts-second.ensures c.halves_of.result c.halves_of.ensures in record { value = all.0; work_after = all.1 }
