@@ -17,7 +17,7 @@ pub struct Harmonic {
 
 // A boundary A(q1) cos(t) + B(q1) sin(t) + C(q1) = 0, with t = q2 + q3: the harmonics a, b and c,
 // each by its constant, cosine and sine coefficient.
-#[derive(Clone, Copy)]
+#[derive(Clone, Copy, Default)]
 pub struct Curve {
     pub a0: f64,
     pub a1: f64,

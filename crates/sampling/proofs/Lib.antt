@@ -1,9 +1,7 @@
--- What the proofs of several functions share: lists, deferred crossings and cuts that grow (`Pushed`, `Deferrals`,
--- `Grown`), lists of cuts one after the other (`Laid`), roots and curves one by one (`CriticalSlices`).
+-- What the proofs of several functions share: cuts that grow (`Grown`), lists of cuts one after the other (`Laid`), roots and curves one by one (`CriticalSlices`).
 -- `Laws`: theorems that upper crates cite.
 pub mod Laws
-mod Pushed
-mod Deferrals
 mod Grown
+mod Literals
 mod Laid
 mod CriticalSlices

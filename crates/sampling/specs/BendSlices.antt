@@ -1,7 +1,7 @@
 -- The slices of narrow bends: `bend_slices` of j1j2free.rs (01, module 6). Definitions only.
 -- Near a pole the cosine of joint 5 differs from ±1 by less than the rounding of the matrix, so its curve loses the bend. The slices are found again
 -- from sines, across the arm: where joint 5's end meets an end of joint 4, 6 or 2, and where the component across is largest.
-use Rattle.std.specs.Prelude.{◌&&◌, cond, List, [], ◌∷◌, ◌++◌, Float}
+use Rattle.std.specs.Prelude.{None, Some, ◌&&◌, cond, List, [], ◌∷◌, ◌++◌, Float}
 use Rattle.std.specs.Float.Ieee.{neg, lt, le}
 use Rattle.float.specs.Number.{◌⊕◌, ◌⊖◌, ◌⊗◌, ◌⊘◌, abs, clamp, zero_float, one_float}
 use Rattle.float.specs.Trig.{P, sin_cos, hypot, atan2, asin}
@@ -11,11 +11,10 @@ use Rattle.polynomial.specs.Curve.{squared_norm_roots}
 use Rattle.polynomial.specs.declared.curve.Harmonic.{Harmonic}
 use Rattle.sampling.specs.Continuum.{root_roundoff}
 use Rattle.sampling.specs.Boundaries.{across}
-use Rattle.sampling.specs.declared.intervals.Range.{Range}
-use Rattle.sampling.specs.declared.intervals.Range.TheVariants.{Nothing, Between}
 use Rattle.sampling.specs.declared.pose.Vector.{Vector}
 use Rattle.sampling.specs.declared.pose.Matrix.{Matrix}
 use Rattle.sampling.specs.Pose as Pose
+use Rattle.sampling.specs.Intervals.{Range}
 
 -- z is the target's third column, s5 the sine of joint 5 at an end of its limits.
 
@@ -30,8 +29,8 @@ transverse radius azimuth component =
 
 -- joint 4 at both ends of its limits
 unfoldable pub transverse_range : Float → Float → Float → Range → List Float
-transverse_range radius azimuth extreme Nothing = []
-transverse_range radius azimuth extreme (Between lower upper) =
+transverse_range radius azimuth extreme None = []
+transverse_range radius azimuth extreme (Some (lower, upper)) =
     transverse radius azimuth (extreme ⊗ (sin_cos lower).sine) ++ transverse radius azimuth (extreme ⊗ (sin_cos upper).sine)
 
 -- the largest component in either direction, then joint 4's limits
@@ -52,8 +51,8 @@ unfoldable pub axis_angles : Vector → List Float
 axis_angles v = let angle = atan2 v.y v.x in angle ∷ [] ++ wrapped_angle (angle ⊕ P) ∷ []
 
 unfoldable pub axes_range : Matrix → SinCos → Range → List Float
-axes_range m q5 Nothing = []
-axes_range m q5 (Between lower upper) = axis_angles (arm_axis m q5 (sin_cos lower)) ++ axis_angles (arm_axis m q5 (sin_cos upper))
+axes_range m q5 None = []
+axes_range m q5 (Some (lower, upper)) = axis_angles (arm_axis m q5 (sin_cos lower)) ++ axis_angles (arm_axis m q5 (sin_cos upper))
 
 -- x of joint 4's vector, whose y is `across z`, where joints 2 and 3 together are at an angle
 unfoldable pub fold : Vector → Float → Harmonic
@@ -64,8 +63,8 @@ unfoldable pub folds : Vector → Float → Float → Float → List Float
 folds z q3 s5 angle2 = squared_norm_roots (fold z (angle2 ⊕ q3)) (across z) (Pose.vector_length z ⊗ abs s5)
 
 unfoldable pub folds_range : Vector → Float → Float → Range → List Float
-folds_range z q3 s5 Nothing = []
-folds_range z q3 s5 (Between lower upper) = folds z q3 s5 lower ++ folds z q3 s5 upper
+folds_range z q3 s5 None = []
+folds_range z q3 s5 (Some (lower, upper)) = folds z q3 s5 lower ++ folds z q3 s5 upper
 
 -- one end of joint 5's limits: 128 angles at most
 unfoldable pub bend_slice : Matrix → Float → Range → Range → Range → Float → List Float
@@ -75,5 +74,5 @@ bend_slice m q3 range2 range4 range6 angle5 =
 
 -- both ends of joint 5's limits
 unfoldable pub bend_slices : Matrix → Float → Range → Range → Range → Range → List Float
-bend_slices m q3 range2 range4 Nothing range6 = []
-bend_slices m q3 range2 range4 (Between lower upper) range6 = bend_slice m q3 range2 range4 range6 lower ++ bend_slice m q3 range2 range4 range6 upper
+bend_slices m q3 range2 range4 None range6 = []
+bend_slices m q3 range2 range4 (Some (lower, upper)) range6 = bend_slice m q3 range2 range4 range6 lower ++ bend_slice m q3 range2 range4 range6 upper

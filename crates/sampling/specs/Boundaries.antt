@@ -1,16 +1,15 @@
 -- The boundary curves of two free joints, in the order in which the Rust pushes them: `boundaries` of j1j2free.rs (01, module 6). Definitions only.
-use Rattle.std.specs.Prelude.{Bool, not, ◌||◌, cond, List, [], ◌∷◌, ◌++◌, Float}
+use Rattle.std.specs.Prelude.{None, Some, Bool, not, ◌||◌, cond, List, [], ◌∷◌, ◌++◌, Float}
 use Rattle.std.specs.Float.Ieee.{neg, le}
 use Rattle.float.specs.Number.{◌⊕◌, ◌⊗◌, zero_float, one_float}
 use Rattle.float.specs.Trig.{P, sin_cos}
 use Rattle.polynomial.specs.declared.curve.Harmonic.{Harmonic}
 use Rattle.polynomial.specs.declared.curve.Curve.{Curve}
 use Rattle.sampling.specs.Limits.{centered, limits_of}
-use Rattle.sampling.specs.declared.intervals.Range.{Range}
-use Rattle.sampling.specs.declared.intervals.Range.TheVariants.{Nothing, Between}
 use Rattle.sampling.specs.declared.job.Joint.{Joint}
 use Rattle.sampling.specs.declared.pose.Vector.{Vector}
 use Rattle.sampling.specs.declared.pose.Matrix.{Matrix}
+use Rattle.sampling.specs.Intervals.{Range}
 
 -- harmonics of J1: a constant; 0, x, y and 0, y, -x of a column (the Rust's ax, ay, az and yx, yy, yz)
 unfoldable pub level : Float → Harmonic
@@ -82,37 +81,37 @@ corner_curve m sign q4 q6 =
 -- The limits of a wrist joint where they are present and leave a part of the turn out: a tolerance of P or more bounds nothing.
 unfoldable pub wrist_limits : Bool → Joint → Range
 wrist_limits limited j =
-    cond (not limited || le P (centered limited j).tolerance) Nothing (limits_of (centered limited j) j.sign j.offset)
+    cond (not limited || le P (centered limited j).tolerance) None (limits_of (centered limited j) j.sign j.offset)
 
 -- both ends of a joint's interval
 unfoldable pub second_curves : Float → Range → List Curve
-second_curves q3 Nothing = []
-second_curves q3 (Between lower upper) = second_curve q3 lower ∷ [] ++ second_curve q3 upper ∷ []
+second_curves q3 None = []
+second_curves q3 (Some (lower, upper)) = second_curve q3 lower ∷ [] ++ second_curve q3 upper ∷ []
 
 -- The poles count without limits too: joints 4 and 6 change their representation there, and their phase is left to the samples of joint 2.
 unfoldable pub pole_curves : Vector → List Curve
 pole_curves z = bend_curve z (neg one_float) ∷ [] ++ bend_curve z one_float ∷ []
 
 unfoldable pub fourth_curves : Vector → Range → List Curve
-fourth_curves z Nothing = []
-fourth_curves z (Between lower upper) = fourth_curve z lower ∷ [] ++ fourth_curve z upper ∷ []
+fourth_curves z None = []
+fourth_curves z (Some (lower, upper)) = fourth_curve z lower ∷ [] ++ fourth_curve z upper ∷ []
 
 unfoldable pub fifth_curves : Vector → Range → List Curve
-fifth_curves z Nothing = []
-fifth_curves z (Between lower upper) = fifth_curve z lower ∷ [] ++ fifth_curve z upper ∷ []
+fifth_curves z None = []
+fifth_curves z (Some (lower, upper)) = fifth_curve z lower ∷ [] ++ fifth_curve z upper ∷ []
 
 unfoldable pub sixth_curves : Matrix → Range → List Curve
-sixth_curves m Nothing = []
-sixth_curves m (Between lower upper) = sixth_curve m lower ∷ [] ++ sixth_curve m upper ∷ []
+sixth_curves m None = []
+sixth_curves m (Some (lower, upper)) = sixth_curve m lower ∷ [] ++ sixth_curve m upper ∷ []
 
 -- each end a, b of joint 4 with each end c, d of joint 6
 unfoldable pub signed_corners : Matrix → Float → Float → Float → Float → Float → List Curve
 signed_corners m sign a b c d = ((corner_curve m sign a c ∷ [] ++ corner_curve m sign a d ∷ []) ++ corner_curve m sign b c ∷ []) ++ corner_curve m sign b d ∷ []
 
 unfoldable pub corner_curves : Matrix → Range → Range → List Curve
-corner_curves m Nothing r = []
-corner_curves m (Between a b) Nothing = []
-corner_curves m (Between a b) (Between c d) = signed_corners m (neg one_float) a b c d ++ signed_corners m one_float a b c d
+corner_curves m None r = []
+corner_curves m (Some (a, b)) None = []
+corner_curves m (Some (a, b)) (Some (c, d)) = signed_corners m (neg one_float) a b c d ++ signed_corners m one_float a b c d
 
 -- Joint 2's interval, the poles, the limits of joints 4, 5 and 6, and the phases at a pole: 18 at most.
 unfoldable pub boundaries : Matrix → Float → Range → Range → Range → Range → List Curve

@@ -2,7 +2,7 @@
 -- With joint 1 or joint 2 free, every entry of the wrist's rotation is a cos(t) + b sin(t) + c, so the angles
 -- where a wrist joint meets a limit have a formula. Between two neighbouring ones no wrist angle enters or
 -- leaves its range: samples there miss no range, however narrow, where a grid would.
-use Rattle.std.specs.Prelude.{false, not, ◌||◌, cond, List, [], ◌∷◌, negsuc, Float}
+use Rattle.std.specs.Prelude.{Option, None, Some, false, not, ◌||◌, cond, List, [], ◌∷◌, negsuc, Float}
 use Rattle.std.specs.Float.{fin}
 use Rattle.std.specs.Float.Ieee.{neg, eq, lt}
 use Rattle.std.specs.Float.Ieee.Scale.{finite}
@@ -13,8 +13,6 @@ use Rattle.sampling.specs.Pose as Pose
 use Rattle.sampling.specs.declared.pose.Vector.{Vector}
 use Rattle.sampling.specs.declared.continuum.Trig.{Trig}
 use Rattle.sampling.specs.declared.continuum.TrigVector.{TrigVector}
-use Rattle.sampling.specs.declared.continuum.Crossings.{Crossings}
-use Rattle.sampling.specs.declared.continuum.Crossings.TheVariants.{Neither, Both}
 
 unfoldable pub scaled : Trig → Float → Trig
 scaled t factor = record { cosine = t.cosine ⊗ factor; sine = t.sine ⊗ factor; constant = t.constant ⊗ factor }
@@ -36,18 +34,18 @@ error t target = root_roundoff ⊗ (abs t.cosine ⊕ abs t.sine ⊕ abs t.consta
 
 -- Where t equals the target: the wrapped angles on both sides of the phase. A t without radius is the same
 -- at every angle: it places no boundary, and the others sample its whole interval.
-unfoldable pub crossings : Trig → Float → Crossings
+unfoldable pub crossings : Trig → Float → Option (Float × Float)
 crossings t target =
     let radius = hypot t.cosine t.sine in
     let constant = t.constant ⊖ target in
     let phase = atan2 t.sine t.cosine in
     let offset = acos (clamp (neg constant ⊘ radius)) in
-    cond (not (finite radius) || not (finite constant) || eq radius zero_float || lt (radius ⊕ error t target) (abs constant)) Neither
-    (Both (wrapped_angle (phase ⊖ offset)) (wrapped_angle (phase ⊕ offset)))
+    cond (not (finite radius) || not (finite constant) || eq radius zero_float || lt (radius ⊕ error t target) (abs constant)) None
+    (Some (wrapped_angle (phase ⊖ offset), wrapped_angle (phase ⊕ offset)))
 
-abbrev pub listed : Crossings → List Float
-listed Neither = []
-listed (Both a b) = a ∷ (b ∷ [])
+abbrev pub listed : Option (Float × Float) → List Float
+listed None = []
+listed (Some (a, b)) = a ∷ (b ∷ [])
 
 unfoldable pub roots : Trig → Float → List Float
 roots t target = listed (crossings t target)

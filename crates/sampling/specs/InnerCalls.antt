@@ -1,6 +1,7 @@
 -- The inner calls of the root finder that a job makes, in order: what 01's refusal 9 went over, until 02's change 5 took it out, and what `Laws.InnerCalls`
 -- says of each. No function promises any of it. Definitions only.
 use Rattle.std.specs.Prelude.{cond, List, [], ◌++◌, map, Float}
+use Rattle.std.specs.Option.{option_map_or}
 use Rattle.std.specs.Float.Ieee.Scale.{finite}
 use Rattle.float.specs.Number.{◌⊕◌, ◌⊗◌, abs, middle}
 use Rattle.float.specs.Trig.{sin_cos}
@@ -13,7 +14,6 @@ use Rattle.sampling.specs.CriticalSlices.{chart, all_polynomials, calls}
 use Rattle.sampling.specs.J1j2free.{folded, curves, on_interval}
 use Rattle.sampling.specs.Angles.{first_free, second_free, by_kind}
 use Rattle.sampling.specs.declared.critical_slices.Chart.{Chart}
-use Rattle.sampling.specs.declared.intervals.Range.{Range}
 use Rattle.sampling.specs.declared.j1j2free.Folded.{Folded}
 use Rattle.sampling.specs.declared.job.Job.{Job}
 use Rattle.sampling.specs.declared.marks.Marks.{Marks}
@@ -21,6 +21,7 @@ use Rattle.sampling.specs.declared.pose.Vector.{Vector}
 use Rattle.sampling.specs.declared.sample_angles.Free.{Free}
 use Rattle.sampling.specs.declared.wrist.Ray.{Ray}
 use Rattle.sampling.specs.Pose as Pose
+use Rattle.sampling.specs.Intervals.{Range}
 
 -- what is asked at both ends of an interval
 abbrev pub at_ends : (Float → List Call) → Range → List Call
@@ -35,7 +36,7 @@ bend_calls q4 angle =
     cond (finite angle) (cond (narrow sine) (norm_calls (harmonic q4.x) (harmonic q4.y) sine) []) []
 
 unfoldable pub marks_calls : Ray → Marks → List Call
-marks_calls q4 m = bend_calls q4 m.reference ++ cond m.limited (bend_calls q4 m.center ++ at_ends (bend_calls q4) m.range) []
+marks_calls q4 m = bend_calls q4 m.reference ++ option_map_or (λ l. bend_calls q4 l.center ++ at_ends (bend_calls q4) l.range) m.limits []
 
 unfoldable pub free_calls : Free → List Call
 free_calls f = cond (finite f.near) (marks_calls f.wrist.q4 f.fifth) []

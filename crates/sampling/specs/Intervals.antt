@@ -1,15 +1,17 @@
 -- Allowed displacements from a reference, bounded to the nearest full turn: `wrist_limit_intervals` of the Rust
 -- (01, module 4). A limit interval is either none or a pair of angles. Definitions only.
-use Rattle.std.specs.Prelude.{◌&&◌, cond, Float}
+use Rattle.std.specs.Prelude.{Option, None, Some, ◌&&◌, cond, Float}
 use Rattle.std.specs.Float.Ieee.{le, neg}
 use Rattle.std.specs.Float.Ieee.Scale.{finite}
 use Rattle.float.specs.Number.{◌⊕◌, ◌⊖◌, ◌⊗◌, minimum, maximum, zero_float}
 use Rattle.float.specs.Trig.{P}
 use Rattle.polynomial.specs.Angle.{two_pi, wrapped_angle}
 use Rattle.sampling.specs.declared.constraints.Center.{Center}
-use Rattle.sampling.specs.declared.intervals.Range.{Range}
-use Rattle.sampling.specs.declared.intervals.Range.TheVariants.{Nothing, Between}
 use Rattle.sampling.specs.declared.intervals.Intervals.{Intervals}
+
+-- none, or a pair of angles
+abbrev pub Range : Type 0
+Range = Option (Float × Float)
 
 -- the centre seen from the reference; a tolerance of P or more, the infinite one included, is the whole turn
 unfoldable pub seen : Center → Float → Float → Center
@@ -23,7 +25,7 @@ unfoldable pub interval : Center → Float → Range
 interval c shift =
     let lower = maximum (c.center ⊕ shift ⊖ c.tolerance) (neg P) in
     let upper = minimum (c.center ⊕ shift ⊕ c.tolerance) P in
-    cond (finite c.center && le zero_float c.tolerance && le lower upper) (Between lower upper) Nothing
+    cond (finite c.center && le zero_float c.tolerance && le lower upper) (Some (lower, upper)) None
 
 -- a circular range may cross the ±P cut, so its neighbouring copies are included
 unfoldable pub wrist_limit_intervals : Center → Float → Float → Intervals

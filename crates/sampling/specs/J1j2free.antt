@@ -1,5 +1,5 @@
 -- Two free joints: `search` of j1j2free.rs up to its last dedup, whose list is kind 3 (01, module 6). Definitions only.
-use Rattle.std.specs.Prelude.{ℕ, ◌+◌, Bool, cond, List, [], ◌∷◌, ◌++◌, length, Float}
+use Rattle.std.specs.Prelude.{None, Some, ℕ, ◌+◌, Bool, cond, List, [], ◌∷◌, ◌++◌, length, Float}
 use Rattle.float.specs.Number.{◌⊖◌, ◌⊗◌, middle}
 use Rattle.polynomial.specs.Angle.{wrapped_angle}
 use Rattle.polynomial.specs.Cuts.{cuts}
@@ -10,11 +10,10 @@ use Rattle.sampling.specs.Boundaries.{wrist_limits, boundaries}
 use Rattle.sampling.specs.BendSlices.{bend_slices}
 use Rattle.sampling.specs.CriticalSlices.{chart, critical}
 use Rattle.sampling.specs.Slices.{slices}
-use Rattle.sampling.specs.declared.intervals.Range.{Range}
-use Rattle.sampling.specs.declared.intervals.Range.TheVariants.{Nothing, Between}
 use Rattle.sampling.specs.declared.job.Job.{Job}
 use Rattle.sampling.specs.declared.job.Joint.{Joint}
 use Rattle.sampling.specs.declared.j1j2free.Folded.{Folded}
+use Rattle.sampling.specs.Intervals.{Range}
 
 -- joint 1's reference as a model angle; neither it nor the offset is wrapped first
 unfoldable pub model_reference : Joint → Float
@@ -22,7 +21,7 @@ model_reference j = wrapped_angle (j.reference ⊗ j.sign ⊖ j.offset)
 
 -- the limits of joint 6; a fixed one is not read
 unfoldable pub sixth_limits : Bool → Bool → Joint → Range
-sixth_limits fixed limited j = cond fixed Nothing (wrist_limits limited j)
+sixth_limits fixed limited j = cond fixed None (wrist_limits limited j)
 
 -- What counts of a job whose joints 1 and 2 are free.
 unfoldable pub folded : Job → Folded
@@ -61,8 +60,8 @@ second_half t lower upper = half_cuts t (middle lower upper) upper
 
 -- what an interval gives by its ends, or what stands for none
 abbrev pub on_interval : {A : Type 0} → Range → A → (Float → Float → A) → A
-on_interval Nothing none some = none
-on_interval (Between lower upper) none some = some lower upper
+on_interval None none some = none
+on_interval (Some (lower, upper)) none some = some lower upper
 
 -- both halves' lists, lengths added
 unfoldable pub cut_count : Folded → ℕ

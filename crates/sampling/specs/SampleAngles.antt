@@ -1,5 +1,5 @@
 -- One free joint: `sample_angles` of continuum.rs (01, module 5). Kind 1's angles are those of joint 1, kind 2's those of joint 2. Definitions only.
-use Rattle.std.specs.Prelude.{ℕ, ◌+◌, Bool, cond, List, [], length, Float}
+use Rattle.std.specs.Prelude.{Option, None, Some, ℕ, ◌+◌, Bool, cond, List, [], length, Float}
 use Rattle.std.specs.Float.Ieee.Scale.{finite}
 use Rattle.float.specs.Number.{zero_float, one_float}
 use Rattle.float.specs.Trig.{P}
@@ -14,8 +14,7 @@ use Rattle.sampling.specs.declared.continuum.Axes.{Axes}
 use Rattle.sampling.specs.declared.intervals.Intervals.{Intervals}
 use Rattle.sampling.specs.declared.job.Job.{Job}
 use Rattle.sampling.specs.declared.job.Joint.{Joint}
-use Rattle.sampling.specs.declared.marks.Sixth.{Sixth}
-use Rattle.sampling.specs.declared.marks.Sixth.TheVariants.{Fixed, Moves}
+use Rattle.sampling.specs.declared.marks.Marks.{Marks}
 use Rattle.sampling.specs.declared.sample_angles.Free.{Free}
 
 -- the centre and the tolerance of the free joint's limits as a model angle; without limits, 0 and P
@@ -26,8 +25,8 @@ free_limits limited j =
     (record { center = zero_float; tolerance = P })
 
 -- a fixed sixth joint is not read
-unfoldable pub sixth : Bool → Bool → Joint → Sixth
-sixth fixed limited j = cond fixed Fixed (Moves (marks limited j))
+unfoldable pub sixth : Bool → Bool → Joint → Option Marks
+sixth fixed limited j = cond fixed None (Some (marks limited j))
 
 -- what counts of a job whose joint j is free, and which has these columns of the arm's rotation
 unfoldable pub free : Axes → Job → Joint → Free

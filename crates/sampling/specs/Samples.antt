@@ -1,6 +1,6 @@
 -- From the boundary angles of one free joint to its samples: the end of `sample_angles` of continuum.rs
 -- (01, module 5). Cuts: each interval's list after its dedup. Definitions only.
-use Rattle.std.specs.Prelude.{◌&&◌, cond, List, [], ◌∷◌, ◌++◌, ℕ, zero, suc, ◌*◌, Float}
+use Rattle.std.specs.Prelude.{None, Some, ◌&&◌, cond, List, [], ◌∷◌, ◌++◌, ℕ, zero, suc, ◌*◌, Float}
 use Rattle.std.specs.Float.Ieee.{neg, le}
 use Rattle.std.specs.Float.Ieee.Scale.{finite}
 use Rattle.float.specs.Number.{◌⊕◌, ◌⊖◌, ◌⊗◌, ◌⊘◌, abs, minimum, maximum, middle, zero_float, one_float}
@@ -8,8 +8,7 @@ use Rattle.float.specs.Trig.{four_float}
 use Rattle.polynomial.specs.Angle.{two_pi}
 use Rattle.polynomial.specs.Cuts.{cuts}
 use Rattle.sampling.specs.Continuum.{root_roundoff}
-use Rattle.sampling.specs.declared.intervals.Range.{Range}
-use Rattle.sampling.specs.declared.intervals.Range.TheVariants.{Nothing, Between}
+use Rattle.sampling.specs.Intervals.{Range}
 
 -- an angle where it lies in the interval, ends included
 unfoldable pub inside : Float → Float → Float → List Float
@@ -35,8 +34,8 @@ all_windings lower upper (root ∷ roots) = windings lower upper root ++ all_win
 -- The ends of a displacement interval around the reference, and the roots between them. Roots that
 -- differ are all kept, however near: a narrow range may lie between them.
 unfoldable pub interval_values : Float → List Float → Range → List Float
-interval_values near roots Nothing = []
-interval_values near roots (Between lower upper) =
+interval_values near roots None = []
+interval_values near roots (Some (lower, upper)) =
     ((near ⊕ lower) ∷ [] ++ (near ⊕ upper) ∷ []) ++ all_windings (near ⊕ lower) (near ⊕ upper) roots
 
 unfoldable pub interval_cuts : Float → List Float → Range → List Float

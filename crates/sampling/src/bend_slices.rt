@@ -1,15 +1,17 @@
-// The slices of narrow bends, from src/singularity/j1j2free.rs, pushed after the first n numbers of a
-// lent slice.
-ghost use Rattle.std.specs.Prelude.{◌≡◌, ◌+◌, ◌≤◌, length};
-ghost use Rattle.sampling.specs.Promises.Pushed.{Pushed};
+// The slices of narrow bends, from src/singularity/j1j2free.rs.
+ghost use Rattle.std.specs.Prelude.{◌≡◌, ◌+◌, ◌≤◌};
+ghost use Rattle.arrayvec.specs.ArrayVec.{array_vec_len, Extends};
+ghost use Rattle.sampling.specs.J1j2free.{bends};
 ghost use Rattle.sampling.specs.BendSlices as Of;
 
+use crate::angles::Angles;
 use crate::bends::norm_roots;
 use crate::boundaries::across;
 use crate::continuum::ROOT_ROUNDOFF;
 use crate::intervals::Range;
+use crate::j1j2free::Folded;
 use crate::pose::{Matrix, Vector, vector_length};
-use crate::push::push;
+use arrayvec::ArrayVec;
 use float::arc::{asin, atan2};
 use float::number::{abs, clamp};
 use float::trig::{P, SinCos, hypot, sin_cos};
@@ -17,87 +19,81 @@ use polynomial::angle::wrapped_angle;
 use polynomial::curve::Harmonic;
 
 // Where the transverse component has a value.
-fn transverse(radius: f64, azimuth: f64, component: f64, out: &mut [f64], n: usize) -> usize
-    requires { n + 2 ≤ length out.old }
-    ensures { Pushed 2 (Of.transverse radius azimuth component) n out.old result out.new }
+#[tactic(auto, unfolding(crate::specs::BendSlices::transverse, crate::proofs::Literals::of_bits))]
+fn transverse(radius: f64, azimuth: f64, component: f64, out: &mut Angles)
+    requires { array_vec_len out.old + 2 ≤ 300 }
+    ensures items { Extends out.old (Of.transverse radius azimuth component) out.new }
+    ensures most { array_vec_len out.new ≤ array_vec_len out.old + 2 }
 {
     if (0.0 < radius) & (abs(component) <= radius * (1.0 + ROOT_ROUNDOFF)) {
         let offset = asin(clamp(component / radius));
-        let m = push(wrapped_angle(azimuth - offset), out, n);
-        return push(wrapped_angle(azimuth - P + offset), out, m);
+        out.push(wrapped_angle(azimuth - offset));
+        out.push(wrapped_angle(azimuth - P + offset));
     }
-    n
 }
 
 // Joint 4 at both ends of its limits.
-fn transverse_range(
-    radius: f64,
-    azimuth: f64,
-    extreme: f64,
-    range: Range,
-    out: &mut [f64],
-    n: usize,
-) -> usize
-    requires { n + 4 ≤ length out.old }
-    ensures { Pushed 4 (Of.transverse_range radius azimuth extreme range) n out.old result out.new }
+#[tactic(auto, unfolding(crate::specs::BendSlices::transverse_range))]
+fn transverse_range(radius: f64, azimuth: f64, extreme: f64, range: Range, out: &mut Angles)
+    requires { array_vec_len out.old + 4 ≤ 300 }
+    ensures items { Extends out.old (Of.transverse_range radius azimuth extreme range) out.new }
+    ensures most { array_vec_len out.new ≤ array_vec_len out.old + 4 }
 {
-    match range {
-        Range::Nothing => n,
-        Range::Between(lower, upper) => {
-            let a = sin_cos(lower);
-            let m = transverse(radius, azimuth, extreme * a.sine, out, n);
-            let b = sin_cos(upper);
-            transverse(radius, azimuth, extreme * b.sine, out, m)
-        }
+    if let Some((lower, upper)) = range {
+        transverse(radius, azimuth, extreme * sin_cos(lower).sine, out);
+        transverse(radius, azimuth, extreme * sin_cos(upper).sine, out);
     }
 }
 
 // The extrema, then joint 4's limits.
-fn transverses(z: Vector, s5: f64, range4: Range, out: &mut [f64], n: usize) -> usize
-    requires { n + 8 ≤ length out.old }
-    ensures { Pushed 8 (Of.transverses z s5 range4) n out.old result out.new }
+#[tactic(auto, unfolding(crate::specs::BendSlices::transverses))]
+fn transverses(z: Vector, s5: f64, range4: Range, out: &mut Angles)
+    requires { array_vec_len out.old + 8 ≤ 300 }
+    ensures items { Extends out.old (Of.transverses z s5 range4) out.new }
+    ensures most { array_vec_len out.new ≤ array_vec_len out.old + 8 }
 {
     let norm = vector_length(z);
     let radius = hypot(z.x, z.y);
     let azimuth = atan2(z.y, z.x);
-    let n1 = transverse(radius, azimuth, -norm * s5, out, n);
-    let n2 = transverse(radius, azimuth, norm * s5, out, n1);
-    transverse_range(radius, azimuth, norm * s5, range4, out, n2)
+    transverse(radius, azimuth, -norm * s5, out);
+    transverse(radius, azimuth, norm * s5, out);
+    transverse_range(radius, azimuth, norm * s5, range4, out);
 }
 
 // The arm's axis, by joints 5 and 6.
+#[tactic(auto, unfolding(crate::specs::BendSlices::arm_axis))]
 fn arm_axis(m: Matrix, q5: SinCos, q6: SinCos) -> Vector
     ensures { result ≡ Of.arm_axis m q5 q6 }
 {
-    let x = m.x.times(-q5.sine * q6.cosine);
-    let y = m.y.times(q5.sine * q6.sine);
-    x.plus(y).plus(m.z.times(q5.cosine))
+    m.x * (-q5.sine * q6.cosine) + m.y * (q5.sine * q6.sine) + m.z * q5.cosine
 }
 
 // The two angles at which joint 1 points along a vector, or against it.
-fn axis_angles(v: Vector, out: &mut [f64], n: usize) -> usize
-    requires { n + 2 ≤ length out.old }
-    ensures { Pushed 2 (Of.axis_angles v) n out.old result out.new }
+#[tactic(auto, unfolding(crate::specs::BendSlices::axis_angles, crate::proofs::Literals::of_bits))]
+fn axis_angles(v: Vector, out: &mut Angles)
+    requires { array_vec_len out.old + 2 ≤ 300 }
+    ensures items { Extends out.old (Of.axis_angles v) out.new }
+    ensures most { array_vec_len out.new ≤ array_vec_len out.old + 2 }
 {
     let angle = atan2(v.y, v.x);
-    let m = push(angle, out, n);
-    push(wrapped_angle(angle + P), out, m)
+    out.push(angle);
+    out.push(wrapped_angle(angle + P));
 }
 
-fn axes_range(m: Matrix, q5: SinCos, range: Range, out: &mut [f64], n: usize) -> usize
-    requires { n + 4 ≤ length out.old }
-    ensures { Pushed 4 (Of.axes_range m q5 range) n out.old result out.new }
+#[tactic(auto, unfolding(crate::specs::BendSlices::axes_range))]
+fn axes_range(m: Matrix, q5: SinCos, range: Range, out: &mut Angles)
+    requires { array_vec_len out.old + 4 ≤ 300 }
+    ensures items { Extends out.old (Of.axes_range m q5 range) out.new }
+    ensures most { array_vec_len out.new ≤ array_vec_len out.old + 4 }
 {
-    match range {
-        Range::Nothing => n,
-        Range::Between(lower, upper) => {
-            let k = axis_angles(arm_axis(m, q5, sin_cos(lower)), out, n);
-            axis_angles(arm_axis(m, q5, sin_cos(upper)), out, k)
-        }
+    if let Some((lower, upper)) = range {
+        axis_angles(arm_axis(m, q5, sin_cos(lower)), out);
+        axis_angles(arm_axis(m, q5, sin_cos(upper)), out);
     }
 }
 
 // X of joint 4's vector, where joints 2 and 3 together are at an angle.
+#[tactic(auto, unfolding(crate::specs::BendSlices::fold))]
 fn fold(z: Vector, angle: f64) -> Harmonic
     ensures { result ≡ Of.fold z angle }
 {
@@ -110,69 +106,54 @@ fn fold(z: Vector, angle: f64) -> Harmonic
 }
 
 // Joint 2 at an angle: where that vector is as long as joint 5's bend makes it.
-fn folds(z: Vector, q3: f64, s5: f64, angle2: f64, out: &mut [f64], n: usize) -> usize
-    requires { n + 58 ≤ length out.old }
-    ensures { Pushed 58 (Of.folds z q3 s5 angle2) n out.old result out.new }
+#[tactic(auto, unfolding(crate::specs::BendSlices::folds))]
+fn folds(z: Vector, q3: f64, s5: f64, angle2: f64, out: &mut Angles)
+    requires { array_vec_len out.old + 58 ≤ 300 }
+    ensures items { Extends out.old (Of.folds z q3 s5 angle2) out.new }
+    ensures most { array_vec_len out.new ≤ array_vec_len out.old + 58 }
 {
     let x = fold(z, angle2 + q3);
     let y = across(z);
     let norm = vector_length(z) * abs(s5);
-    norm_roots(x, y, norm, out, n)
+    norm_roots(x, y, norm, out);
 }
 
-fn folds_range(z: Vector, q3: f64, s5: f64, range: Range, out: &mut [f64], n: usize) -> usize
-    requires { n + 116 ≤ length out.old }
-    ensures { Pushed 116 (Of.folds_range z q3 s5 range) n out.old result out.new }
+#[tactic(auto, unfolding(crate::specs::BendSlices::folds_range))]
+fn folds_range(z: Vector, q3: f64, s5: f64, range: Range, out: &mut Angles)
+    requires { array_vec_len out.old + 116 ≤ 300 }
+    ensures items { Extends out.old (Of.folds_range z q3 s5 range) out.new }
+    ensures most { array_vec_len out.new ≤ array_vec_len out.old + 116 }
 {
-    match range {
-        Range::Nothing => n,
-        Range::Between(lower, upper) => {
-            let m = folds(z, q3, s5, lower, out, n);
-            folds(z, q3, s5, upper, out, m)
-        }
+    if let Some((lower, upper)) = range {
+        folds(z, q3, s5, lower, out);
+        folds(z, q3, s5, upper, out);
     }
 }
 
 // One end of joint 5's limits.
-fn bend_slice(
-    m: Matrix,
-    q3: f64,
-    range2: Range,
-    range4: Range,
-    range6: Range,
-    angle5: f64,
-    out: &mut [f64],
-    n: usize,
-) -> usize
-    requires { n + 128 ≤ length out.old }
-    ensures { Pushed 128 (Of.bend_slice m q3 range2 range4 range6 angle5) n out.old result out.new }
+#[tactic(auto, unfolding(crate::specs::BendSlices::bend_slice))]
+fn bend_slice(t: &Folded, angle5: f64, out: &mut Angles)
+    requires { array_vec_len out.old + 128 ≤ 300 }
+    ensures items { Extends out.old (Of.bend_slice t.now.matrix t.now.q3 t.now.range2 t.now.range4 t.now.range6 angle5) out.new }
+    ensures most { array_vec_len out.new ≤ array_vec_len out.old + 128 }
 {
+    let z = t.matrix.z;
     let q5 = sin_cos(angle5);
-    let n1 = transverses(m.z, q5.sine, range4, out, n);
-    let n2 = axes_range(m, q5, range6, out, n1);
-    folds_range(m.z, q3, q5.sine, range2, out, n2)
+    transverses(z, q5.sine, t.range4, out);
+    axes_range(t.matrix, q5, t.range6, out);
+    folds_range(z, t.q3, q5.sine, t.range2, out);
 }
 
 // Critical slices of joint 1 where a cosine of joint 5 differs from that of a pole by less than the
 // roundoff.
-pub(crate) fn bend_slices(
-    m: Matrix,
-    q3: f64,
-    range2: Range,
-    range4: Range,
-    range5: Range,
-    range6: Range,
-    out: &mut [f64],
-    n: usize,
-) -> usize
-    requires { n + 256 ≤ length out.old }
-    ensures { Pushed 256 (Of.bend_slices m q3 range2 range4 range5 range6) n out.old result out.new }
+#[tactic(auto, unfolding(crate::specs::J1j2free::bends, crate::specs::BendSlices::bend_slices))]
+pub(crate) fn bend_slices(t: &Folded) -> Angles
+    ensures { result.items ≡ bends t.now }
 {
-    match range5 {
-        Range::Nothing => n,
-        Range::Between(lower, upper) => {
-            let k = bend_slice(m, q3, range2, range4, range6, lower, out, n);
-            bend_slice(m, q3, range2, range4, range6, upper, out, k)
-        }
+    let mut out = ArrayVec::new();
+    if let Some((lower, upper)) = t.range5 {
+        bend_slice(t, lower, &mut out);
+        bend_slice(t, upper, &mut out);
     }
+    out
 }

@@ -1,30 +1,35 @@
-// The boundary angles of joint 5, and all boundary angles in order, from src/singularity/continuum.rs,
-// pushed after the first n numbers of a lent slice.
-ghost use Rattle.std.specs.Prelude.{◌≡◌, ◌+◌, ◌≤◌, length};
+// The boundary angles of joint 5, and all boundary angles in order, from src/singularity/continuum.rs.
+ghost use Rattle.std.specs.Prelude.{◌≡◌, ◌+◌, ◌≤◌};
 ghost use Rattle.polynomial.specs.Curve.{squared_norm_roots};
-ghost use Rattle.sampling.specs.Promises.Pushed.{Pushed};
-ghost use Rattle.sampling.specs.Promises.Polar as By;
+ghost use Rattle.arrayvec.specs.ArrayVec.{array_vec_len, Extends};
+ghost use Rattle.sampling.specs.SampleAngles.{roots};
 ghost use Rattle.sampling.specs.Bends as Of;
 
-use crate::continuum::{Polar, Trig};
+use crate::angles::Angles;
+use crate::continuum::Trig;
 use crate::intervals::Range;
-use crate::marks::{Marks, Sixth};
-use crate::push::push;
-use crate::rays::{poles, ray_angles, roots_by, sixth_angles};
-use crate::wrist::{Ray, Wrist};
+use crate::marks::Marks;
+use crate::polar::Polar;
+use crate::rays::{poles, ray_angles, roots_at, sixth_angles};
+use crate::sample_angles::Free;
+use crate::wrist::Ray;
 use float::number::{abs, is_finite};
 use float::trig::sin_cos;
 use polynomial::curve::Harmonic;
 use polynomial::norm::squared_norm_roots;
 
 // Roots of x(angle)^2 + y(angle)^2 = norm^2.
-pub(crate) fn norm_roots(x: Harmonic, y: Harmonic, norm: f64, out: &mut [f64], n: usize) -> usize
-    requires { n + 58 ≤ length out.old }
-    ensures { Pushed 58 (squared_norm_roots x y norm) n out.old result out.new }
+pub(crate) fn norm_roots(x: Harmonic, y: Harmonic, norm: f64, out: &mut Angles)
+    requires { array_vec_len out.old + 58 ≤ 300 }
+    ensures items { Extends out.old (squared_norm_roots x y norm) out.new }
+    ensures most { array_vec_len out.new ≤ array_vec_len out.old + 58 }
 {
-    n + squared_norm_roots(x, y, norm, &mut out[n..])
+    let mut found = [0.0; 58];
+    let n = squared_norm_roots(x, y, norm, &mut found);
+    out.try_extend_from_slice(&found[..n]).unwrap();
 }
 
+#[tactic(auto, unfolding(crate::specs::Bends::harmonic))]
 fn harmonic(t: Trig) -> Harmonic
     ensures { result ≡ Of.harmonic t }
 {
@@ -36,6 +41,7 @@ fn harmonic(t: Trig) -> Harmonic
 }
 
 // Whether a bend of joint 5, by its sine, is close to a pole, not at it: its cosine hardly changes there.
+#[tactic(auto, unfolding(crate::specs::Bends::narrow, crate::proofs::Literals::of_bits, crate::proofs::Literals::round))]
 fn narrow(sine: f64) -> bool
     ensures { result ≡ Of.narrow sine }
 {
@@ -43,80 +49,70 @@ fn narrow(sine: f64) -> bool
 }
 
 // Where joint 5 is bent by an angle; narrow ranges near the poles are kept.
-fn bend_roots(cos5: Trig, polar: Polar, q4: Ray, angle: f64, out: &mut [f64], n: usize) -> usize
-    requires n_in_bounds { n + 60 ≤ length out.old }
-    requires polar_value { polar ≡ By.polar cos5 }
-    ensures { Pushed 60 (Of.bend_roots cos5 q4 angle) n out.old result out.new }
+#[tactic(auto, unfolding(crate::specs::Bends::bend_roots))]
+fn bend_roots(cos5: &Polar, q4: &Ray, angle: f64, out: &mut Angles)
+    requires { array_vec_len out.old + 60 ≤ 300 }
+    ensures items { Extends out.old (Of.bend_roots cos5.now.harmonic q4.now angle) out.new }
+    ensures most { array_vec_len out.new ≤ array_vec_len out.old + 60 }
 {
     let a = sin_cos(angle);
-    let m = roots_by(cos5, polar, a.cosine, out, n);
+    roots_at(cos5, a.cosine, out);
     let sine = abs(a.sine);
     if narrow(sine) {
-        return norm_roots(harmonic(q4.x), harmonic(q4.y), sine, out, m);
+        norm_roots(harmonic(q4.x), harmonic(q4.y), sine, out);
     }
-    m
 }
 
 // An angle counts if it is finite.
-fn bend_at(cos5: Trig, polar: Polar, q4: Ray, angle: f64, out: &mut [f64], n: usize) -> usize
-    requires n_in_bounds { n + 60 ≤ length out.old }
-    requires polar_value { polar ≡ By.polar cos5 }
-    ensures { Pushed 60 (Of.bend_at cos5 q4 angle) n out.old result out.new }
+#[tactic(auto, unfolding(crate::specs::Bends::bend_at))]
+fn bend_at(cos5: &Polar, q4: &Ray, angle: f64, out: &mut Angles)
+    requires { array_vec_len out.old + 60 ≤ 300 }
+    ensures items { Extends out.old (Of.bend_at cos5.now.harmonic q4.now angle) out.new }
+    ensures most { array_vec_len out.new ≤ array_vec_len out.old + 60 }
 {
     if is_finite(angle) {
-        return bend_roots(cos5, polar, q4, angle, out, n);
+        bend_roots(cos5, q4, angle, out);
     }
-    n
 }
 
-fn bend_range(cos5: Trig, polar: Polar, q4: Ray, range: Range, out: &mut [f64], n: usize) -> usize
-    requires n_in_bounds { n + 120 ≤ length out.old }
-    requires polar_value { polar ≡ By.polar cos5 }
-    ensures { Pushed 120 (Of.bend_range cos5 q4 range) n out.old result out.new }
+#[tactic(auto, unfolding(crate::specs::Bends::bend_range))]
+fn bend_range(cos5: &Polar, q4: &Ray, range: Range, out: &mut Angles)
+    requires { array_vec_len out.old + 120 ≤ 300 }
+    ensures items { Extends out.old (Of.bend_range cos5.now.harmonic q4.now range) out.new }
+    ensures most { array_vec_len out.new ≤ array_vec_len out.old + 120 }
 {
-    match range {
-        Range::Nothing => n,
-        Range::Between(a, b) => {
-            let m = bend_at(cos5, polar, q4, a, out, n);
-            bend_at(cos5, polar, q4, b, out, m)
-        }
+    if let Some((lower, upper)) = range {
+        bend_at(cos5, q4, lower, out);
+        bend_at(cos5, q4, upper, out);
     }
 }
 
 // The reference and, with limits, their centre and ends.
-fn bend_marks(cos5: Trig, polar: Polar, q4: Ray, marks: Marks, out: &mut [f64], n: usize) -> usize
-    requires n_in_bounds { n + 240 ≤ length out.old }
-    requires polar_value { polar ≡ By.polar cos5 }
-    ensures { Pushed 240 (Of.bend_marks cos5 q4 marks) n out.old result out.new }
+#[tactic(auto, unfolding(crate::specs::Bends::bend_marks))]
+fn bend_marks(cos5: &Polar, q4: &Ray, marks: &Marks, out: &mut Angles)
+    requires { array_vec_len out.old + 240 ≤ 300 }
+    ensures items { Extends out.old (Of.bend_marks cos5.now.harmonic q4.now marks.now) out.new }
+    ensures most { array_vec_len out.new ≤ array_vec_len out.old + 240 }
 {
-    let n1 = bend_at(cos5, polar, q4, marks.reference, out, n);
-    if marks.limited {
-        let n2 = bend_at(cos5, polar, q4, marks.center, out, n1);
-        let range = marks.range;
-        return bend_range(cos5, polar, q4, range, out, n2);
+    bend_at(cos5, q4, marks.reference, out);
+    if let Some(limits) = marks.limits {
+        bend_at(cos5, q4, limits.center, out);
+        bend_range(cos5, q4, limits.range, out);
     }
-    n1
 }
 
-// All boundary angles of a free joint whose reference is near, in the front of out.
-pub(crate) fn all_roots(
-    w: Wrist,
-    near: f64,
-    fourth: Marks,
-    fifth: Marks,
-    sixth: Sixth,
-    center: f64,
-    out: &mut [f64],
-) -> usize
-    requires { 300 ≤ length out.old }
-    ensures { Pushed 300 (Of.all_roots w near fourth fifth sixth center) 0 out.old result out.new }
+// All boundary angles of a free joint.
+#[tactic(auto, unfolding(crate::specs::SampleAngles::roots, crate::specs::Bends::all_roots))]
+pub(crate) fn all_roots(f: &Free, out: &mut Angles)
+    requires { array_vec_len out.old ≡ 0 }
+    ensures { out.new.items ≡ roots f.now }
 {
-    let cos5 = w.cos5;
-    let polar = cos5.polar();
-    let n1 = push(near, out, 0);
-    let n2 = poles(cos5, polar, out, n1);
-    let n3 = ray_angles(w.q4, fourth, out, n2);
-    let n4 = bend_marks(cos5, polar, w.q4, fifth, out, n3);
-    let n5 = sixth_angles(w, fourth, sixth, out, n4);
-    push(center, out, n5)
+    let w = &f.wrist;
+    let cos5 = Polar::new(w.cos5);
+    out.push(f.near);
+    poles(&cos5, out);
+    ray_angles(&w.q4, &f.fourth, out);
+    bend_marks(&cos5, &w.q4, &f.fifth, out);
+    sixth_angles(w, &f.fourth, &f.sixth, out);
+    out.push(f.limits.center);
 }

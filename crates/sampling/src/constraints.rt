@@ -12,6 +12,7 @@ pub struct Center {
 }
 
 // The forward arc from a to b.
+#[tactic(auto, unfolding(crate::proofs::Literals::of_bits))]
 fn arc(a: f64, b: f64) -> f64
     ensures { result ≡ Constraints.arc a b }
 {
@@ -21,6 +22,7 @@ fn arc(a: f64, b: f64) -> f64
 }
 
 // The centre and the tolerance of the limits from a to b.
+#[tactic(auto, unfolding(crate::specs::Constraints::compute_center, crate::proofs::Literals::of_bits, crate::proofs::Literals::div))]
 pub fn compute_center(a: f64, b: f64) -> Center
     ensures { result ≡ Constraints.compute_center a b }
 {

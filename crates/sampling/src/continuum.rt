@@ -5,10 +5,9 @@ ghost use Rattle.sampling.specs.Continuum as Of;
 ghost use Rattle.sampling.specs.Promises.Polar as By;
 
 use crate::pose::{Vector, dot};
-use float::arc::{acos, atan2};
-use float::number::{abs, clamp, is_finite};
-use float::trig::{hypot, sin_cos};
-use polynomial::angle::wrapped_angle;
+use float::number::{abs, is_finite};
+use float::trig::sin_cos;
+use std::ops::{Add, Mul};
 
 // 64 ε.
 pub(crate) const ROOT_ROUNDOFF: f64 = 1.4210854715202004e-14;
@@ -19,13 +18,6 @@ pub struct Trig {
     pub cosine: f64,
     pub sine: f64,
     pub constant: f64,
-}
-
-// Radius and phase of a polynomial.
-#[derive(Clone, Copy)]
-pub struct Polar {
-    pub radius: f64,
-    pub phase: f64,
 }
 
 // A vector whose components are first-harmonic polynomials of the free angle.
@@ -44,53 +36,49 @@ pub struct Axes {
     pub z: TrigVector,
 }
 
-// Angles where a polynomial equals its target.
-#[derive(Clone, Copy)]
-pub enum Crossings {
-    Neither,
-    Both(f64, f64),
-}
+// Multiplies every coefficient by the given factor.
+impl Mul<f64> for Trig {
+    type Output = Trig;
 
-impl Trig {
-    // Multiplies every coefficient by the given factor.
-    pub(crate) fn scaled(self, factor: f64) -> Self
-        ensures { result ≡ Of.scaled self factor }
-    {
-        Self {
+    ghost mul_gives = { λ t factor r. r ≡ Of.scaled t factor };
+
+    #[tactic(auto, unfolding(crate::specs::Continuum::scaled))]
+    fn mul(self, factor: f64) -> Trig {
+        Trig {
             cosine: self.cosine * factor,
             sine: self.sine * factor,
             constant: self.constant * factor,
         }
     }
+}
 
-    // Adds two polynomials coefficient by coefficient.
-    pub(crate) fn plus(self, other: Trig) -> Self
-        ensures { result ≡ Of.plus self other }
-    {
-        Self {
+// Adds two polynomials coefficient by coefficient.
+impl Add for Trig {
+    type Output = Trig;
+
+    ghost add_gives = { λ t u r. r ≡ Of.plus t u };
+
+    #[tactic(auto, unfolding(crate::specs::Continuum::plus))]
+    fn add(self, other: Trig) -> Trig {
+        Trig {
             cosine: self.cosine + other.cosine,
             sine: self.sine + other.sine,
             constant: self.constant + other.constant,
         }
     }
+}
 
+impl Trig {
     // How far rounding may carry the constant past the radius.
+    #[tactic(auto, unfolding(crate::specs::Continuum::error, crate::proofs::Literals::of_bits))]
     fn error(self, target: f64) -> f64
         ensures { result ≡ Of.error self target }
     {
         ROOT_ROUNDOFF * (abs(self.cosine) + abs(self.sine) + abs(self.constant) + abs(target))
     }
 
-    // Worked out once where a polynomial has many targets.
-    pub(crate) fn polar(self) -> Polar
-        ensures { result ≡ By.polar self }
-    {
-        let radius = hypot(self.cosine, self.sine);
-        let phase = atan2(self.sine, self.cosine);
-        Polar { radius, phase }
-    }
-
     // Whether the polynomial, of this radius, equals the target anywhere.
+    #[tactic(auto, unfolding(crate::specs::Promises::Polar::meets, crate::proofs::Literals::of_bits))]
     pub(crate) fn meets(self, radius: f64, target: f64) -> bool
         ensures { result ≡ By.meets self radius target }
     {
@@ -99,32 +87,11 @@ impl Trig {
         let finite = is_finite(radius) & is_finite(constant);
         finite & !(radius == 0.0) & !(room < abs(constant))
     }
-
-    // The wrapped angles on both sides of the phase.
-    fn around(self, polar: Polar, target: f64) -> Crossings
-        ensures { result ≡ By.around self polar target }
-    {
-        let constant = self.constant - target;
-        let offset = acos(clamp(-constant / polar.radius));
-        let first = wrapped_angle(polar.phase - offset);
-        let second = wrapped_angle(polar.phase + offset);
-        Crossings::Both(first, second)
-    }
-
-    // The wrapped angles where the polynomial equals the target, by its radius and phase.
-    pub(crate) fn crossings_by(self, polar: Polar, target: f64) -> Crossings
-        requires { polar ≡ By.polar self }
-        ensures { result ≡ Of.crossings self target }
-    {
-        if self.meets(polar.radius, target) {
-            return self.around(polar, target);
-        }
-        Crossings::Neither
-    }
 }
 
 impl TrigVector {
     // Projects the vector polynomial onto a fixed vector.
+    #[tactic(auto, unfolding(crate::specs::Continuum::dot))]
     pub(crate) fn dot(self, vector: Vector) -> Trig
         ensures { result ≡ Of.dot self vector }
     {
@@ -140,10 +107,10 @@ impl TrigVector {
 }
 
 // The polynomial that is zero where the vector (x, y) lies on the boundary line of an angle.
+#[tactic(auto, unfolding(crate::specs::Continuum::line))]
 pub(crate) fn line(x: Trig, y: Trig, angle: f64) -> Trig
     ensures { result ≡ Of.line x y angle }
 {
     let a = sin_cos(angle);
-    let first = y.scaled(a.cosine);
-    first.plus(x.scaled(-a.sine))
+    y * a.cosine + x * -a.sine
 }

@@ -132,10 +132,10 @@ fn meetings(
     state
 }
 
-// Each of the first n curves alone, then with each earlier one, whose polynomials are kept.
-pub(crate) fn critical(work: &mut [f64], cuts: Put, c: Chart, at: [Curve; CURVES], n: usize) -> Put
-    requires { (n ≤ most_curves) × Bounded c }
-    ensures { Grown (Of.critical c (take n at)) work.old cuts work.new result }
+// Each of the curves alone, then with each earlier one, whose polynomials are kept.
+pub(crate) fn critical(work: &mut [f64], cuts: Put, c: Chart, curves: &[Curve]) -> Put
+    requires { (length curves.now ≤ most_curves) × Bounded c }
+    ensures { Grown (Of.critical c curves.now) work.old cuts work.new result }
 {
     let zero = [Compensated {
         high: 0.0,
@@ -148,14 +148,11 @@ pub(crate) fn critical(work: &mut [f64], cuts: Put, c: Chart, at: [Curve; CURVES
     };
     let mut known = [none; CURVES];
     let mut state = cuts;
-    let mut j = 0;
-    while j < n {
-        let curve = at[j];
+    for (j, curve) in curves.iter().enumerate() {
         let k = curve.polynomials(c.origin);
         let alone = chart_roots(work, state, c, tangency(k), 5);
         state = meetings(work, alone, c, known, j, k);
         known[j] = k;
-        j += 1;
     }
     state
 }

@@ -1,57 +1,62 @@
 // Crossings that are deferred and worked out later, two at a time: what is worked out of one
 // does not wait for the other.
-ghost use Rattle.std.specs.Prelude.{◌≡◌, [], ◌∷◌, ◌++◌, ◌+◌, ◌≤◌, length, take, drop};
+ghost use Rattle.std.specs.Prelude.{◌≡◌, ◌++◌, ◌+◌, ◌*◌, ◌≤◌, ◌<◌, length};
+ghost use Rattle.std.specs.List.{flat_map};
+ghost use Rattle.arrayvec.specs.ArrayVec.{array_vec_len, Extends};
 ghost use Rattle.sampling.specs.Continuum as Continuum;
-ghost use Rattle.sampling.specs.Promises.Pushed.{Pushed};
 ghost use Rattle.sampling.specs.Promises.Deferred as Of;
 
+use crate::angles::Angles;
 use crate::continuum::Trig;
-use crate::push::push;
+use arrayvec::ArrayVec;
 use float::arc::{Four, acos, atan2, atan2_four, other_side};
 use float::number::clamp;
 use float::trig::hypot;
 use polynomial::angle::wrapped_angle;
 
+// The most crossings that are deferred together: joint 6's, and those of its phases with joint 4.
+pub(crate) const CROSSINGS: usize = 14;
+
+pub(crate) type Deferred = ArrayVec<Pending, CROSSINGS>;
+
 // A polynomial's sine and cosine, and the cosine of the angle between its phase and a crossing.
-#[derive(Clone, Copy)]
+#[derive(Clone, Copy, Default)]
 pub struct Pending {
     pub sine: f64,
     pub cosine: f64,
     pub ratio: f64,
 }
 
-// Defers where the polynomial equals the target. What is needed is written in any case, and counted
-// where there is an answer: nothing that follows waits for the test.
-pub(crate) fn defer(t: Trig, target: f64, deferred: &mut [f64], n: usize) -> usize
-    requires { n + 3 ≤ length deferred.old }
-    ensures { Of.Deferred 3 (Continuum.roots t target) n deferred.old result deferred.new }
+// Defers where the polynomial equals the target.
+pub(crate) fn defer(t: Trig, target: f64, deferred: &mut Deferred)
+    requires { array_vec_len deferred.old < CROSSINGS }
+    ensures items { Of.Defers deferred.old (Continuum.roots t target) deferred.new }
+    ensures most { array_vec_len deferred.new ≤ array_vec_len deferred.old + 1 }
 {
     let radius = hypot(t.cosine, t.sine);
     let ratio = clamp(-(t.constant - target) / radius);
-    let n1 = push(t.sine, deferred, n);
-    let n2 = push(t.cosine, deferred, n1);
-    let n3 = push(ratio, deferred, n2);
     if t.meets(radius, target) {
-        return n3;
+        deferred.push(Pending {
+            sine: t.sine,
+            cosine: t.cosine,
+            ratio,
+        });
     }
-    n
 }
 
-// The deferred crossing that stands at i.
-fn pending_at(deferred: &[f64], i: usize) -> Pending
-    requires { i + 3 ≤ length deferred.now }
-    ensures { Of.listed result ≡ take 3 (drop i deferred.now) }
+// The two angles of a deferred crossing.
+#[tactic(auto, unfolding(crate::specs::Promises::Deferred::angles_of))]
+fn angles_of_one(p: Pending) -> [f64; 2]
+    ensures { result ≡ Of.angles_of p }
 {
-    Pending {
-        sine: deferred[i],
-        cosine: deferred[i + 1],
-        ratio: deferred[i + 2],
-    }
+    let phase = atan2(p.sine, p.cosine);
+    let offset = acos(p.ratio);
+    [wrapped_angle(phase - offset), wrapped_angle(phase + offset)]
 }
 
 // The four angles of two deferred crossings.
-fn angles_of_two(p: Pending, q: Pending) -> Four
-    ensures { result.a ∷ (result.b ∷ (result.c ∷ (result.d ∷ []))) ≡ Of.all_angles_of (Of.listed p ++ Of.listed q) }
+fn angles_of_two(p: Pending, q: Pending) -> [f64; 4]
+    ensures { result ≡ Of.angles_of p ++ Of.angles_of q }
 {
     let y = Four {
         a: p.sine,
@@ -66,51 +71,26 @@ fn angles_of_two(p: Pending, q: Pending) -> Four
         d: q.ratio,
     };
     let v = atan2_four(y, x);
-    Four {
-        a: wrapped_angle(v.a - v.b),
-        b: wrapped_angle(v.a + v.b),
-        c: wrapped_angle(v.c - v.d),
-        d: wrapped_angle(v.c + v.d),
-    }
-}
-
-fn push_two(p: Pending, q: Pending, out: &mut [f64], n: usize) -> usize
-    requires { n + 4 ≤ length out.old }
-    ensures { Pushed 4 (Of.all_angles_of (Of.listed p ++ Of.listed q)) n out.old result out.new }
-{
-    let v = angles_of_two(p, q);
-    let n1 = push(v.a, out, n);
-    let n2 = push(v.b, out, n1);
-    let n3 = push(v.c, out, n2);
-    push(v.d, out, n3)
-}
-
-fn push_one(p: Pending, out: &mut [f64], n: usize) -> usize
-    requires { n + 2 ≤ length out.old }
-    ensures { Pushed 2 (Of.all_angles_of (Of.listed p)) n out.old result out.new }
-{
-    let phase = atan2(p.sine, p.cosine);
-    let offset = acos(p.ratio);
-    let n1 = push(wrapped_angle(phase - offset), out, n);
-    push(wrapped_angle(phase + offset), out, n1)
+    [
+        wrapped_angle(v.a - v.b),
+        wrapped_angle(v.a + v.b),
+        wrapped_angle(v.c - v.d),
+        wrapped_angle(v.c + v.d),
+    ]
 }
 
 // The angles of all deferred crossings.
-pub(crate) fn angles_of(deferred: &[f64], out: &mut [f64], n: usize) -> usize
-    requires { n + length deferred.now ≤ length out.old }
-    ensures { Pushed (length deferred.now) (Of.all_angles_of deferred.now) n out.old result out.new }
+pub(crate) fn angles_of(deferred: &[Pending], out: &mut Angles)
+    requires { array_vec_len out.old + 2 * length deferred.now ≤ 300 }
+    ensures items { Extends out.old (flat_map Of.angles_of deferred.now) out.new }
+    ensures len { array_vec_len out.new ≡ array_vec_len out.old + 2 * length deferred.now }
 {
-    let count = deferred.len();
-    let mut i = 0;
-    let mut k = n;
-    while i + 6 <= count {
-        let p = pending_at(deferred, i);
-        let q = pending_at(deferred, i + 3);
-        k = push_two(p, q, out, k);
-        i += 6;
+    let mut left = deferred;
+    while let [p, q, rest @ ..] = left {
+        out.try_extend_from_slice(&angles_of_two(*p, *q)).unwrap();
+        left = rest;
     }
-    if i + 3 <= count {
-        return push_one(pending_at(deferred, i), out, k);
+    if let [p] = left {
+        out.try_extend_from_slice(&angles_of_one(*p)).unwrap();
     }
-    k
 }

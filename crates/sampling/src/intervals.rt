@@ -8,11 +8,7 @@ use float::trig::{P, TWO_PI};
 use polynomial::angle::wrapped_angle;
 
 // A limit interval: none, or a pair of angles.
-#[derive(Clone, Copy)]
-pub enum Range {
-    Nothing,
-    Between(f64, f64),
-}
+pub type Range = Option<(f64, f64)>;
 
 // Allowed displacements: the range shifted by a turn down, as it is, and by a turn up.
 #[derive(Clone, Copy)]
@@ -23,6 +19,7 @@ pub struct Intervals {
 }
 
 // The centre seen from the reference; a tolerance of P or more is the whole turn.
+#[tactic(auto, unfolding(crate::specs::Intervals::seen, crate::proofs::Literals::of_bits))]
 fn seen(c: Center, reference: f64, sign: f64) -> Center
     ensures { result ≡ Of.seen c reference sign }
 {
@@ -40,18 +37,20 @@ fn seen(c: Center, reference: f64, sign: f64) -> Center
 }
 
 // The copy of the range that is shifted by a turn, cut off at -P and P.
+#[tactic(auto, unfolding(crate::specs::Intervals::interval, crate::proofs::Literals::of_bits, crate::proofs::Literals::neg))]
 fn interval(c: Center, shift: f64) -> Range
     ensures { result ≡ Of.interval c shift }
 {
     let lower = maximum(c.center + shift - c.tolerance, -P);
     let upper = minimum(c.center + shift + c.tolerance, P);
     if is_finite(c.center) & (0.0 <= c.tolerance) & (lower <= upper) {
-        return Range::Between(lower, upper);
+        return Some((lower, upper));
     }
-    Range::Nothing
+    None
 }
 
 // The range with its neighbouring copies, since it may cross the ±P cut.
+#[tactic(auto, unfolding(crate::specs::Intervals::wrist_limit_intervals, crate::proofs::Literals::of_bits, crate::proofs::Literals::neg))]
 pub fn wrist_limit_intervals(c: Center, reference: f64, sign: f64) -> Intervals
     ensures { result ≡ Of.wrist_limit_intervals c reference sign }
 {

@@ -8,6 +8,7 @@ use crate::pose::Vector;
 use float::trig::sin_cos;
 
 // The columns of the arm's rotation as functions of joint 1.
+#[tactic(auto, unfolding(crate::specs::J1free::arm_axes, crate::proofs::Literals::of_bits))]
 pub(crate) fn arm_axes(arm: Arm) -> Axes
     ensures { result ≡ Of.arm_axes arm }
 {
@@ -21,7 +22,7 @@ pub(crate) fn arm_axes(arm: Arm) -> Axes
         },
         y: TrigVector {
             cosine: Vector::new(0.0, 1.0, 0.0),
-            sine: x_axis.negated(),
+            sine: -x_axis,
             constant: Vector::new(0.0, 0.0, 0.0),
         },
         z: TrigVector {

@@ -8,10 +8,9 @@ ghost use Rattle.sampling.specs.Promises.Curves.{most_curves};
 ghost use Rattle.sampling.specs.Promises.Halves.{half_values, start, both};
 ghost use Rattle.sampling.specs.Promises.Plan.{halves_of, folded_plan, folded_cuts, granted, where_laid};
 ghost use Rattle.sampling.specs.J1j2free as Of;
-ghost use Rattle.sampling.specs.declared.intervals.Range.TheVariants.{Between};
 
 use crate::bend_slices::bend_slices;
-use crate::boundaries::{Curves, boundaries, wrist_limits};
+use crate::boundaries::{boundaries, wrist_limits};
 use crate::critical_slices::{chart_of, critical};
 use crate::intervals::Range;
 use crate::job::{Job, Joint};
@@ -22,6 +21,7 @@ use crate::samples::all_copies;
 use crate::work::push;
 use float::number::middle;
 use polynomial::angle::wrapped_angle;
+use polynomial::curve::Curve;
 use polynomial::cuts::Put;
 
 // What counts of a job whose joints 1 and 2 are free.
@@ -38,6 +38,7 @@ pub struct Folded {
 }
 
 // Joint 1's reference as a model angle; neither it nor the offset is wrapped first.
+#[tactic(auto, unfolding(crate::specs::J1j2free::model_reference))]
 fn model_reference(j: Joint) -> f64
     ensures { result ≡ Of.model_reference j }
 {
@@ -45,15 +46,17 @@ fn model_reference(j: Joint) -> f64
 }
 
 // The limits of joint 6, which may be fixed.
+#[tactic(auto, unfolding(crate::specs::J1j2free::sixth_limits))]
 fn sixth_limits(fixed: bool, limited: bool, j: Joint) -> Range
     ensures { result ≡ Of.sixth_limits fixed limited j }
 {
     if fixed {
-        return Range::Nothing;
+        return None;
     }
     wrist_limits(limited, j)
 }
 
+#[tactic(auto, unfolding(crate::specs::J1j2free::folded))]
 pub(crate) fn folded_of(job: Job) -> Folded
     ensures { result ≡ Of.folded job }
 {
@@ -77,24 +80,15 @@ pub(crate) fn folded_of(job: Job) -> Folded
 }
 
 // The cuts of one half, in the front of the slice.
-fn half_cuts(
-    work: &mut [f64],
-    curves: Curves,
-    bends: &[f64],
-    n: usize,
-    lower: f64,
-    upper: f64,
-) -> Put
-    requires { (curves.count ≤ most_curves) × (n ≤ length bends.now) × Bounded (chart lower upper) }
-    ensures { Kept (half_values (take curves.count curves.at) (take n bends.now) lower upper) work.old work.new result }
+fn half_cuts(work: &mut [f64], curves: &[Curve], bends: &[f64], lower: f64, upper: f64) -> Put
+    requires { (length curves.now ≤ most_curves) × Bounded (chart lower upper) }
+    ensures { Kept (half_values curves.now bends.now lower upper) work.old work.new result }
 {
     let c = chart_of(lower, upper);
     let first = push(work, Put::Count(0), lower);
     let ends = push(work, first, upper);
-    let count = curves.count;
-    let at = curves.at;
-    let cuts = critical(work, ends, c, at, count);
-    all_copies(work, cuts, lower, upper, bends, n)
+    let cuts = critical(work, ends, c, curves);
+    all_copies(work, cuts, lower, upper, bends)
 }
 
 // Where the second half's list starts: behind the first, or, where that has too few places, at the
@@ -126,43 +120,38 @@ fn halves_of(reference: f64, first: Put, second: Put) -> Plan
 }
 
 // The cuts of both halves, one list after the other in the front of work.
-fn cut_halves(work: &mut [f64], t: Folded, lower: f64, upper: f64) -> Plan
-    requires { Charted (Between lower upper) }
-    ensures value { result ≡ granted (length (Of.first_half t lower upper) + length (Of.second_half t lower upper))
-        (halves_of t.reference (Of.first_half t lower upper) (Of.second_half t lower upper)) (length work.old) }
+fn cut_halves(work: &mut [f64], t: &Folded, lower: f64, upper: f64) -> Plan
+    requires { Charted (Some (lower, upper)) }
+    ensures value { result ≡ granted (length (Of.first_half t.now lower upper) + length (Of.second_half t.now lower upper))
+        (halves_of t.now.reference (Of.first_half t.now lower upper) (Of.second_half t.now lower upper)) (length work.old) }
     ensures work_after { where_laid result work.new [] ≡
-        where_laid result ((Of.first_half t lower upper ++ Of.second_half t lower upper)
-        ++ drop (length (Of.first_half t lower upper) + length (Of.second_half t lower upper)) work.old) [] }
+        where_laid result ((Of.first_half t.now lower upper ++ Of.second_half t.now lower upper)
+        ++ drop (length (Of.first_half t.now lower upper) + length (Of.second_half t.now lower upper)) work.old) [] }
 {
-    let range2 = t.range2;
-    let range4 = t.range4;
-    let range5 = t.range5;
-    let range6 = t.range6;
-    let mut bends = [0.0; 256];
-    let n = bend_slices(
-        t.matrix, t.q3, range2, range4, range5, range6, &mut bends, 0,
-    );
-    let curves = boundaries(t.matrix, t.q3, range2, range4, range5, range6);
+    let bends = bend_slices(t);
+    let bends = bends.as_slice();
+    let curves = boundaries(t);
+    let curves = curves.as_slice();
     let m = middle(lower, upper);
-    let first = half_cuts(work, curves, &bends, n, lower, m);
+    let first = half_cuts(work, curves, bends, lower, m);
     let start = start_of(first, work.len());
-    let second = half_cuts(&mut work[start..], curves, &bends, n, m, upper);
+    let second = half_cuts(&mut work[start..], curves, bends, m, upper);
     halves_of(t.reference, first, second)
 }
 
 // The cuts of both halves of joint 1's interval; where it has none there is no cut and no angle.
-pub(crate) fn cut(work: &mut [f64], t: Folded) -> Plan
-    requires { Charted t.range1 }
-    ensures value { result ≡ granted (Of.cut_count t) (folded_plan t) (length work.old) }
-    ensures work_after { where_laid result work.new [] ≡ where_laid result (folded_cuts t ++ drop (Of.cut_count t) work.old) [] }
+pub(crate) fn cut(work: &mut [f64], t: &Folded) -> Plan
+    requires { Charted t.now.range1 }
+    ensures value { result ≡ granted (Of.cut_count t.now) (folded_plan t.now) (length work.old) }
+    ensures work_after { where_laid result work.new [] ≡ where_laid result (folded_cuts t.now ++ drop (Of.cut_count t.now) work.old) [] }
 {
     let range1 = t.range1;
     match range1 {
-        Range::Nothing => Plan::Lists(Lists {
+        None => Plan::Lists(Lists {
             first: 0,
             second: 0,
             third: 0,
         }),
-        Range::Between(lower, upper) => cut_halves(work, t, lower, upper),
+        Some((lower, upper)) => cut_halves(work, t, lower, upper),
     }
 }

@@ -8,35 +8,33 @@ use crate::pose::Vector;
 use float::trig::{SinCos, sin_cos};
 
 // The first column, by the direction of joint 1 and the angle of joint 3.
+#[tactic(auto, unfolding(crate::specs::J2free::x_axis, crate::proofs::Literals::of_bits))]
 fn x_axis(radial: Vector, third: SinCos) -> TrigVector
     ensures { result ≡ Of.x_axis radial third }
 {
     let z = Vector::new(0.0, 0.0, 1.0);
-    let along = radial.times(third.cosine);
-    let back = radial.negated();
-    let across = back.times(third.sine);
     TrigVector {
-        cosine: along.minus(z.times(third.sine)),
-        sine: across.minus(z.times(third.cosine)),
+        cosine: radial * third.cosine - z * third.sine,
+        sine: -radial * third.sine - z * third.cosine,
         constant: Vector::new(0.0, 0.0, 0.0),
     }
 }
 
 // The arm's third column, by the direction of joint 1 and the angle of joint 3.
+#[tactic(auto, unfolding(crate::specs::J2free::z_axis, crate::proofs::Literals::of_bits))]
 fn z_axis(radial: Vector, third: SinCos) -> TrigVector
     ensures { result ≡ Of.z_axis radial third }
 {
     let z = Vector::new(0.0, 0.0, 1.0);
-    let across = radial.times(third.sine);
-    let along = radial.times(third.cosine);
     TrigVector {
-        cosine: across.plus(z.times(third.cosine)),
-        sine: along.minus(z.times(third.sine)),
+        cosine: radial * third.sine + z * third.cosine,
+        sine: radial * third.cosine - z * third.sine,
         constant: Vector::new(0.0, 0.0, 0.0),
     }
 }
 
 // The columns of the arm's rotation as functions of joint 2.
+#[tactic(auto, unfolding(crate::specs::J2free::arm_axes, crate::proofs::Literals::of_bits))]
 pub(crate) fn arm_axes(arm: Arm) -> Axes
     ensures { result ≡ Of.arm_axes arm }
 {

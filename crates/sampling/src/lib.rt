@@ -1,6 +1,7 @@
 #![tactic(auto)]
 // From a job's numbers to its angles, document 01's modules 4 to 6. specs/Lib.antt says which files
 // define what.
+pub mod angles;
 pub mod bend_slices;
 pub mod bends;
 pub mod boundaries;
@@ -17,8 +18,8 @@ pub mod limits;
 pub mod lists;
 pub mod marks;
 pub mod plan;
+pub mod polar;
 pub mod pose;
-pub mod push;
 pub mod rays;
 pub mod reads;
 pub mod sample_angles;

@@ -11,6 +11,7 @@ use polynomial::angle::wrapped_angle;
 
 // The centre and the tolerance of a joint: of its limits where they are present, else its reference
 // and P.
+#[tactic(auto, unfolding(crate::specs::Limits::centered, crate::proofs::Literals::of_bits))]
 pub(crate) fn centered(limited: bool, j: Joint) -> Center
     ensures { result ≡ Limits.centered limited j }
 {
@@ -23,19 +24,21 @@ pub(crate) fn centered(limited: bool, j: Joint) -> Center
     }
 }
 
-// The interval around a centre, seen as a model angle. A tolerance that differs from itself is a NaN.
+// The interval around a centre, seen as a model angle.
+#[tactic(auto, unfolding(crate::specs::Limits::limits_of, crate::proofs::Literals::of_bits))]
 pub(crate) fn limits_of(c: Center, sign: f64, offset: f64) -> Range
     ensures { result ≡ Limits.limits_of c sign offset }
 {
-    if (c.tolerance != c.tolerance) | (c.tolerance < 0.0) | !is_finite(c.center) {
-        return Range::Nothing;
+    if c.tolerance.is_nan() | (c.tolerance < 0.0) | !is_finite(c.center) {
+        return None;
     }
     let center = wrapped_angle(wrapped_angle(c.center) * sign - offset);
     let half_width = minimum(c.tolerance, P);
-    Range::Between(center - half_width, center + half_width)
+    Some((center - half_width, center + half_width))
 }
 
 // The continuous interval of a joint's model angle, or none for limits that admit no angle.
+#[tactic(auto, unfolding(crate::specs::Limits::limits))]
 pub fn limits(limited: bool, j: Joint) -> Range
     ensures { result ≡ Limits.limits limited j }
 {

@@ -10,23 +10,31 @@ use float::number::is_finite;
 use float::trig::P;
 use polynomial::angle::wrapped_angle;
 
-// The reference and, with limits, their centre and ends.
+// The centre and the ends of limits.
 #[derive(Clone, Copy)]
-pub struct Marks {
-    pub reference: f64,
-    pub limited: bool,
+pub struct Limits {
     pub center: f64,
     pub range: Range,
 }
 
-// Joint 6, which may be fixed.
+// The reference and, with limits, their centre and ends.
 #[derive(Clone, Copy)]
-pub enum Sixth {
-    Fixed,
-    Moves(Marks),
+pub struct Marks {
+    pub reference: f64,
+    pub limits: Option<Limits>,
+}
+
+impl Marks {
+    // The ends of the limits, where there are any.
+    pub(crate) fn range(self) -> Range
+        ensures { result ≡ Of.range self }
+    {
+        self.limits?.range
+    }
 }
 
 // An angle of a joint as a model angle. The offset is wrapped here.
+#[tactic(auto, unfolding(crate::specs::Marks::model_angle))]
 pub(crate) fn model_angle(sign: f64, offset: f64, angle: f64) -> f64
     ensures { result ≡ Of.model_angle sign offset angle }
 {
@@ -35,16 +43,18 @@ pub(crate) fn model_angle(sign: f64, offset: f64, angle: f64) -> f64
 }
 
 // The ends of limits, where there are any.
+#[tactic(auto, unfolding(crate::specs::Marks::ends, crate::proofs::Literals::of_bits))]
 fn ends(center: f64, tolerance: f64) -> Range
     ensures { result ≡ Of.ends center tolerance }
 {
     if is_finite(tolerance) & (0.0 <= tolerance) & (tolerance < P) {
-        return Range::Between(center - tolerance, center + tolerance);
+        return Some((center - tolerance, center + tolerance));
     }
-    Range::Nothing
+    None
 }
 
 // A wrist joint's angles that count: its reference and, with limits, their centre and ends.
+#[tactic(auto, unfolding(crate::specs::Marks::marks, crate::proofs::Literals::of_bits))]
 pub(crate) fn marks_of(limited: bool, j: Joint) -> Marks
     ensures { result ≡ Of.marks limited j }
 {
@@ -55,15 +65,11 @@ pub(crate) fn marks_of(limited: bool, j: Joint) -> Marks
         let range = ends(center, c.tolerance);
         return Marks {
             reference,
-            limited: true,
-            center,
-            range,
+            limits: Some(Limits { center, range }),
         };
     }
     Marks {
         reference,
-        limited: false,
-        center: 0.0,
-        range: Range::Nothing,
+        limits: None,
     }
 }

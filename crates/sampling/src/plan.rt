@@ -78,6 +78,7 @@ pub fn count(work: &[f64], plan: Plan) -> usize
 }
 
 // What counts of a job whose joint 1 is free.
+#[tactic(auto, unfolding(crate::specs::Angles::first_free))]
 fn first_free(job: Job) -> Free
     ensures { result ≡ first_free job }
 {
@@ -85,6 +86,7 @@ fn first_free(job: Job) -> Free
 }
 
 // What counts of a job whose joint 2 is free.
+#[tactic(auto, unfolding(crate::specs::Angles::second_free))]
 fn second_free(job: Job) -> Free
     ensures { result ≡ second_free job }
 {
@@ -99,9 +101,9 @@ fn cut(work: &mut [f64], job: Job) -> Plan
 {
     let kind = job.kind;
     match kind {
-        Kind::J1free => sample_angles::cut(work, first_free(job)),
-        Kind::J2free => sample_angles::cut(work, second_free(job)),
-        Kind::J1j2free => j1j2free::cut(work, folded_of(job)),
+        Kind::J1free => sample_angles::cut(work, &first_free(job)),
+        Kind::J2free => sample_angles::cut(work, &second_free(job)),
+        Kind::J1j2free => j1j2free::cut(work, &folded_of(job)),
     }
 }
 

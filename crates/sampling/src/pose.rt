@@ -4,6 +4,7 @@ ghost use Rattle.sampling.specs.Pose as Pose;
 
 use float::number::is_finite;
 use float::sqrt::sqrt;
+use std::ops::{Add, Mul, Neg, Sub};
 
 #[derive(Clone, Copy)]
 pub struct Quaternion {
@@ -21,46 +22,67 @@ pub struct Vector {
 }
 
 impl Vector {
+    #[tactic(auto, unfolding(crate::specs::Pose::vector))]
     pub fn new(x: f64, y: f64, z: f64) -> Self
         ensures { result ≡ Pose.vector x y z }
     {
         Self { x, y, z }
     }
+}
 
-    pub(crate) fn times(self, factor: f64) -> Self
-        ensures { result ≡ Pose.times self factor }
-    {
-        Self {
+impl Mul<f64> for Vector {
+    type Output = Vector;
+
+    ghost mul_gives = { λ a factor r. r ≡ Pose.times a factor };
+
+    #[tactic(auto, unfolding(crate::specs::Pose::times, crate::specs::Pose::vector))]
+    fn mul(self, factor: f64) -> Vector {
+        Vector {
             x: self.x * factor,
             y: self.y * factor,
             z: self.z * factor,
         }
     }
+}
 
-    pub(crate) fn plus(self, other: Vector) -> Self
-        ensures { result ≡ Pose.plus self other }
-    {
-        Self {
+impl Add for Vector {
+    type Output = Vector;
+
+    ghost add_gives = { λ a b r. r ≡ Pose.plus a b };
+
+    #[tactic(auto, unfolding(crate::specs::Pose::plus, crate::specs::Pose::vector))]
+    fn add(self, other: Vector) -> Vector {
+        Vector {
             x: self.x + other.x,
             y: self.y + other.y,
             z: self.z + other.z,
         }
     }
+}
 
-    pub(crate) fn minus(self, other: Vector) -> Self
-        ensures { result ≡ Pose.minus self other }
-    {
-        Self {
+impl Sub for Vector {
+    type Output = Vector;
+
+    ghost sub_gives = { λ a b r. r ≡ Pose.minus a b };
+
+    #[tactic(auto, unfolding(crate::specs::Pose::minus, crate::specs::Pose::vector))]
+    fn sub(self, other: Vector) -> Vector {
+        Vector {
             x: self.x - other.x,
             y: self.y - other.y,
             z: self.z - other.z,
         }
     }
+}
 
-    pub(crate) fn negated(self) -> Self
-        ensures { result ≡ Pose.negated self }
-    {
-        Self {
+impl Neg for Vector {
+    type Output = Vector;
+
+    ghost neg_gives = { λ a r. r ≡ Pose.negated a };
+
+    #[tactic(auto, unfolding(crate::specs::Pose::negated, crate::specs::Pose::vector))]
+    fn neg(self) -> Vector {
+        Vector {
             x: -self.x,
             y: -self.y,
             z: -self.z,
@@ -89,6 +111,7 @@ fn all_finite(q: Quaternion) -> bool
     is_finite(q.x) & is_finite(q.y) & is_finite(q.z) & is_finite(q.w)
 }
 
+#[tactic(auto, unfolding(crate::specs::Pose::quaternion_length))]
 fn quaternion_length(q: Quaternion) -> f64
     ensures { result ≡ Pose.quaternion_length q }
 {
@@ -96,6 +119,7 @@ fn quaternion_length(q: Quaternion) -> f64
 }
 
 // q over its length, unless a part or the length is not finite, or the length is zero.
+#[tactic(auto, unfolding(crate::specs::Pose::try_normalize, crate::proofs::Literals::of_bits))]
 pub fn try_normalize(q: Quaternion) -> Normalized
     ensures { result ≡ Pose.try_normalize q }
 {
@@ -115,6 +139,7 @@ pub fn try_normalize(q: Quaternion) -> Normalized
 }
 
 // The rotation matrix of a normalized quaternion.
+#[tactic(auto, unfolding(crate::specs::Pose::from_quat, crate::proofs::Literals::of_bits))]
 pub fn from_quat(q: Quaternion) -> Matrix
     ensures { result ≡ Pose.from_quat q }
 {
@@ -140,12 +165,14 @@ pub fn from_quat(q: Quaternion) -> Matrix
     }
 }
 
+#[tactic(auto, unfolding(crate::specs::Pose::dot))]
 pub(crate) fn dot(a: Vector, b: Vector) -> f64
     ensures { result ≡ Pose.dot a b }
 {
     a.x * b.x + a.y * b.y + a.z * b.z
 }
 
+#[tactic(auto, unfolding(crate::specs::Pose::vector_length))]
 pub(crate) fn vector_length(a: Vector) -> f64
     ensures { result ≡ Pose.vector_length a }
 {

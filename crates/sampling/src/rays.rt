@@ -1,179 +1,168 @@
-// The boundary angles of joints 4 and 6, from src/singularity/continuum.rs, pushed after the first n
-// numbers of a lent slice. Those of a ray are deferred, and then worked out together.
-ghost use Rattle.std.specs.Prelude.{◌≡◌, ◌+◌, ◌≤◌, length};
-ghost use Rattle.sampling.specs.Promises.Deferred.{Deferred};
-ghost use Rattle.sampling.specs.Promises.Pushed.{Pushed};
+// The boundary angles of joints 4 and 6, from src/singularity/continuum.rs. Those of a ray are
+// deferred, and then worked out together.
+ghost use Rattle.std.specs.Prelude.{◌≡◌, ◌+◌, ◌≤◌, ◌<◌};
+ghost use Rattle.arrayvec.specs.ArrayVec.{array_vec_len, Extends};
+ghost use Rattle.sampling.specs.Promises.Deferred.{Defers};
 ghost use Rattle.sampling.specs.Continuum as Continuum;
-ghost use Rattle.sampling.specs.Promises.Polar as By;
 ghost use Rattle.sampling.specs.Rays as Of;
 
-use crate::continuum::{Polar, Trig, line};
-use crate::deferred::{angles_of, defer};
+use crate::angles::Angles;
+use crate::continuum::line;
+use crate::deferred::{Deferred, angles_of, defer};
 use crate::intervals::Range;
-use crate::marks::{Marks, Sixth};
-use crate::push::push_crossings;
+use crate::marks::Marks;
+use crate::polar::Polar;
 use crate::wrist::{Ray, Wrist};
+use arrayvec::ArrayVec;
 use float::number::is_finite;
 
-// Angles where the polynomial equals the target, by its radius and phase.
-pub(crate) fn roots_by(t: Trig, polar: Polar, target: f64, out: &mut [f64], n: usize) -> usize
-    requires n_in_bounds { n + 2 ≤ length out.old }
-    requires polar_value { polar ≡ By.polar t }
-    ensures { Pushed 2 (Continuum.roots t target) n out.old result out.new }
+// Angles where the harmonic equals the target.
+#[tactic(auto, unfolding(crate::specs::Continuum::roots))]
+pub(crate) fn roots_at(t: &Polar, target: f64, out: &mut Angles)
+    requires { array_vec_len out.old + 2 ≤ 300 }
+    ensures items { Extends out.old (Continuum.roots t.now.harmonic target) out.new }
+    ensures most { array_vec_len out.new ≤ array_vec_len out.old + 2 }
 {
-    push_crossings(t.crossings_by(polar, target), out, n)
+    if let Some((first, second)) = t.crossings(target) {
+        out.push(first);
+        out.push(second);
+    }
 }
 
-pub(crate) fn poles(cos5: Trig, polar: Polar, out: &mut [f64], n: usize) -> usize
-    requires n_in_bounds { n + 4 ≤ length out.old }
-    requires polar_value { polar ≡ By.polar cos5 }
-    ensures { Pushed 4 (Of.poles cos5) n out.old result out.new }
+#[tactic(auto, unfolding(crate::specs::Rays::poles, crate::proofs::Literals::of_bits))]
+pub(crate) fn poles(cos5: &Polar, out: &mut Angles)
+    requires { array_vec_len out.old + 4 ≤ 300 }
+    ensures items { Extends out.old (Of.poles cos5.now.harmonic) out.new }
+    ensures most { array_vec_len out.new ≤ array_vec_len out.old + 4 }
 {
-    let m = roots_by(cos5, polar, 1.0, out, n);
-    roots_by(cos5, polar, -1.0, out, m)
+    roots_at(cos5, 1.0, out);
+    roots_at(cos5, -1.0, out);
 }
 
 // Asks for the angles where the vector lies on the boundary line of an angle.
-fn ray_roots(ray: Ray, angle: f64, deferred: &mut [f64], n: usize) -> usize
-    requires { n + 3 ≤ length deferred.old }
-    ensures { Deferred 3 (Continuum.ray_roots ray.x ray.y angle) n deferred.old result deferred.new }
+#[tactic(auto, unfolding(crate::specs::Continuum::ray_roots, crate::proofs::Literals::of_bits))]
+fn ray_roots(ray: &Ray, angle: f64, deferred: &mut Deferred)
+    requires { array_vec_len deferred.old < 14 }
+    ensures items { Defers deferred.old (Continuum.ray_roots ray.now.x ray.now.y angle) deferred.new }
+    ensures most { array_vec_len deferred.new ≤ array_vec_len deferred.old + 1 }
 {
-    defer(line(ray.x, ray.y, angle), 0.0, deferred, n)
+    defer(line(ray.x, ray.y, angle), 0.0, deferred);
 }
 
 // An angle counts if it is finite.
-fn ray_at(ray: Ray, angle: f64, deferred: &mut [f64], n: usize) -> usize
-    requires { n + 3 ≤ length deferred.old }
-    ensures { Deferred 3 (Of.ray_at ray angle) n deferred.old result deferred.new }
+#[tactic(auto, unfolding(crate::specs::Rays::ray_at))]
+fn ray_at(ray: &Ray, angle: f64, deferred: &mut Deferred)
+    requires { array_vec_len deferred.old < 14 }
+    ensures items { Defers deferred.old (Of.ray_at ray.now angle) deferred.new }
+    ensures most { array_vec_len deferred.new ≤ array_vec_len deferred.old + 1 }
 {
     if is_finite(angle) {
-        return ray_roots(ray, angle, deferred, n);
+        ray_roots(ray, angle, deferred);
     }
-    n
 }
 
-fn ray_range(ray: Ray, range: Range, deferred: &mut [f64], n: usize) -> usize
-    requires { n + 6 ≤ length deferred.old }
-    ensures { Deferred 6 (Of.ray_range ray range) n deferred.old result deferred.new }
+#[tactic(auto, unfolding(crate::specs::Rays::ray_range))]
+fn ray_range(ray: &Ray, range: Range, deferred: &mut Deferred)
+    requires { array_vec_len deferred.old + 2 ≤ 14 }
+    ensures items { Defers deferred.old (Of.ray_range ray.now range) deferred.new }
+    ensures most { array_vec_len deferred.new ≤ array_vec_len deferred.old + 2 }
 {
-    match range {
-        Range::Nothing => n,
-        Range::Between(a, b) => {
-            let m = ray_at(ray, a, deferred, n);
-            ray_at(ray, b, deferred, m)
-        }
+    if let Some((lower, upper)) = range {
+        ray_at(ray, lower, deferred);
+        ray_at(ray, upper, deferred);
     }
 }
 
 // The reference and, with limits, their centre and ends.
-fn ray_marks(ray: Ray, marks: Marks, deferred: &mut [f64], n: usize) -> usize
-    requires { n + 12 ≤ length deferred.old }
-    ensures { Deferred 12 (Of.ray_marks ray marks) n deferred.old result deferred.new }
+#[tactic(auto, unfolding(crate::specs::Rays::ray_marks))]
+fn ray_marks(ray: &Ray, marks: &Marks, deferred: &mut Deferred)
+    requires { array_vec_len deferred.old + 4 ≤ 14 }
+    ensures items { Defers deferred.old (Of.ray_marks ray.now marks.now) deferred.new }
+    ensures most { array_vec_len deferred.new ≤ array_vec_len deferred.old + 4 }
 {
-    let m = ray_at(ray, marks.reference, deferred, n);
-    if marks.limited {
-        let k = ray_at(ray, marks.center, deferred, m);
-        let range = marks.range;
-        return ray_range(ray, range, deferred, k);
+    ray_at(ray, marks.reference, deferred);
+    if let Some(limits) = marks.limits {
+        ray_at(ray, limits.center, deferred);
+        ray_range(ray, limits.range, deferred);
     }
-    m
 }
 
 // An angle of joint 4 with one of joint 6, at a pole.
-fn corner(ray: Ray, sign: f64, a: f64, b: f64, deferred: &mut [f64], n: usize) -> usize
-    requires { n + 3 ≤ length deferred.old }
-    ensures { Deferred 3 (Of.corner ray sign a b) n deferred.old result deferred.new }
+#[tactic(auto, unfolding(crate::specs::Rays::corner))]
+fn corner(ray: &Ray, sign: f64, a: f64, b: f64, deferred: &mut Deferred)
+    requires { array_vec_len deferred.old < 14 }
+    ensures items { Defers deferred.old (Of.corner ray.now sign a b) deferred.new }
+    ensures most { array_vec_len deferred.new ≤ array_vec_len deferred.old + 1 }
 {
-    ray_roots(ray, a + sign * b, deferred, n)
+    ray_roots(ray, a + sign * b, deferred);
 }
 
 // Each end of joint 4's limits with each of joint 6's.
-fn corners(
-    ray: Ray,
-    sign: f64,
-    fourth: Range,
-    sixth: Range,
-    deferred: &mut [f64],
-    n: usize,
-) -> usize
-    requires { n + 12 ≤ length deferred.old }
-    ensures { Deferred 12 (Of.corners ray sign fourth sixth) n deferred.old result deferred.new }
+#[tactic(auto, unfolding(crate::specs::Rays::corners))]
+fn corners(ray: &Ray, sign: f64, fourth: Range, sixth: Range, deferred: &mut Deferred)
+    requires { array_vec_len deferred.old + 4 ≤ 14 }
+    ensures items { Defers deferred.old (Of.corners ray.now sign fourth sixth) deferred.new }
+    ensures most { array_vec_len deferred.new ≤ array_vec_len deferred.old + 4 }
 {
-    match fourth {
-        Range::Nothing => n,
-        Range::Between(a, b) => match sixth {
-            Range::Nothing => n,
-            Range::Between(c, d) => {
-                let n1 = corner(ray, sign, a, c, deferred, n);
-                let n2 = corner(ray, sign, a, d, deferred, n1);
-                let n3 = corner(ray, sign, b, c, deferred, n2);
-                corner(ray, sign, b, d, deferred, n3)
-            }
-        },
+    if let (Some((a, b)), Some((c, d))) = (fourth, sixth) {
+        corner(ray, sign, a, c, deferred);
+        corner(ray, sign, a, d, deferred);
+        corner(ray, sign, b, c, deferred);
+        corner(ray, sign, b, d, deferred);
     }
 }
 
-fn phase_roots(
-    ray: Ray,
-    sign: f64,
-    fourth: Marks,
-    sixth: Marks,
-    deferred: &mut [f64],
-    n: usize,
-) -> usize
-    requires { n + 15 ≤ length deferred.old }
-    ensures { Deferred 15 (Of.phase_roots ray sign fourth sixth) n deferred.old result deferred.new }
+#[tactic(auto, unfolding(crate::specs::Rays::phase_roots))]
+fn phase_roots(ray: &Ray, sign: f64, fourth: &Marks, sixth: &Marks, deferred: &mut Deferred)
+    requires { array_vec_len deferred.old + 5 ≤ 14 }
+    ensures items { Defers deferred.old (Of.phase_roots ray.now sign fourth.now sixth.now) deferred.new }
+    ensures most { array_vec_len deferred.new ≤ array_vec_len deferred.old + 5 }
 {
-    let m = corner(ray, sign, fourth.reference, sixth.reference, deferred, n);
-    let range4 = fourth.range;
-    let range6 = sixth.range;
-    corners(ray, sign, range4, range6, deferred, m)
+    corner(ray, sign, fourth.reference, sixth.reference, deferred);
+    corners(ray, sign, fourth.range(), sixth.range(), deferred);
 }
 
-fn phases(w: Wrist, fourth: Marks, sixth: Marks, deferred: &mut [f64], n: usize) -> usize
-    requires { n + 30 ≤ length deferred.old }
-    ensures { Deferred 30 (Of.phases w fourth sixth) n deferred.old result deferred.new }
+#[tactic(auto, unfolding(crate::specs::Rays::phases, crate::proofs::Literals::of_bits))]
+fn phases(w: &Wrist, fourth: &Marks, sixth: &Marks, deferred: &mut Deferred)
+    requires { array_vec_len deferred.old + 10 ≤ 14 }
+    ensures items { Defers deferred.old (Of.phases w.now fourth.now sixth.now) deferred.new }
+    ensures most { array_vec_len deferred.new ≤ array_vec_len deferred.old + 10 }
 {
-    let k = phase_roots(w.sum, 1.0, fourth, sixth, deferred, n);
-    phase_roots(w.difference, -1.0, fourth, sixth, deferred, k)
+    phase_roots(&w.sum, 1.0, fourth, sixth, deferred);
+    phase_roots(&w.difference, -1.0, fourth, sixth, deferred);
 }
 
 // Joint 6, if it is not fixed.
-fn sixth_roots(w: Wrist, fourth: Marks, sixth: Sixth, deferred: &mut [f64], n: usize) -> usize
-    requires { n + 42 ≤ length deferred.old }
-    ensures { Deferred 42 (Of.sixth_roots w fourth sixth) n deferred.old result deferred.new }
+#[tactic(auto, unfolding(crate::specs::Rays::sixth_roots))]
+fn sixth_roots(w: &Wrist, fourth: &Marks, sixth: &Option<Marks>, deferred: &mut Deferred)
+    requires { array_vec_len deferred.old + 14 ≤ 14 }
+    ensures items { Defers deferred.old (Of.sixth_roots w.now fourth.now sixth.now) deferred.new }
+    ensures most { array_vec_len deferred.new ≤ array_vec_len deferred.old + 14 }
 {
-    match sixth {
-        Sixth::Fixed => n,
-        Sixth::Moves(marks) => {
-            let k = ray_marks(w.q6, marks, deferred, n);
-            phases(w, fourth, marks, deferred, k)
-        }
+    if let Some(marks) = sixth {
+        ray_marks(&w.q6, marks, deferred);
+        phases(w, fourth, marks, deferred);
     }
 }
 
 // The angles at which a ray meets a joint's marks, worked out together.
-pub(crate) fn ray_angles(ray: Ray, marks: Marks, out: &mut [f64], n: usize) -> usize
-    requires { n + 12 ≤ length out.old }
-    ensures { Pushed 12 (Of.ray_marks ray marks) n out.old result out.new }
+pub(crate) fn ray_angles(ray: &Ray, marks: &Marks, out: &mut Angles)
+    requires { array_vec_len out.old + 8 ≤ 300 }
+    ensures items { Extends out.old (Of.ray_marks ray.now marks.now) out.new }
+    ensures most { array_vec_len out.new ≤ array_vec_len out.old + 8 }
 {
-    let mut deferred = [0.0; 12];
-    let k = ray_marks(ray, marks, &mut deferred, 0);
-    angles_of(&deferred[..k], out, n)
+    let mut deferred = ArrayVec::new();
+    ray_marks(ray, marks, &mut deferred);
+    angles_of(&deferred, out);
 }
 
 // The angles at which joint 6, or its sum or difference with joint 4, meets their marks.
-pub(crate) fn sixth_angles(
-    w: Wrist,
-    fourth: Marks,
-    sixth: Sixth,
-    out: &mut [f64],
-    n: usize,
-) -> usize
-    requires { n + 42 ≤ length out.old }
-    ensures { Pushed 42 (Of.sixth_roots w fourth sixth) n out.old result out.new }
+pub(crate) fn sixth_angles(w: &Wrist, fourth: &Marks, sixth: &Option<Marks>, out: &mut Angles)
+    requires { array_vec_len out.old + 28 ≤ 300 }
+    ensures items { Extends out.old (Of.sixth_roots w.now fourth.now sixth.now) out.new }
+    ensures most { array_vec_len out.new ≤ array_vec_len out.old + 28 }
 {
-    let mut deferred = [0.0; 42];
-    let k = sixth_roots(w, fourth, sixth, &mut deferred, 0);
-    angles_of(&deferred[..k], out, n)
+    let mut deferred = ArrayVec::new();
+    sixth_roots(w, fourth, sixth, &mut deferred);
+    angles_of(&deferred, out);
 }

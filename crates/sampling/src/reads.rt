@@ -12,6 +12,7 @@ fn wrist_read(fixed: bool, j: usize) -> bool
 }
 
 // Whether sign and offset of joint j are read.
+#[tactic(auto, unfolding(crate::specs::Reads::joint_read))]
 pub fn joint_read(kind: Kind, limited: bool, fixed: bool, j: usize) -> bool
     ensures { result ≡ Reads.joint_read kind limited fixed j }
 {
@@ -23,6 +24,7 @@ pub fn joint_read(kind: Kind, limited: bool, fixed: bool, j: usize) -> bool
 }
 
 // Whether the reference of joint j is read.
+#[tactic(auto, unfolding(crate::specs::Reads::reference_read))]
 pub fn reference_read(kind: Kind, limited: bool, fixed: bool, j: usize) -> bool
     ensures { result ≡ Reads.reference_read kind limited fixed j }
 {
@@ -34,6 +36,7 @@ pub fn reference_read(kind: Kind, limited: bool, fixed: bool, j: usize) -> bool
 }
 
 // Whether the arm's angle q is read.
+#[tactic(auto, unfolding(crate::specs::Reads::arm_read))]
 pub fn arm_read(kind: Kind, q: usize) -> bool
     ensures { result ≡ Reads.arm_read kind q }
 {

@@ -11,9 +11,10 @@ use crate::continuum::Axes;
 use crate::intervals::{Intervals, wrist_limit_intervals};
 use crate::job::{Job, Joint};
 use crate::lists::{Lists, Plan};
-use crate::marks::{Marks, Sixth, marks_of, model_angle};
+use crate::marks::{Marks, marks_of, model_angle};
 use crate::samples::interval_cuts;
 use crate::wrist::{Wrist, wrist_of};
+use arrayvec::ArrayVec;
 use float::number::is_finite;
 use float::trig::P;
 use polynomial::cuts::Put;
@@ -26,10 +27,11 @@ pub struct Free {
     pub wrist: Wrist,
     pub fourth: Marks,
     pub fifth: Marks,
-    pub sixth: Sixth,
+    pub sixth: Option<Marks>,
 }
 
 // The free joint's limits as a model angle.
+#[tactic(auto, unfolding(crate::specs::SampleAngles::free_limits, crate::proofs::Literals::of_bits))]
 fn free_limits(limited: bool, j: Joint) -> Center
     ensures { result ≡ Of.free_limits limited j }
 {
@@ -48,16 +50,18 @@ fn free_limits(limited: bool, j: Joint) -> Center
 }
 
 // A fixed sixth joint is not read.
-fn sixth_of(fixed: bool, limited: bool, j: Joint) -> Sixth
+#[tactic(auto, unfolding(crate::specs::SampleAngles::sixth))]
+fn sixth_of(fixed: bool, limited: bool, j: Joint) -> Option<Marks>
     ensures { result ≡ Of.sixth fixed limited j }
 {
     if fixed {
-        return Sixth::Fixed;
+        return None;
     }
-    Sixth::Moves(marks_of(limited, j))
+    Some(marks_of(limited, j))
 }
 
 // What counts of a job whose joint j is free.
+#[tactic(auto, unfolding(crate::specs::SampleAngles::free))]
 pub(crate) fn free_of(axes: Axes, job: Job, j: Joint) -> Free
     ensures { result ≡ Of.free axes job j }
 {
@@ -78,23 +82,21 @@ pub(crate) fn free_of(axes: Axes, job: Job, j: Joint) -> Free
 }
 
 // The cuts of three intervals, one list after the other in the front of work.
-fn cut_intervals(work: &mut [f64], near: f64, three: Intervals, roots: &[f64], n: usize) -> Plan
-    requires { n ≤ length roots.now }
-    ensures { ListsLaid (interval_cuts near (take n roots.now) three.first)
-        (interval_cuts near (take n roots.now) three.second)
-        (interval_cuts near (take n roots.now) three.third) work.old result work.new }
+fn cut_intervals(work: &mut [f64], near: f64, three: Intervals, roots: &[f64]) -> Plan
+    ensures { ListsLaid (interval_cuts near roots.now three.first)
+        (interval_cuts near roots.now three.second)
+        (interval_cuts near roots.now three.third) work.old result work.new }
 {
     let range1 = three.first;
-    let Put::Count(first) = interval_cuts(work, near, range1, roots, n) else {
+    let Put::Count(first) = interval_cuts(work, near, range1, roots) else {
         return Plan::Short;
     };
     let range2 = three.second;
-    let Put::Count(second) = interval_cuts(&mut work[first..], near, range2, roots, n) else {
+    let Put::Count(second) = interval_cuts(&mut work[first..], near, range2, roots) else {
         return Plan::Short;
     };
     let range3 = three.third;
-    let Put::Count(third) = interval_cuts(&mut work[first + second..], near, range3, roots, n)
-    else {
+    let Put::Count(third) = interval_cuts(&mut work[first + second..], near, range3, roots) else {
         return Plan::Short;
     };
     Plan::Lists(Lists {
@@ -105,24 +107,16 @@ fn cut_intervals(work: &mut [f64], near: f64, three: Intervals, roots: &[f64], n
 }
 
 // The cuts of a free joint, in the front of work.
-pub(crate) fn cut(work: &mut [f64], f: Free) -> Plan
-    ensures value { result ≡ granted (Of.cut_count f) (free_plan f) (length work.old) }
-    ensures work_after { where_laid result work.new [] ≡ where_laid result (free_cuts f ++ drop (Of.cut_count f) work.old) [] }
+pub(crate) fn cut(work: &mut [f64], f: &Free) -> Plan
+    ensures value { result ≡ granted (Of.cut_count f.now) (free_plan f.now) (length work.old) }
+    ensures work_after { where_laid result work.new [] ≡
+        where_laid result (free_cuts f.now ++ drop (Of.cut_count f.now) work.old) [] }
 {
     if is_finite(f.near) {
-        let mut roots = [0.0; 300];
-        let sixth = f.sixth;
-        let n = all_roots(
-            f.wrist,
-            f.near,
-            f.fourth,
-            f.fifth,
-            sixth,
-            f.limits.center,
-            &mut roots,
-        );
+        let mut roots = ArrayVec::new();
+        all_roots(f, &mut roots);
         let three = wrist_limit_intervals(f.limits, f.near, 1.0);
-        return cut_intervals(work, f.near, three, &roots, n);
+        return cut_intervals(work, f.near, three, &roots);
     }
     Plan::Lists(Lists {
         first: 0,

@@ -14,6 +14,7 @@ use float::trig::TWO_PI;
 use polynomial::cuts::Put;
 
 // An angle counts where it lies in the interval.
+#[tactic(auto, unfolding(crate::specs::Samples::inside))]
 fn inside(work: &mut [f64], cuts: usize, lower: f64, upper: f64, angle: f64) -> usize
     ensures { Grown (Of.inside lower upper angle) work.old (counted cuts work.old) work.new
         (counted result work.new) }
@@ -25,6 +26,7 @@ fn inside(work: &mut [f64], cuts: usize, lower: f64, upper: f64, angle: f64) -> 
 }
 
 // An angle, a turn below, as it is and a turn above. Mostly the two outer ones lie outside.
+#[tactic(auto, unfolding(crate::specs::Samples::inside, crate::specs::Samples::copies, crate::proofs::Literals::of_bits))]
 fn copies(work: &mut [f64], cuts: usize, lower: f64, upper: f64, angle: f64) -> usize
     ensures { Grown (Of.copies lower upper angle) work.old (counted cuts work.old) work.new
         (counted result work.new) }
@@ -39,29 +41,19 @@ fn copies(work: &mut [f64], cuts: usize, lower: f64, upper: f64, angle: f64) -> 
     inside(work, second, lower, upper, above)
 }
 
-// The copies of each of the first n angles.
-pub(crate) fn all_copies(
-    work: &mut [f64],
-    cuts: Put,
-    lower: f64,
-    upper: f64,
-    angles: &[f64],
-    n: usize,
-) -> Put
-    requires { n ≤ length angles.now }
-    ensures { Grown (Of.all_copies lower upper (take n angles.now)) work.old cuts work.new result }
+// The copies of each angle.
+pub(crate) fn all_copies(work: &mut [f64], cuts: Put, lower: f64, upper: f64, angles: &[f64]) -> Put
+    ensures { Grown (Of.all_copies lower upper angles.now) work.old cuts work.new result }
 {
     let mut state = number_of(cuts, work.len());
-    let mut i = 0;
-    while i < n {
-        let angle = angles[i];
-        i += 1;
-        state = copies(work, state, lower, upper, angle);
+    for angle in angles {
+        state = copies(work, state, lower, upper, *angle);
     }
     put_of(state, work.len())
 }
 
 // A root counts if it is finite.
+#[tactic(auto, unfolding(crate::specs::Samples::windings))]
 fn windings(work: &mut [f64], cuts: usize, lower: f64, upper: f64, root: f64) -> usize
     ensures { Grown (Of.windings lower upper root) work.old (counted cuts work.old) work.new
         (counted result work.new) }
@@ -72,54 +64,37 @@ fn windings(work: &mut [f64], cuts: usize, lower: f64, upper: f64, root: f64) ->
     cuts
 }
 
-// The windings of each of the first n roots.
-fn all_windings(
-    work: &mut [f64],
-    cuts: usize,
-    lower: f64,
-    upper: f64,
-    roots: &[f64],
-    n: usize,
-) -> usize
-    requires { n ≤ length roots.now }
-    ensures { Grown (Of.all_windings lower upper (take n roots.now)) work.old
+// The windings of each root.
+fn all_windings(work: &mut [f64], cuts: usize, lower: f64, upper: f64, roots: &[f64]) -> usize
+    ensures { Grown (Of.all_windings lower upper roots.now) work.old
         (counted cuts work.old) work.new (counted result work.new) }
 {
     let mut state = cuts;
-    let mut i = 0;
-    while i < n {
-        let root = roots[i];
-        i += 1;
-        state = windings(work, state, lower, upper, root);
+    for root in roots {
+        state = windings(work, state, lower, upper, *root);
     }
     state
 }
 
 // The cuts of one interval, in the front of the slice.
-pub(crate) fn interval_cuts(
-    work: &mut [f64],
-    near: f64,
-    range: Range,
-    roots: &[f64],
-    n: usize,
-) -> Put
-    requires { n ≤ length roots.now }
-    ensures { Kept (Of.interval_values near (take n roots.now) range) work.old work.new result }
+pub(crate) fn interval_cuts(work: &mut [f64], near: f64, range: Range, roots: &[f64]) -> Put
+    ensures { Kept (Of.interval_values near roots.now range) work.old work.new result }
 {
     match range {
-        Range::Nothing => Put::Count(0),
-        Range::Between(a, b) => {
+        None => Put::Count(0),
+        Some((a, b)) => {
             let lower = near + a;
             let upper = near + b;
             let first = put_in(work, 0, lower);
             let ends = put_in(work, first, upper);
-            let all = all_windings(work, ends, lower, upper, roots, n);
+            let all = all_windings(work, ends, lower, upper, roots);
             put_of(all, work.len())
         }
     }
 }
 
 // How far inside a pair of neighbouring cuts the outer samples lie.
+#[tactic(auto, unfolding(crate::specs::Samples::inset, crate::proofs::Literals::of_bits))]
 fn inset(lower: f64, upper: f64) -> f64
     ensures { result ≡ Of.inset lower upper }
 {
@@ -136,6 +111,7 @@ pub struct Three {
 }
 
 // The three samples between two neighbours.
+#[tactic(auto, unfolding(crate::specs::Samples::between))]
 pub fn between(lower: f64, upper: f64) -> Three
     ensures { result.first ∷ (result.second ∷ (result.third ∷ [])) ≡ Of.between lower upper }
 {
@@ -148,6 +124,7 @@ pub fn between(lower: f64, upper: f64) -> Three
 }
 
 // Of the three samples between two neighbours, the first (0), the second (1) or the third.
+#[tactic(auto, unfolding(crate::specs::Samples::between))]
 fn between_at(lower: f64, upper: f64, k: usize) -> f64
     requires { k ≤ 2 }
     ensures { result ≡ get_or (Of.between lower upper) k nan }

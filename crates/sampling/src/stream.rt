@@ -10,6 +10,7 @@ ghost use Rattle.sampling.specs.Promises.Stream as Of;
 use float::number::{middle, total_le};
 
 // None left: a NaN, which comes last and equals no value.
+#[tactic(auto, unfolding(crate::proofs::Literals::div, crate::proofs::Literals::of_bits))]
 fn none_left() -> f64
     ensures { result ≡ nan }
 {

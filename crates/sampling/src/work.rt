@@ -63,9 +63,5 @@ pub(crate) fn put_of(n: usize, places: usize) -> Put
 pub fn clear(work: &mut [f64])
     ensures { work.new ≡ zeros (length work.old) }
 {
-    let mut i = 0usize;
-    while i < work.len() {
-        work[i] = 0.0;
-        i += 1;
-    }
+    work.fill(0.0);
 }

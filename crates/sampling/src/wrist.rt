@@ -25,32 +25,32 @@ pub struct Wrist {
 }
 
 // The sum (sign 1) or the difference (sign -1) of joints 4 and 6, at a pole.
+#[tactic(auto, unfolding(crate::specs::Wrist::phase, crate::proofs::Literals::of_bits))]
 fn phase(axis: Axes, m: Matrix, sign: f64) -> Ray
     ensures { result ≡ Of.phase axis m sign }
 {
-    let across = axis.y.dot(m.x).scaled(sign);
-    let y = across.plus(axis.x.dot(m.y).scaled(-1.0));
-    let along = axis.y.dot(m.y);
-    let x = along.plus(axis.x.dot(m.x).scaled(sign));
-    Ray { x, y }
+    Ray {
+        x: axis.y.dot(m.y) + axis.x.dot(m.x) * sign,
+        y: axis.y.dot(m.x) * sign + axis.x.dot(m.y) * -1.0,
+    }
 }
 
 // All of them, by the arm's columns and the target's.
+#[tactic(auto, unfolding(crate::specs::Wrist::wrist, crate::proofs::Literals::of_bits))]
 pub(crate) fn wrist_of(axis: Axes, m: Matrix) -> Wrist
     ensures { result ≡ Of.wrist axis m }
 {
-    let x4 = axis.x.dot(m.z);
-    let y4 = axis.y.dot(m.z);
-    let x6 = axis.z.dot(m.x).scaled(-1.0);
-    let y6 = axis.z.dot(m.y);
-    let cos5 = axis.z.dot(m.z);
-    let sum = phase(axis, m, 1.0);
-    let difference = phase(axis, m, -1.0);
     Wrist {
-        q4: Ray { x: x4, y: y4 },
-        q6: Ray { x: x6, y: y6 },
-        cos5,
-        sum,
-        difference,
+        q4: Ray {
+            x: axis.x.dot(m.z),
+            y: axis.y.dot(m.z),
+        },
+        q6: Ray {
+            x: axis.z.dot(m.x) * -1.0,
+            y: axis.z.dot(m.y),
+        },
+        cos5: axis.z.dot(m.z),
+        sum: phase(axis, m, 1.0),
+        difference: phase(axis, m, -1.0),
     }
 }

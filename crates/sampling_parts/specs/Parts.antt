@@ -1,14 +1,12 @@
 -- The numbers of module 4's answers, each by its place: a float by its bits. Definitions only.
-use Rattle.std.specs.Prelude.{ℕ, ◌-◌, Bool, true, false, cond, eqb, ltb, Float}
+use Rattle.std.specs.Prelude.{None, Some, ℕ, ◌-◌, Bool, true, false, cond, eqb, ltb, Float}
 use Rattle.std.specs.Float.{binary64}
 use Rattle.std.specs.Float.Ieee.{to_bits, of_bits}
 use Rattle.sampling.specs.Constraints.{compute_center}
-use Rattle.sampling.specs.Intervals.{wrist_limit_intervals}
+use Rattle.sampling.specs.Intervals.{Range, wrist_limit_intervals}
 use Rattle.sampling.specs.Limits as Limits
 use Rattle.sampling.specs.Pose.{try_normalize, from_quat}
 use Rattle.sampling.specs.declared.constraints.Center.{Center}
-use Rattle.sampling.specs.declared.intervals.Range.{Range}
-use Rattle.sampling.specs.declared.intervals.Range.TheVariants.{Nothing, Between}
 use Rattle.sampling.specs.declared.intervals.Intervals.{Intervals}
 use Rattle.sampling.specs.declared.job.Joint.{Joint}
 use Rattle.sampling.specs.declared.pose.Quaternion.{Quaternion}
@@ -30,8 +28,8 @@ unfoldable pub of_ends : Float → Float → ℕ → ℕ
 of_ends lower upper part = cond (eqb part 0) 1 (cond (eqb part 1) (to_bits binary64 lower) (to_bits binary64 upper))
 
 unfoldable pub of_range : Range → ℕ → ℕ
-of_range Nothing part = 0
-of_range (Between lower upper) part = of_ends lower upper part
+of_range None part = 0
+of_range (Some (lower, upper)) part = of_ends lower upper part
 
 -- the first at 0, the second at 1, else the third
 unfoldable pub one_of : Intervals → ℕ → Range

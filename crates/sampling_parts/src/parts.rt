@@ -45,8 +45,8 @@ pub fn of_range(range: Range, part: u64) -> u64
     ensures { result ≡ Parts.of_range range part }
 {
     match range {
-        Range::Nothing => 0,
-        Range::Between(lower, upper) => of_ends(lower, upper, part),
+        None => 0,
+        Some((lower, upper)) => of_ends(lower, upper, part),
     }
 }
 

@@ -1,5 +1,5 @@
 -- The cases that 01 marks P, about the definitions of modules 3 and 4, each of them computed by antt.
-use Rattle.std.specs.Prelude.{ℕ, ◌≡◌, refl, List, [], ◌∷◌, Float, true, false}
+use Rattle.std.specs.Prelude.{Some, ℕ, ◌≡◌, refl, List, [], ◌∷◌, Float, true, false}
 use Rattle.std.specs.Float.{binary64, inf}
 use Rattle.std.specs.Float.Ieee.{of_bits, of_int, add, sub, mul, div, rem, neg, eq, le, lt, is_nan}
 use Rattle.float.specs.Number.{abs, middle, total_le, rem_euclid, minimum, maximum, zero_float, one_float}
@@ -14,7 +14,6 @@ use Rattle.float.specs.Trig.{P}
 use Rattle.sampling.specs.Constraints.{compute_center}
 use Rattle.sampling.specs.Intervals.{seen, interval, wrist_limit_intervals}
 use Rattle.sampling.specs.declared.constraints.Center.{Center}
-use Rattle.sampling.specs.declared.intervals.Range.TheVariants.{Between}
 use Rattle.sampling.specs.declared.intervals.Intervals.{Intervals}
 
 -- ---- roots and wrapping, by bit pattern
@@ -120,21 +119,21 @@ abbrev whole : Center
 whole = record { center = zero_float; tolerance = P }
 
 abbrev whole_turn : Intervals
-whole_turn = record { first = Between (neg P) (neg P); second = Between (neg P) P; third = Between P P }
+whole_turn = record { first = Some (neg P, neg P); second = Some (neg P, P); third = Some (P, P) }
 
 seen_whole : (c : Center) (reference sign : Float) → le P c.tolerance ≡ true → seen c reference sign ≡ whole
 unfolding seen
 seen_whole c reference sign h = rw h
 
-first_is : interval whole (neg two_pi) ≡ Between (neg P) (neg P)
+first_is : interval whole (neg two_pi) ≡ Some (neg P, neg P)
 unfolding interval minimum maximum is_nan sub le
 first_is = refl
 
-second_is : interval whole zero_float ≡ Between (neg P) P
+second_is : interval whole zero_float ≡ Some (neg P, P)
 unfolding interval minimum maximum is_nan sub le
 second_is = refl
 
-third_is : interval whole two_pi ≡ Between P P
+third_is : interval whole two_pi ≡ Some (P, P)
 unfolding interval minimum maximum is_nan sub le
 third_is = refl
 

@@ -1,6 +1,6 @@
 -- Every angle of a job lies within ±32. One free joint: its cuts lie within ±8, so what is tried between two of them lies within ±16.
 -- Two free joints: the cuts of both halves lie within ±32, and the middle of two neighbours lies between them.
-use Rattle.std.specs.Prelude.{◌≡◌, refl, Bool, cond, pos, T, Float}
+use Rattle.std.specs.Prelude.{None, Some, ◌≡◌, refl, Bool, cond, pos, T, Float}
 use Rattle.std.proofs.Math.Bool.{true, false}
 use mathlib.Core.List.{List, [], ◌∷◌, ◌++◌}
 use Rattle.std.specs.Float.{nan, inf, fin}
@@ -23,7 +23,7 @@ use Rattle.polynomial.specs.Laws.Lists.{all_append}
 use Rattle.polynomial.specs.Laws.Wrapped.{wrapped_within}
 use Rattle.sampling.specs.Angles.{first_free, second_free, by_kind, angles}
 use Rattle.sampling.specs.Continuum.{root_roundoff}
-use Rattle.sampling.specs.Intervals.{interval, wrist_limit_intervals}
+use Rattle.sampling.specs.Intervals.{Range, interval, wrist_limit_intervals}
 use Rattle.sampling.specs.J1j2free.{folded, curves, bends, half_cuts, first_half, second_half, on_interval, all_slices}
 use Rattle.sampling.specs.CriticalSlices.{chart}
 use Rattle.sampling.specs.Marks.{model_angle}
@@ -42,8 +42,6 @@ use Rattle.sampling.proofs.Laws.SliceBounds.{eight, all_small, copies_within, ha
 use Rattle.sampling.proofs.Laws.Woven.{Small, neighbours}
 use Rattle.sampling.specs.declared.constraints.Center.{Center}
 use Rattle.sampling.specs.declared.continuum.Axes.{Axes}
-use Rattle.sampling.specs.declared.intervals.Range.{Range}
-use Rattle.sampling.specs.declared.intervals.Range.TheVariants.{Nothing, Between}
 use Rattle.sampling.specs.declared.j1j2free.Folded.{Folded}
 use Rattle.sampling.specs.declared.job.Job.{Job}
 use Rattle.sampling.specs.declared.job.Joint.{Joint}
@@ -72,15 +70,15 @@ near_within sign offset angle f =
 
 -- an interval of displacements, if there is one, is in order and lies within P
 abbrev RangeCut : Range → Type 0
-RangeCut Nothing = Unit {0}
-RangeCut (Between lower upper) = Cut lower upper
+RangeCut None = Unit {0}
+RangeCut (Some (lower, upper)) = Cut lower upper
 
 interval_range : (c : Center) (shift : Float) → RangeCut (interval c shift)
 interval_range c shift = go (interval c shift) refl
   where
     go : (g : Range) → interval c shift ≡ g → RangeCut g
-    go Nothing e = tt
-    go (Between lower upper) e = interval_cut c shift lower upper e
+    go None e = tt
+    go (Some (lower, upper)) e = interval_cut c shift lower upper e
 
 -- around a reference within P its ends lie within 2P
 around_span : {near lower upper : Float} → Within P near → Cut lower upper → Span 3 (near ⊕ lower) (near ⊕ upper)
@@ -112,8 +110,8 @@ module _ (lower upper : Float) (s : Span 3 lower upper) where
 
 values_within : (near : Float) (l : List Float) (g : Range) → Within P near → RangeCut g → All (Within eight) (interval_values near l g)
 unfolding interval_values
-values_within near l Nothing w c = tt
-values_within near l (Between lower upper) w c =
+values_within near l None w c = tt
+values_within near l (Some (lower, upper)) w c =
     let s = around_span w c in
     all_append (Within eight) ((near ⊕ lower) ∷ [] ++ (near ⊕ upper) ∷ []) (all_windings (near ⊕ lower) (near ⊕ upper) l)
     (s.lo_within, (s.hi_within, tt)) (all_windings_within (near ⊕ lower) (near ⊕ upper) s l)
@@ -210,7 +208,7 @@ half_all t lower upper s b =
     rw (half_cuts_are t lower upper s.lo_fits s.hi_fits)
     (cuts_mids_small (half_values (curves t) (bends t) lower upper) (half_fit t lower upper s.lo_fits s.hi_fits) (half_small lower upper s t b))
 
-slices_small : (t : Folded) (lower upper : Float) → Small t.reference → Ends lower upper → Charted (Between lower upper)
+slices_small : (t : Folded) (lower upper : Float) → Small t.reference → Ends lower upper → Charted (Some (lower, upper))
     → All Small (slices t.reference lower upper (first_half t lower upper) (second_half t lower upper))
 unfolding slices first_half second_half
 slices_small t lower upper r e c =
@@ -222,15 +220,15 @@ slices_small t lower upper r e c =
     all_cuts Small (t.reference ∷ lower ∷ upper ∷ ((a ++ mids a) ++ (b ++ mids b)))
     (r, (weaken widest tt s.lo_within, (weaken widest tt s.hi_within, halves)))
 
-all_slices_small : (t : Folded) → Small t.reference → ((lower upper : Float) → t.range1 ≡ Between lower upper → Ends lower upper) → Charted t.range1
+all_slices_small : (t : Folded) → Small t.reference → ((lower upper : Float) → t.range1 ≡ Some (lower, upper) → Ends lower upper) → Charted t.range1
     → All Small (all_slices t)
 unfolding all_slices
 all_slices_small t r e c = go t.range1 e c
   where
-    go : (g : Range) → ((lower upper : Float) → g ≡ Between lower upper → Ends lower upper) → Charted g
+    go : (g : Range) → ((lower upper : Float) → g ≡ Some (lower, upper) → Ends lower upper) → Charted g
         → All Small (on_interval g [] (λ lower upper. slices t.reference lower upper (first_half t lower upper) (second_half t lower upper)))
-    go Nothing e c = tt
-    go (Between lower upper) e c = slices_small t lower upper r (e lower upper refl) c
+    go None e c = tt
+    go (Some (lower, upper)) e c = slices_small t lower upper r (e lower upper refl) c
 
 pub folded_small : (job : Job) → T (fits binary64 job.j1.reference) → Moderate job.j1 → All Small (all_slices (folded job))
 unfolding folded

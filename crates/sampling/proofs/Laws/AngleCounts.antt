@@ -1,5 +1,6 @@
 -- How many boundary angles of one free joint there are at most, how many cuts, and how many angles.
-use Rattle.std.specs.Prelude.{◌≡◌, Bool, true, false, ◌&&◌, cond, List, [], ◌∷◌, ◌++◌, ℕ, ◌+◌, ◌*◌, ◌≤◌, length, Float}
+use Rattle.std.specs.Option.{option_map_or}
+use Rattle.std.specs.Prelude.{Option, None, Some, ◌≡◌, Bool, true, false, ◌&&◌, cond, List, [], ◌∷◌, ◌++◌, ℕ, ◌+◌, ◌*◌, ◌≤◌, length, Float}
 use native.Mathlib.Omega.{arith}
 use Rattle.std.proofs.Math.ListN.{length-append}
 use Rattle.std.specs.Float.Ieee.{le, neg}
@@ -18,16 +19,13 @@ use Rattle.sampling.specs.Samples.{interval_values, interval_cuts, samples, samp
 use Rattle.sampling.specs.SampleAngles as SampleAngles
 use Rattle.sampling.proofs.Laws.Samples.{samples_length, sample_count_most}
 use Rattle.sampling.specs.declared.continuum.Trig.{Trig}
-use Rattle.sampling.specs.declared.continuum.Crossings.{Crossings}
-use Rattle.sampling.specs.declared.continuum.Crossings.TheVariants.{Neither, Both}
 use Rattle.sampling.specs.declared.wrist.Ray.{Ray}
 use Rattle.sampling.specs.declared.wrist.Wrist.{Wrist}
 use Rattle.sampling.specs.declared.marks.Marks.{Marks}
-use Rattle.sampling.specs.declared.marks.Sixth.{Sixth}
-use Rattle.sampling.specs.declared.marks.Sixth.TheVariants.{Fixed, Moves}
-use Rattle.sampling.specs.declared.intervals.Range.{Range}
-use Rattle.sampling.specs.declared.intervals.Range.TheVariants.{Nothing, Between}
+use Rattle.sampling.specs.declared.marks.Limits.{Limits}
 use Rattle.sampling.specs.declared.sample_angles.Free.{Free}
+use Rattle.sampling.specs.Intervals.{Range}
+use Rattle.sampling.specs.Marks.{range}
 
 pub both : {A : Type 0} {m n : ℕ} (a b : List A) → length a ≤ m → length b ≤ n → length (a ++ b) ≤ m + n
 both a b p q = omega (arith, length-append a b, p, q)
@@ -36,11 +34,15 @@ pub either : {A : Type 0} {n : ℕ} (c : Bool) (a b : List A) → length a ≤ n
 either true a b p q = p
 either false a b p q = q
 
+of_limits : {n : ℕ} (f : Limits → List Float) → ((l : Limits) → length (f l) ≤ n) → (o : Option Limits) → length (option_map_or f o []) ≤ n
+of_limits f h None = omega arith
+of_limits f h (Some l) = h l
+
 -- ---- boundary angles
 
-listed_few : (c : Crossings) → length (listed c) ≤ 2
-listed_few Neither = omega arith
-listed_few (Both a b) = omega arith
+listed_few : (c : Option (Float × Float)) → length (listed c) ≤ 2
+listed_few None = omega arith
+listed_few (Some (a, b)) = omega arith
 
 pub roots_few : (t : Trig) (target : Float) → length (roots t target) ≤ 2
 unfolding roots
@@ -60,15 +62,15 @@ ray_at_few ray angle = either (finite angle) (ray_roots ray.x ray.y angle) [] (r
 
 ray_range_few : (ray : Ray) (range : Range) → length (ray_range ray range) ≤ 4
 unfolding ray_range
-ray_range_few ray Nothing = omega arith
-ray_range_few ray (Between lower upper) = both (ray_at ray lower) (ray_at ray upper) (ray_at_few ray lower) (ray_at_few ray upper)
+ray_range_few ray None = omega arith
+ray_range_few ray (Some (lower, upper)) = both (ray_at ray lower) (ray_at ray upper) (ray_at_few ray lower) (ray_at_few ray upper)
 
 ray_marks_few : (ray : Ray) (m : Marks) → length (ray_marks ray m) ≤ 8
 unfolding ray_marks
 ray_marks_few ray m =
-    let limits = ray_at ray m.center ++ ray_range ray m.range in
-    let few : length limits ≤ 6 = both (ray_at ray m.center) (ray_range ray m.range) (ray_at_few ray m.center) (ray_range_few ray m.range) in
-    both (ray_at ray m.reference) (cond m.limited limits []) (ray_at_few ray m.reference) (either m.limited limits [] few (omega arith))
+    let limits = λ (l : Limits). ray_at ray l.center ++ ray_range ray l.range in
+    let few : (l : Limits) → length (limits l) ≤ 6 = λ l. both (ray_at ray l.center) (ray_range ray l.range) (ray_at_few ray l.center) (ray_range_few ray l.range) in
+    both (ray_at ray m.reference) (option_map_or limits m.limits []) (ray_at_few ray m.reference) (of_limits limits few m.limits)
 
 corner_few : (ray : Ray) (sign angle4 angle6 : Float) → length (corner ray sign angle4 angle6) ≤ 2
 unfolding corner
@@ -76,9 +78,9 @@ corner_few ray sign angle4 angle6 = ray_roots_few ray.x ray.y (angle4 ⊕ sign �
 
 corners_few : (ray : Ray) (sign : Float) (limit4 limit6 : Range) → length (corners ray sign limit4 limit6) ≤ 8
 unfolding corners
-corners_few ray sign Nothing limit6 = omega arith
-corners_few ray sign (Between a b) Nothing = omega arith
-corners_few ray sign (Between a b) (Between c d) =
+corners_few ray sign None limit6 = omega arith
+corners_few ray sign (Some (a, b)) None = omega arith
+corners_few ray sign (Some (a, b)) (Some (c, d)) =
     both ((corner ray sign a c ++ corner ray sign a d) ++ corner ray sign b c) (corner ray sign b d)
     (both (corner ray sign a c ++ corner ray sign a d) (corner ray sign b c)
     (both (corner ray sign a c) (corner ray sign a d) (corner_few ray sign a c) (corner_few ray sign a d))
@@ -88,9 +90,9 @@ corners_few ray sign (Between a b) (Between c d) =
 phase_roots_few : (ray : Ray) (sign : Float) (m4 m6 : Marks) → length (phase_roots ray sign m4 m6) ≤ 10
 unfolding phase_roots
 phase_roots_few ray sign m4 m6 =
-    both (corner ray sign m4.reference m6.reference) (corners ray sign m4.range m6.range)
+    both (corner ray sign m4.reference m6.reference) (corners ray sign (range m4) (range m6))
     (corner_few ray sign m4.reference m6.reference)
-    (corners_few ray sign m4.range m6.range)
+    (corners_few ray sign (range m4) (range m6))
 
 phases_few : (w : Wrist) (m4 m6 : Marks) → length (phases w m4 m6) ≤ 20
 unfolding phases
@@ -99,10 +101,10 @@ phases_few w m4 m6 =
     (phase_roots_few w.sum one_float m4 m6)
     (phase_roots_few w.difference (neg one_float) m4 m6)
 
-sixth_roots_few : (w : Wrist) (m4 : Marks) (s : Sixth) → length (sixth_roots w m4 s) ≤ 28
+sixth_roots_few : (w : Wrist) (m4 : Marks) (s : Option Marks) → length (sixth_roots w m4 s) ≤ 28
 unfolding sixth_roots
-sixth_roots_few w m4 Fixed = omega arith
-sixth_roots_few w m4 (Moves m6) = both (ray_marks w.q6 m6) (phases w m4 m6) (ray_marks_few w.q6 m6) (phases_few w m4 m6)
+sixth_roots_few w m4 None = omega arith
+sixth_roots_few w m4 (Some m6) = both (ray_marks w.q6 m6) (phases w m4 m6) (ray_marks_few w.q6 m6) (phases_few w m4 m6)
 
 bend_roots_few : (cos5 : Trig) (q4 : Ray) (angle : Float) → length (bend_roots cos5 q4 angle) ≤ 60
 unfolding bend_roots
@@ -119,19 +121,19 @@ bend_at_few cos5 q4 angle = either (finite angle) (bend_roots cos5 q4 angle) [] 
 
 bend_range_few : (cos5 : Trig) (q4 : Ray) (range : Range) → length (bend_range cos5 q4 range) ≤ 120
 unfolding bend_range
-bend_range_few cos5 q4 Nothing = omega arith
-bend_range_few cos5 q4 (Between lower upper) = both (bend_at cos5 q4 lower) (bend_at cos5 q4 upper) (bend_at_few cos5 q4 lower) (bend_at_few cos5 q4 upper)
+bend_range_few cos5 q4 None = omega arith
+bend_range_few cos5 q4 (Some (lower, upper)) = both (bend_at cos5 q4 lower) (bend_at cos5 q4 upper) (bend_at_few cos5 q4 lower) (bend_at_few cos5 q4 upper)
 
 bend_marks_few : (cos5 : Trig) (q4 : Ray) (m : Marks) → length (bend_marks cos5 q4 m) ≤ 240
 unfolding bend_marks
 bend_marks_few cos5 q4 m =
     let at = bend_at cos5 q4 in
     let few = bend_at_few cos5 q4 in
-    let limits = at m.center ++ bend_range cos5 q4 m.range in
-    let most : length limits ≤ 180 = both (at m.center) (bend_range cos5 q4 m.range) (few m.center) (bend_range_few cos5 q4 m.range) in
-    both (at m.reference) (cond m.limited limits []) (few m.reference) (either m.limited limits [] most (omega arith))
+    let limits = λ (l : Limits). at l.center ++ bend_range cos5 q4 l.range in
+    let most : (l : Limits) → length (limits l) ≤ 180 = λ l. both (at l.center) (bend_range cos5 q4 l.range) (few l.center) (bend_range_few cos5 q4 l.range) in
+    both (at m.reference) (option_map_or limits m.limits []) (few m.reference) (of_limits limits most m.limits)
 
-pub all_roots_few : (w : Wrist) (near : Float) (m4 m5 : Marks) (m6 : Sixth) (center : Float) → length (all_roots w near m4 m5 m6 center) ≤ 282
+pub all_roots_few : (w : Wrist) (near : Float) (m4 m5 : Marks) (m6 : Option Marks) (center : Float) → length (all_roots w near m4 m5 m6 center) ≤ 282
 unfolding all_roots
 all_roots_few w near m4 m5 m6 center =
     let rays = (near ∷ [] ++ poles w.cos5) ++ ray_marks w.q4 m4 in
@@ -182,8 +184,8 @@ all_windings_few lower upper (x ∷ l) =
 
 interval_values_few : (near : Float) (l : List Float) (range : Range) → length (interval_values near l range) ≤ 2 + 3 * length l
 unfolding interval_values
-interval_values_few near l Nothing = omega arith
-interval_values_few near l (Between lower upper) = omega (arith, all_windings_few (near ⊕ lower) (near ⊕ upper) l)
+interval_values_few near l None = omega arith
+interval_values_few near l (Some (lower, upper)) = omega (arith, all_windings_few (near ⊕ lower) (near ⊕ upper) l)
 
 -- by polynomial's law: there are no more cuts than values
 pub interval_cuts_few : (near : Float) (l : List Float) (range : Range) → length (interval_cuts near l range) ≤ 2 + 3 * length l

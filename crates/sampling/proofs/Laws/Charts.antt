@@ -1,5 +1,5 @@
 -- The root finder takes the bounds of both charts of a joint's interval.
-use Rattle.std.specs.Prelude.{◌≡◌, refl, ◌⊎◌, Bool, T, Float}
+use Rattle.std.specs.Prelude.{None, Some, ◌≡◌, refl, ◌⊎◌, Bool, T, Float}
 use Rattle.std.specs.Float.{binary64}
 use Rattle.std.specs.Float.Ieee.{neg, fits}
 use Rattle.float.specs.Number.{one_float}
@@ -12,14 +12,13 @@ use Rattle.sampling.specs.Promises.Plan.{Moderate, Drawable}
 use Rattle.sampling.proofs.Laws.ChartBounds.{chart_bounds}
 use Rattle.sampling.proofs.Laws.Limits.{half_within, Around, ends_span, around_ends, limits_around}
 use Rattle.sampling.proofs.Laws.Limits.Around.{around}
-use Rattle.sampling.specs.declared.intervals.Range.{Range}
-use Rattle.sampling.specs.declared.intervals.Range.TheVariants.{Nothing, Between}
 use Rattle.sampling.specs.declared.job.Job.{Job}
 use Rattle.sampling.specs.declared.job.Joint.{Joint}
 use Rattle.sampling.specs.declared.job.Kind.TheVariants.{J1j2free}
+use Rattle.sampling.specs.Intervals.{Range}
 
 -- ---- the halves of a joint's interval
-around_charted : {lo hi : Float} → Around lo hi → Charted (Between lo hi)
+around_charted : {lo hi : Float} → Around lo hi → Charted (Some (lo, hi))
 around_charted (around c h f g w k) =
     let n = halves_narrow c h f g w k (half_within k) (ends_span (around_ends (around c h f g w k))) in
     (chart_bounds n.0, chart_bounds n.1)
@@ -30,8 +29,8 @@ pub limits_charted : (limited : Bool) (j : Joint) → T (fits binary64 j.referen
 limits_charted limited j t s o = go (limits limited j) refl
   where
     go : (g : Range) → limits limited j ≡ g → Charted g
-    go Nothing e = tt
-    go (Between lo hi) e = around_charted (limits_around limited j lo hi t s o e)
+    go None e = tt
+    go (Some (lo, hi)) e = around_charted (limits_around limited j lo hi t s o e)
 
 -- what `plan_of` asks, of a job as 01 allows it
 pub moderate_drawable : (job : Job) → T (fits binary64 job.j1.reference) → (job.kind ≡ J1j2free → Moderate job.j1) → Drawable job

@@ -1,5 +1,5 @@
 -- Every angle of a job is a float that the format holds, so that its 64 bits stand for it.
-use Rattle.std.specs.Prelude.{Bool, true, false, not, ◌||◌, cond, List, [], ◌∷◌, ◌++◌, Float}
+use Rattle.std.specs.Prelude.{None, Some, Bool, true, false, not, ◌||◌, cond, List, [], ◌∷◌, ◌++◌, Float}
 use Rattle.std.proofs.Common.{sym, subst}
 use Rattle.std.specs.Float.{binary64}
 use Rattle.std.specs.Float.Ieee.{lt, is_nan}
@@ -20,14 +20,13 @@ use Rattle.sampling.specs.Angles.{first_free, second_free, by_kind, angles}
 use Rattle.sampling.specs.Promises.Halves.{half_values}
 use Rattle.sampling.proofs.Laws.J1j2free.{picked, copies_fit, half_fit, half_cuts_are}
 use Rattle.sampling.specs.declared.constraints.Center.{Center}
-use Rattle.sampling.specs.declared.intervals.Range.{Range}
-use Rattle.sampling.specs.declared.intervals.Range.TheVariants.{Nothing, Between}
 use Rattle.sampling.specs.declared.sample_angles.Free.{Free}
 use Rattle.sampling.specs.declared.j1j2free.Folded.{Folded}
 use Rattle.sampling.specs.declared.job.Job.{Job}
 use Rattle.sampling.specs.declared.job.Joint.{Joint}
 use Rattle.sampling.specs.declared.job.Kind.{Kind}
 use Rattle.sampling.specs.declared.job.Kind.TheVariants.{J1free, J2free, J1j2free}
+use Rattle.sampling.specs.Intervals.{Range}
 
 middle_fits : (a b : Float) → Fits (middle a b)
 unfolding middle
@@ -47,8 +46,8 @@ all_windings_fit lower upper (a ∷ l) = fit_append (windings lower upper a) (al
 
 values_fit : (near : Float) (l : List Float) (g : Range) → Fit (interval_values near l g)
 unfolding interval_values
-values_fit near l Nothing = tt
-values_fit near l (Between lower upper) =
+values_fit near l None = tt
+values_fit near l (Some (lower, upper)) =
     fit_append ((near ⊕ lower) ∷ [] ++ (near ⊕ upper) ∷ []) (all_windings (near ⊕ lower) (near ⊕ upper) l)
     (add-fits binary64 near lower, (add-fits binary64 near upper, tt)) (all_windings_fit (near ⊕ lower) (near ⊕ upper) l)
 
@@ -104,22 +103,24 @@ slices_fit t lower upper r f g =
     fit_cuts (t.reference ∷ lower ∷ upper ∷ ((a ++ mids a) ++ (b ++ mids b))) (r, (f, (g, h)))
 
 abbrev RangeFits : Range → Type 0
-RangeFits Nothing = Unit {0}
-RangeFits (Between lower upper) = Fits lower × Fits upper
+RangeFits None = Unit {0}
+RangeFits (Some (lower, upper)) = Fits lower × Fits upper
 
 all_slices_fit : (t : Folded) (g : Range) → Fits t.reference → RangeFits g
     → Fit (on_interval g [] (λ lower upper. slices t.reference lower upper (first_half t lower upper) (second_half t lower upper)))
-all_slices_fit t Nothing r f = tt
-all_slices_fit t (Between lower upper) r f = slices_fit t lower upper r f.0 f.1
+all_slices_fit t None r f = tt
+all_slices_fit t (Some (lower, upper)) r f = slices_fit t lower upper r f.0 f.1
 
 limits_fit : (c : Center) (sign offset : Float) → RangeFits (limits_of c sign offset)
 unfolding limits_of
 limits_fit c sign offset = go (is_nan c.tolerance || lt c.tolerance zero_float || not (finite c.center))
   where
     go : (x : Bool)
-        → RangeFits (cond x Nothing
-        (Between (wrapped_angle (wrapped_angle c.center ⊗ sign ⊖ offset) ⊖ minimum c.tolerance P)
-        (wrapped_angle (wrapped_angle c.center ⊗ sign ⊖ offset) ⊕ minimum c.tolerance P)))
+        → RangeFits (cond x None
+        (Some (
+          wrapped_angle (wrapped_angle c.center ⊗ sign ⊖ offset) ⊖ minimum c.tolerance P,
+          wrapped_angle (wrapped_angle c.center ⊗ sign ⊖ offset) ⊕ minimum c.tolerance P,
+        )))
     go true = tt
     go false = (sub-fits binary64 _ (minimum c.tolerance P), add-fits binary64 _ (minimum c.tolerance P))
 

@@ -1,6 +1,7 @@
 -- Every inner call of the root finder that a job makes is fair, if the job is what 01's refusals 2 to 8 leave: the operation Roots takes it, so 01's refusal 9
 -- never came. Kinds 1 and 2 ask nothing of joint 5: its sine counts as a norm only where `narrow` finds it between 0 and 1.0e-4, whatever the angle was.
-use Rattle.std.specs.Prelude.{ℕ, zero, suc, ◌<◌, ◌≡◌, refl, ◌⊎◌, Bool, true, false, cond, T, eqb, length, Float}
+use Rattle.std.specs.Option.{option_map_or}
+use Rattle.std.specs.Prelude.{Option, None, Some, ℕ, zero, suc, ◌<◌, ◌≡◌, refl, ◌⊎◌, Bool, true, false, cond, T, eqb, length, Float}
 use Rattle.std.proofs.Common.{not-suc-le-zero, le_of_suc-le-suc, arith, lit≤}
 use mathlib.Core.List.{List, [], ◌∷◌, ◌++◌, map}
 use Rattle.std.specs.Float.{binary64}
@@ -38,8 +39,6 @@ use Rattle.sampling.specs.Promises.Charts.{Bounded, Charted}
 use Rattle.sampling.specs.declared.continuum.Axes.{Axes}
 use Rattle.sampling.specs.declared.continuum.TrigVector.{TrigVector}
 use Rattle.sampling.specs.declared.critical_slices.Chart.{Chart}
-use Rattle.sampling.specs.declared.intervals.Range.{Range}
-use Rattle.sampling.specs.declared.intervals.Range.TheVariants.{Nothing, Between}
 use Rattle.sampling.specs.declared.j1j2free.Folded.{Folded}
 use Rattle.sampling.specs.declared.job.Arm.{Arm}
 use Rattle.sampling.specs.declared.job.Job.{Job}
@@ -47,6 +46,7 @@ use Rattle.sampling.specs.declared.job.Joint.{Joint}
 use Rattle.sampling.specs.declared.job.Kind.{Kind}
 use Rattle.sampling.specs.declared.job.Kind.TheVariants.{J1free, J2free, J1j2free}
 use Rattle.sampling.specs.declared.marks.Marks.{Marks}
+use Rattle.sampling.specs.declared.marks.Limits.{Limits}
 use Rattle.sampling.specs.declared.pose.Vector.{Vector}
 use Rattle.sampling.specs.declared.wrist.Ray.{Ray}
 use Rattle.sampling.proofs.Laws.Limits.{ends_span, limits_ends}
@@ -60,6 +60,7 @@ use Rattle.sampling.specs.Pose as Pose
 use Rattle.sampling.specs.Continuum as Continuum
 use Rattle.sampling.specs.J1free as J1free
 use Rattle.sampling.specs.J2free as J2free
+use Rattle.sampling.specs.Intervals.{Range}
 
 -- ---- one free joint: joint 5's calls, at any angles
 
@@ -86,16 +87,18 @@ module _ (q4 : Ray) (u : Harmonic-under 10 (harmonic q4.x)) (v : Harmonic-under 
       (λ t. norm_fair 10 (harmonic q4.x) (harmonic q4.y) s (lit≤ tt) u v (under_le 0 10 (lit≤ tt) (narrow_under s t))))
 
   bends_fair : (r : Range) → All Fair (at_ends (bend_calls q4) r)
-  bends_fair Nothing = tt
-  bends_fair (Between lower upper) = all_append Fair (bend_calls q4 lower) (bend_calls q4 upper) (bend_fair lower) (bend_fair upper)
+  bends_fair None = tt
+  bends_fair (Some (lower, upper)) = all_append Fair (bend_calls q4 lower) (bend_calls q4 upper) (bend_fair lower) (bend_fair upper)
+
+  limits_fair : (o : Option Limits) → All Fair (option_map_or (λ (l : Limits). bend_calls q4 l.center ++ at_ends (bend_calls q4) l.range) o [])
+  limits_fair None = tt
+  limits_fair (Some l) = all_append Fair (bend_calls q4 l.center) (at_ends (bend_calls q4) l.range) (bend_fair l.center) (bends_fair l.range)
 
   marks_fair : (m : Marks) → All Fair (marks_calls q4 m)
   unfolding marks_calls
   marks_fair m =
-      let center = bend_calls q4 m.center in
-      let ends = at_ends (bend_calls q4) m.range in
-      all_append Fair (bend_calls q4 m.reference) (cond m.limited (center ++ ends) []) (bend_fair m.reference)
-      (where_true (center ++ ends) m.limited (λ t. all_append Fair center ends (bend_fair m.center) (bends_fair m.range)))
+      all_append Fair (bend_calls q4 m.reference) (option_map_or (λ (l : Limits). bend_calls q4 l.center ++ at_ends (bend_calls q4) l.range) m.limits [])
+      (bend_fair m.reference) (limits_fair m.limits)
 
 -- ---- one free joint: the columns of the arm's rotation have parts of at most 2 ^ 3, joint 4's vector of at most 2 ^ 10
 
@@ -222,7 +225,7 @@ unfolding chart
 half_fair {lower} {upper} l s b h = chart_fair (chart lower upper) l (weaken widest tt (middle_within s)) b h
 
 -- slices, then the charts of both halves
-halves_fair : (t : Folded) (lower upper : Float) → Span 3 lower upper → Charted (Between lower upper) → All Fair (slice_calls t)
+halves_fair : (t : Folded) (lower upper : Float) → Span 3 lower upper → Charted (Some (lower, upper)) → All Fair (slice_calls t)
     → All (Curve-under 7) (curves t) → All Fair (halves_calls t lower upper)
 unfolding halves_calls
 halves_fair t lower upper s c a h =
@@ -244,8 +247,8 @@ limits_ranged : (limited : Bool) (j : Joint) → Steady j → Ranged (limits lim
 limits_ranged limited j s = go (limits limited j) refl
   where
     go : (r : Range) → limits limited j ≡ r → Ranged r
-    go Nothing e = none
-    go (Between lower upper) e =
+    go None e = none
+    go (Some (lower, upper)) e =
         let k = limits_ends limited j lower upper s.fit s.sign s.offset e in
         some k.lower_within k.upper_within
 
@@ -254,7 +257,7 @@ unfolding wrist_limits limits
 wrist_ranged false j s = none
 wrist_ranged true j s = go (le P (centered true j).tolerance)
   where
-    go : (b : Bool) → Ranged (cond b Nothing (limits_of (centered true j) j.sign j.offset))
+    go : (b : Bool) → Ranged (cond b None (limits_of (centered true j) j.sign j.offset))
     go true = none
     go false = limits_ranged true j (s tt)
 
@@ -286,8 +289,8 @@ folded_fair job h f =
     fifth = wrist_ranged job.limited job.j5 f.fifth
 
     go : (r : Range) → limits job.limited job.j1 ≡ r → Charted r → All Fair (on_interval r [] (halves_calls (folded job)))
-    go Nothing e c = tt
-    go (Between lower upper) e c =
+    go None e c = tt
+    go (Some (lower, upper)) e c =
         halves_fair (folded job) lower upper
         (ends_span (limits_ends job.limited job.j1 lower upper f.first.fit f.first.sign f.first.offset e)) c
         (slices_fair (folded job) h f.arm second fifth)

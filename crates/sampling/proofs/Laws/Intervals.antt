@@ -1,6 +1,6 @@
 -- A limit interval is in order and lies within P, whatever it was cut from.
-use Rattle.std.specs.Prelude.{◌≡◌, Bool, true, false, not, ◌&&◌, cond, ℕ, T, Float}
-use Rattle.std.proofs.Common.{arith}
+use Rattle.std.specs.Prelude.{None, Some, ◌≡◌, Bool, true, false, not, ◌&&◌, cond, T, Float}
+use Rattle.std.proofs.Common.{ap}
 use Rattle.std.specs.Float.{nan, inf, fin, binary64}
 use Rattle.std.specs.Float.Ieee.{neg, lt, le, is_nan, fits}
 use Rattle.std.specs.Float.Ieee.Fits.{add-fits, sub-fits, cond-fits}
@@ -13,9 +13,8 @@ use Rattle.float.specs.Promises.Order.{Within}
 use Rattle.float.specs.Laws.Within.{Le→within}
 use Rattle.float.specs.Laws.Interval.{Le-trans}
 use Rattle.float.specs.Laws.Range.{nlt→Le}
-use Rattle.sampling.specs.Intervals.{interval}
+use Rattle.sampling.specs.Intervals.{Range, interval}
 use Rattle.sampling.specs.declared.constraints.Center.{Center}
-use Rattle.sampling.specs.declared.intervals.Range.TheVariants.{Nothing, Between}
 
 -- ---- the cuts
 maximum_above : (x : Float) → T (le (neg P) (maximum x (neg P)))
@@ -96,16 +95,21 @@ cut_within x y t u k =
       order = order;
     }
 
-pub nothing_between : {lo hi : Float} → Nothing ≡ Between lo hi → ⊥
-nothing_between e = let z : ◌≡◌ {A = ℕ} 0 1 = cc in omega arith
+pub none_not_some : {lo hi : Float} → ◌≡◌ {A = Range} None (Some (lo, hi)) → ⊥
+none_not_some e = cc
 
-taken : (f p o : Bool) (x y lo hi : Float) → cond (f && p && o) (Between x y) Nothing ≡ Between lo hi → T o × (lo ≡ x) × (hi ≡ y)
-taken false p o x y lo hi e = absurd (nothing_between e)
-taken true false o x y lo hi e = absurd (nothing_between e)
-taken true true false x y lo hi e = absurd (nothing_between e)
-taken true true true x y lo hi e = (tt, cc, cc)
+pub same_ends : {x y lo hi : Float} → ◌≡◌ {A = Range} (Some (x, y)) (Some (lo, hi)) → (lo ≡ x) × (hi ≡ y)
+same_ends {x} {y} {lo} {hi} e =
+    let h : ◌≡◌ {A = Float × Float} (lo, hi) (x, y) = cc in
+    (ap (λ (p : Float × Float). p.0) h, ap (λ (p : Float × Float). p.1) h)
 
-pub interval_cut : (c : Center) (shift lo hi : Float) → interval c shift ≡ Between lo hi → Cut lo hi
+taken : (f p o : Bool) (x y lo hi : Float) → cond {A = Range} (f && p && o) (Some (x, y)) None ≡ Some (lo, hi) → T o × (lo ≡ x) × (hi ≡ y)
+taken false p o x y lo hi e = absurd (none_not_some e)
+taken true false o x y lo hi e = absurd (none_not_some e)
+taken true true false x y lo hi e = absurd (none_not_some e)
+taken true true true x y lo hi e = let s = same_ends e in (tt, s.0, s.1)
+
+pub interval_cut : (c : Center) (shift lo hi : Float) → interval c shift ≡ Some (lo, hi) → Cut lo hi
 unfolding interval
 interval_cut c shift lo hi e =
     let x = c.center ⊕ shift ⊖ c.tolerance in

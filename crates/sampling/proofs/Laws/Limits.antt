@@ -1,5 +1,5 @@
 -- The interval of a joint's model angle: its centre lies within P and its half width between 0 and P, so its ends are in order and lie within a turn.
-use Rattle.std.specs.Prelude.{◌≡◌, ◌⊎◌, Bool, true, false, not, ◌||◌, cond, pos, T, Float}
+use Rattle.std.specs.Prelude.{None, Some, ◌≡◌, ◌⊎◌, Bool, true, false, not, ◌||◌, cond, pos, T, Float}
 use Rattle.std.proofs.Common.{inl, inr, lit<}
 use Rattle.std.specs.Float.{nan, inf, fin, binary64}
 use Rattle.std.specs.Float.Ieee.{neg, sub, lt, le, eq, is_nan, fits}
@@ -15,10 +15,10 @@ use Rattle.float.specs.Laws.Range.{nlt→Le}
 use Rattle.polynomial.specs.Angle.{two_pi, wrapped_angle}
 use Rattle.polynomial.specs.Laws.Wrapped.{wrapped_fits, wrapped_within}
 use Rattle.sampling.specs.Constraints.{arc, compute_center}
+use Rattle.sampling.specs.Intervals.{Range}
 use Rattle.sampling.specs.Limits.{centered, limits_of, limits}
-use Rattle.sampling.proofs.Laws.Intervals.{minimum_fits, nothing_between}
+use Rattle.sampling.proofs.Laws.Intervals.{minimum_fits, none_not_some, same_ends}
 use Rattle.sampling.specs.declared.constraints.Center.{Center}
-use Rattle.sampling.specs.declared.intervals.Range.TheVariants.{Nothing, Between}
 use Rattle.sampling.specs.declared.job.Joint.{Joint}
 
 -- ---- the half width of a tolerance that is a number and not below zero
@@ -94,11 +94,11 @@ record Taken (number below real : Bool) (x y lo hi : Float) : Type 0 where
   lower : lo ≡ x
   upper : hi ≡ y
 
-taken : (n b f : Bool) (x y lo hi : Float) → cond (n || b || not f) Nothing (Between x y) ≡ Between lo hi → Taken n b f x y lo hi
-taken true b f x y lo hi e = absurd (nothing_between e)
-taken false true f x y lo hi e = absurd (nothing_between e)
-taken false false false x y lo hi e = absurd (nothing_between e)
-taken false false true x y lo hi e = record { number_is = tt; plus = tt; finite_is = tt; lower = cc; upper = cc }
+taken : (n b f : Bool) (x y lo hi : Float) → cond {A = Range} (n || b || not f) None (Some (x, y)) ≡ Some (lo, hi) → Taken n b f x y lo hi
+taken true b f x y lo hi e = absurd (none_not_some e)
+taken false true f x y lo hi e = absurd (none_not_some e)
+taken false false false x y lo hi e = absurd (none_not_some e)
+taken false false true x y lo hi e = let s = same_ends e in record { number_is = tt; plus = tt; finite_is = tt; lower = s.0; upper = s.1 }
 
 -- ---- a centre and a tolerance that fit binary64
 abbrev Fits : Center → Type 0
@@ -124,7 +124,7 @@ centered_fits false j t = (t, tt)
 
 -- ---- the laws
 limits_of_around : (c : Center) (sign offset lo hi : Float) → Fits c → Within one_float sign → Within two_pi offset
-    → limits_of c sign offset ≡ Between lo hi → Around lo hi
+    → limits_of c sign offset ≡ Some (lo, hi) → Around lo hi
 unfolding limits_of
 limits_of_around c sign offset lo hi t s o e =
     let m = wrapped_angle c.center ⊗ sign ⊖ offset in
@@ -135,7 +135,7 @@ limits_of_around c sign offset lo hi t s o e =
     (wrapped_within m (model_held c.center sign offset t.0 k.finite_is s o)) (half_in c.tolerance k.number_is k.plus))
 
 module _ (limited : Bool) (j : Joint) (lo hi : Float) (t : T (fits binary64 j.reference)) (s : (j.sign ≡ one_float) ⊎ (j.sign ≡ neg one_float))
-    (o : Within two_pi j.offset) (e : limits limited j ≡ Between lo hi) where
+    (o : Within two_pi j.offset) (e : limits limited j ≡ Some (lo, hi)) where
   pub limits_around : Around lo hi
   unfolding limits
   limits_around = limits_of_around (centered limited j) j.sign j.offset lo hi (centered_fits limited j t) (unit_sign s) o e

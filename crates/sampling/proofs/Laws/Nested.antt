@@ -1,5 +1,5 @@
 -- Definitions that are one sentence with `||` and `&&`, test by test: what is said first is asked first. For proofs that go by cases.
-use Rattle.std.specs.Prelude.{◌≡◌, refl, Bool, true, false, not, ◌&&◌, ◌||◌, cond, [], ◌∷◌, ◌++◌, Float}
+use Rattle.std.specs.Prelude.{None, Some, ◌≡◌, refl, Bool, true, false, not, ◌&&◌, ◌||◌, cond, [], ◌∷◌, ◌++◌, Float}
 use Rattle.std.specs.Float.{nan, inf, binary64}
 use Rattle.std.specs.Float.Ieee.{neg, eq, lt, le, is_nan, round}
 use Rattle.std.specs.Float.Ieee.Scale.{finite}
@@ -17,11 +17,9 @@ use Rattle.sampling.specs.Samples.{inside}
 use Rattle.sampling.specs.Boundaries.{wrist_limits}
 use Rattle.sampling.specs.BendSlices.{transverse}
 use Rattle.sampling.specs.declared.constraints.Center.{Center}
-use Rattle.sampling.specs.declared.intervals.Range.TheVariants.{Nothing, Between}
 use Rattle.sampling.specs.declared.pose.Quaternion.{Quaternion}
 use Rattle.sampling.specs.declared.pose.Normalized.TheVariants.{Unit, NotFinite, Zero}
 use Rattle.sampling.specs.declared.continuum.Trig.{Trig}
-use Rattle.sampling.specs.declared.continuum.Crossings.TheVariants.{Neither, Both}
 use Rattle.sampling.specs.declared.job.Joint.{Joint}
 
 module _ {A : Type 0} (x y : A) where
@@ -77,12 +75,14 @@ unfolding compute_center
 compute_center_nested a b = neither _ _ (finite a) (finite b)
 
 pub limits_of_nested : (c : Center) (sign offset : Float)
-    → limits_of c sign offset ≡ cond (is_nan c.tolerance) Nothing
-    (cond (lt c.tolerance zero_float) Nothing
+    → limits_of c sign offset ≡ cond (is_nan c.tolerance) None
+    (cond (lt c.tolerance zero_float) None
     (cond (finite c.center)
-    (Between (wrapped_angle (wrapped_angle c.center ⊗ sign ⊖ offset) ⊖ minimum c.tolerance P)
-    (wrapped_angle (wrapped_angle c.center ⊗ sign ⊖ offset) ⊕ minimum c.tolerance P))
-    Nothing))
+    (Some (
+      wrapped_angle (wrapped_angle c.center ⊗ sign ⊖ offset) ⊖ minimum c.tolerance P,
+      wrapped_angle (wrapped_angle c.center ⊗ sign ⊖ offset) ⊕ minimum c.tolerance P,
+    ))
+    None))
 unfolding limits_of
 limits_of_nested c sign offset = none _ _ (is_nan c.tolerance) (lt c.tolerance zero_float) (finite c.center)
 
@@ -96,9 +96,9 @@ upper_end c shift = minimum (c.center ⊕ shift ⊕ c.tolerance) P
 pub interval_nested : (c : Center) (shift : Float)
     → interval c shift ≡ cond (finite c.center)
     (cond (le zero_float c.tolerance)
-    (cond (le (lower_end c shift) (upper_end c shift)) (Between (lower_end c shift) (upper_end c shift)) Nothing)
-    Nothing)
-    Nothing
+    (cond (le (lower_end c shift) (upper_end c shift)) (Some (lower_end c shift, upper_end c shift)) None)
+    None)
+    None
 unfolding interval
 interval_nested c shift = all_three _ _ (finite c.center) (le zero_float c.tolerance) (le (lower_end c shift) (upper_end c shift))
 
@@ -118,22 +118,23 @@ try_normalize_nested q = neither _ _ (all_finite q) (finite (quaternion_length q
 pub ends_nested : (center tolerance : Float)
     → ends center tolerance ≡ cond (finite tolerance)
     (cond (le zero_float tolerance)
-    (cond (lt tolerance P) (Between (center ⊖ tolerance) (center ⊕ tolerance)) Nothing)
-    Nothing)
-    Nothing
+    (cond (lt tolerance P) (Some (center ⊖ tolerance, center ⊕ tolerance)) None)
+    None)
+    None
 unfolding ends
 ends_nested center tolerance = all_three _ _ (finite tolerance) (le zero_float tolerance) (lt tolerance P)
 
 pub crossings_nested : (t : Trig) (target : Float)
     → crossings t target ≡ cond (finite (hypot t.cosine t.sine))
     (cond (finite (t.constant ⊖ target))
-    (cond (eq (hypot t.cosine t.sine) zero_float) Neither
-    (cond (lt (hypot t.cosine t.sine ⊕ error t target) (abs (t.constant ⊖ target))) Neither
-    (Both
-    (wrapped_angle (atan2 t.sine t.cosine ⊖ acos (clamp (neg (t.constant ⊖ target) ⊘ hypot t.cosine t.sine))))
-    (wrapped_angle (atan2 t.sine t.cosine ⊕ acos (clamp (neg (t.constant ⊖ target) ⊘ hypot t.cosine t.sine)))))))
-    Neither)
-    Neither
+    (cond (eq (hypot t.cosine t.sine) zero_float) None
+    (cond (lt (hypot t.cosine t.sine ⊕ error t target) (abs (t.constant ⊖ target))) None
+    (Some (
+      wrapped_angle (atan2 t.sine t.cosine ⊖ acos (clamp (neg (t.constant ⊖ target) ⊘ hypot t.cosine t.sine))),
+      wrapped_angle (atan2 t.sine t.cosine ⊕ acos (clamp (neg (t.constant ⊖ target) ⊘ hypot t.cosine t.sine))),
+    ))))
+    None)
+    None
 unfolding crossings
 crossings_nested t target =
     no_four _ _ (finite (hypot t.cosine t.sine)) (finite (t.constant ⊖ target)) (eq (hypot t.cosine t.sine) zero_float)
@@ -158,7 +159,7 @@ transverse_nested radius azimuth component = both _ _ (lt zero_float radius) (le
 
 pub wrist_limits_nested : (limited : Bool) (j : Joint)
     → wrist_limits limited j ≡ cond limited
-    (cond (le P (centered limited j).tolerance) Nothing (limits_of (centered limited j) j.sign j.offset))
-    Nothing
+    (cond (le P (centered limited j).tolerance) None (limits_of (centered limited j) j.sign j.offset))
+    None
 unfolding wrist_limits
 wrist_limits_nested limited j = unless _ _ limited (le P (centered limited j).tolerance)

@@ -1,6 +1,6 @@
 -- Laws of a job's plan, for upper crates: where it is laid, the angles that are read off work are the job's, and
 -- they depend on its front alone; how many samples three lists give; a step is the next of them.
-use Rattle.std.specs.Prelude.{◌≡◌, Bool, not, ℕ, zero, suc, ◌+◌, ◌≤◌, ◌<◌, T, leb, ltb, take, drop, get_or, Float}
+use Rattle.std.specs.Prelude.{None, Some, ◌≡◌, Bool, not, ℕ, zero, suc, ◌+◌, ◌≤◌, ◌<◌, T, leb, ltb, take, drop, get_or, Float}
 use Rattle.std.proofs.Math.Path.{refl}
 use Rattle.std.proofs.Common.{sym, ap, ap₂, subst, ◌∙◌, add-zero, zero-add, suc-add, add-one, arith, le-leb, ltb-true, ltb-false, length-append}
 use Rattle.std.proofs.Common.{length-drop, drop_of_length-le, length-take-le, drop-cons, take_at, drop_at, take-take}
@@ -29,8 +29,6 @@ use Rattle.sampling.proofs.Laws.Reference.{reference_fits, reference_number}
 use Rattle.sampling.proofs.Laws.Slices.{halves_slices}
 use Rattle.sampling.proofs.Laws.SliceBounds.{halves_woven}
 use Rattle.sampling.proofs.Laws.Step.{next_steps}
-use Rattle.sampling.specs.declared.intervals.Range.{Range}
-use Rattle.sampling.specs.declared.intervals.Range.TheVariants.{Nothing, Between}
 use Rattle.sampling.specs.declared.j1j2free.Folded.{Folded}
 use Rattle.sampling.specs.declared.job.Job.{Job}
 use Rattle.sampling.specs.declared.job.Kind.{Kind}
@@ -42,6 +40,7 @@ use Rattle.sampling.specs.declared.sample_angles.Free.{Free}
 use Rattle.sampling.specs.declared.stream.Cursor.{Cursor}
 use Rattle.sampling.specs.declared.stream.Step.{Step}
 use Rattle.sampling.specs.declared.stream.Step.TheVariants.{Yield, Done}
+use Rattle.sampling.specs.Intervals.{Range}
 
 three_length : (a b c : List Float) → length (three_samples a b c) ≡ sample_count (length a) + sample_count (length b) + sample_count (length c)
 unfolding three_samples
@@ -132,7 +131,7 @@ record Streams (t : Folded) (lower upper : Float) : Type 0 where
       ≡ slices t.reference lower upper (J1j2free.first_half t lower upper) (J1j2free.second_half t lower upper)
 
 -- the limits were pushed into the halves
-streams : (t : Folded) (lower upper : Float) → Ends lower upper → Charted (Between lower upper) → T (fits binary64 t.reference)
+streams : (t : Folded) (lower upper : Float) → Ends lower upper → Charted (Some (lower, upper)) → T (fits binary64 t.reference)
     → T (not (is_nan t.reference)) → Streams t lower upper
 unfolding middle J1j2free.first_half J1j2free.second_half
 streams t lower upper e c fit real =
@@ -181,23 +180,23 @@ module _ (w : List Float) where
   unfolding SampleAngles.cut_count free_plan free_cuts SampleAngles.sample_angles
   free_drawn f = three_drawn (SampleAngles.first_cuts f) (SampleAngles.second_cuts f) (SampleAngles.third_cuts f) w
 
-  folded_drawn : (t : Folded) → ((lower upper : Float) → t.range1 ≡ Between lower upper → Streams t lower upper)
+  folded_drawn : (t : Folded) → ((lower upper : Float) → t.range1 ≡ Some (lower, upper) → Streams t lower upper)
       → Drawn (J1j2free.cut_count t) (folded_plan t) (folded_cuts t) (J1j2free.all_slices t) w
   unfolding J1j2free.cut_count folded_plan folded_cuts J1j2free.all_slices three_samples samples all_between
   folded_drawn t h = go t.range1 h
     where
-      go : (g : Range) → ((lower upper : Float) → g ≡ Between lower upper → Streams t lower upper)
+      go : (g : Range) → ((lower upper : Float) → g ≡ Some (lower, upper) → Streams t lower upper)
           → Drawn (J1j2free.on_interval g 0 (λ lower upper. length (J1j2free.first_half t lower upper) + length (J1j2free.second_half t lower upper)))
           (J1j2free.on_interval g (lists_of [] [] []) (λ lower upper. halves_of t.reference (J1j2free.first_half t lower upper)
           (J1j2free.second_half t lower upper)))
           (J1j2free.on_interval g [] (λ lower upper. J1j2free.first_half t lower upper ++ J1j2free.second_half t lower upper))
           (J1j2free.on_interval g [] (λ lower upper. slices t.reference lower upper (J1j2free.first_half t lower upper)
           (J1j2free.second_half t lower upper))) w
-      go Nothing h = three_drawn [] [] [] w
-      go (Between lower upper) h = two_drawn t lower upper w (h lower upper refl)
+      go None h = three_drawn [] [] [] w
+      go (Some (lower, upper)) h = two_drawn t lower upper w (h lower upper refl)
 
   module _ (job : Job) (fit : T (fits binary64 job.j1.reference)) (m : job.kind ≡ J1j2free → Moderate job.j1) where
-    job_streams : job.kind ≡ J1j2free → (lower upper : Float) → (J1j2free.folded job).range1 ≡ Between lower upper → Streams (J1j2free.folded job) lower upper
+    job_streams : job.kind ≡ J1j2free → (lower upper : Float) → (J1j2free.folded job).range1 ≡ Some (lower, upper) → Streams (J1j2free.folded job) lower upper
     unfolding J1j2free.folded
     job_streams k lower upper e =
         streams (J1j2free.folded job) lower upper (limits_ends job.limited job.j1 lower upper fit (m k).sign (m k).offset e)
@@ -237,8 +236,8 @@ module _ {A : Type 0} (short found : A) where
           → by_plan (J1j2free.on_interval g (lists_of [] [] [])
           (λ lower upper. halves_of t.reference (J1j2free.first_half t lower upper) (J1j2free.second_half t lower upper)))
           short found ≡ found
-      both t Nothing = refl
-      both t (Between lower upper) = refl
+      both t None = refl
+      both t (Some (lower, upper)) = refl
 
       go : (k : Kind)
           → by_plan (by_kind k (free_plan (first_free job)) (free_plan (second_free job)) (folded_plan (J1j2free.folded job))) short found ≡ found
@@ -264,8 +263,8 @@ folded_filled t = go t.range1
         → filled (J1j2free.on_interval g (lists_of [] [] []) (λ lower upper. halves_of t.reference (J1j2free.first_half t lower upper)
         (J1j2free.second_half t lower upper)))
         ≡ J1j2free.on_interval g 0 (λ lower upper. length (J1j2free.first_half t lower upper) + length (J1j2free.second_half t lower upper))
-    go Nothing = refl
-    go (Between lower upper) = refl
+    go None = refl
+    go (Some (lower, upper)) = refl
 
 free_filled : (f : Free) → filled (free_plan f) ≡ SampleAngles.cut_count f
 unfolding free_plan SampleAngles.cut_count

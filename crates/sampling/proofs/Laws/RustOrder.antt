@@ -2,7 +2,7 @@
 -- number and the angles of every job are those of before.
 use Prim.Native.Nat.{ℕ, zero, suc, ◌+◌, ◌≤◌}
 use Rattle.std.proofs.Common.{arith, subst, ◌∙◌, take_all}
-use Rattle.std.specs.Prelude.{◌≡◌, take, Float}
+use Rattle.std.specs.Prelude.{None, Some, ◌≡◌, take, Float}
 use Rattle.std.proofs.Math.Path.{refl, sym, ap}
 use mathlib.Core.List.{List, [], ◌∷◌, ◌++◌, map, flat_map, append_assoc, map-append, map-map, Permᴰ}
 use Rattle.std.proofs.Math.ListN.{length, length-append}
@@ -19,13 +19,12 @@ use Rattle.sampling.specs.Angles.{angles, cut_count}
 use Rattle.sampling.proofs.Laws.J1j2free.{critical_fit}
 use Rattle.sampling.proofs.Laws.CriticalSlices.{asked_own, asked_pair}
 use Rattle.sampling.specs.declared.critical_slices.Chart.{Chart}
-use Rattle.sampling.specs.declared.intervals.Range.{Range}
-use Rattle.sampling.specs.declared.intervals.Range.TheVariants.{Nothing, Between}
 use Rattle.sampling.specs.declared.j1j2free.Folded.{Folded}
 use Rattle.sampling.specs.declared.job.Job.{Job}
 use Rattle.sampling.specs.Pairs as Pairs
 use Rattle.sampling.specs.J1j2free as J1j2free
 use Rattle.sampling.specs.RustOrder as Rust
+use Rattle.sampling.specs.Intervals.{Range}
 
 -- ---- permutations
 
@@ -189,8 +188,8 @@ module _ (t : Folded) where
   on_same none f g e = go t.range1
     where
       go : (r : Range) → on_interval r none f ≡ on_interval r none g
-      go Nothing = refl
-      go (Between lower upper) = e lower upper
+      go None = refl
+      go (Some (lower, upper)) = e lower upper
 
   pub slices_count_same : Rust.slices_count t ≡ J1j2free.cut_count t
   unfolding Rust.slices_count J1j2free.cut_count

@@ -2,22 +2,21 @@
 use Rattle.std.specs.Prelude.{ℕ, zero, suc, ◌+◌, ◌-◌, ◌*◌, ◌<◌, ◌≤◌, ◌≡◌, refl, List, [], ◌∷◌, ◌++◌, take, Float}
 use Rattle.std.proofs.Common.{add-one, arith, sym, ◌∙◌, append_assoc, append-nil, take-suc}
 use Rattle.std.proofs.Math.Path.{ap}
-use Rattle.std.proofs.Math.ListN.{length, get_or, length-append, get_or-append, get_or-eq_default}
-use Rattle.std.proofs.Math.Seq.{slice, slice-cons, slice_empty, get_or-append-add}
+use Rattle.std.proofs.Math.ListN.{length, drop, drop_of_length-le, get_or, length-append, get_or-append, get_or-eq_default}
+use Rattle.std.proofs.Math.Seq.{drop-cons, get_or-append-add}
 use Rattle.std.specs.Float.Ieee.{nan}
 use Rattle.sampling.specs.Samples.{copies, all_copies, windings, all_windings, between, all_between, samples, sample_count, three_samples}
 
 -- ---- angles
 
-module _ (lower upper : Float) (l : List Float) (i n : ℕ) where
-  pub copies_next : i < n → n ≤ length l → all_copies lower upper (slice i n l) ≡ copies lower upper (get_or l i nan) ++ all_copies lower upper
-      (slice (i + 1) n l)
+module _ (lower upper : Float) (l : List Float) (i : ℕ) where
+  pub copies_next : i < length l → all_copies lower upper (drop i l) ≡ copies lower upper (get_or l i nan) ++ all_copies lower upper (drop (i + 1) l)
   unfolding all_copies
-  copies_next h b = rw (add-one, slice-cons i n l nan h b)
+  copies_next h = rw (add-one, drop-cons l i nan h)
 
-  pub copies_end : i ≡ n → all_copies lower upper (slice i n l) ≡ []
+  pub copies_end : length l ≤ i → all_copies lower upper (drop i l) ≡ []
   unfolding all_copies
-  copies_end e = rw (e, slice_empty n l)
+  copies_end h = rw (drop_of_length-le l h)
 
 -- ---- roots
 

@@ -1,6 +1,6 @@
 -- Where the ends of a half are in order and lie within ±8, as those of a joint's interval do, and the root finder takes the bounds of its chart, all its
 -- values lie within ±32, so that its cuts can be streamed.
-use Rattle.std.specs.Prelude.{Bool, ◌&&◌, cond, pos}
+use Rattle.std.specs.Prelude.{Some, Bool, ◌&&◌, cond, pos}
 use Rattle.std.proofs.Math.Bool.{true, false}
 use mathlib.Core.List.{List, [], ◌∷◌, ◌++◌, flat_map}
 use Rattle.std.proofs.Math.Dec.{T}
@@ -33,7 +33,6 @@ use Rattle.sampling.proofs.Laws.J1j2free.{half_fit, half_cuts_are}
 use Rattle.sampling.proofs.Laws.Limits.{Ends, ends_span}
 use Rattle.sampling.proofs.Laws.Woven.{Small, cuts_woven}
 use Rattle.sampling.specs.declared.critical_slices.Chart.{Chart}
-use Rattle.sampling.specs.declared.intervals.Range.TheVariants.{Between}
 use Rattle.sampling.specs.declared.j1j2free.Folded.{Folded}
 
 abbrev pub eight : Float
@@ -119,7 +118,7 @@ module _ (lower upper : Float) (s : Span 3 lower upper) where
         (cuts_woven (half_values (curves t) (bends t) lower upper) (half_fit t lower upper s.lo_fits s.hi_fits) half_small)
 
 -- The cuts of both halves of a joint's interval can be streamed.
-pub halves_woven : (t : Folded) {lower upper : Float} → Ends lower upper → Charted (Between lower upper)
+pub halves_woven : (t : Folded) {lower upper : Float} → Ends lower upper → Charted (Some (lower, upper))
     → Woven (first_half t lower upper) × Woven (second_half t lower upper)
 unfolding first_half second_half
 halves_woven t {lower} {upper} e c =

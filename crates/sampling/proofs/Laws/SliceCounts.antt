@@ -1,5 +1,5 @@
 -- How many boundary curves, slices of narrow bends and cuts there are at most where joints 1 and 2 are free.
-use Rattle.std.specs.Prelude.{ℕ, zero, suc, ◌+◌, ◌*◌, ◌≤◌, ◌≡◌, refl, ◌&&◌, eqb, length, Float}
+use Rattle.std.specs.Prelude.{None, Some, ℕ, zero, suc, ◌+◌, ◌*◌, ◌≤◌, ◌≡◌, refl, ◌&&◌, eqb, length, Float}
 use Rattle.std.proofs.Common.{zero-le, not-suc-le-zero, le_of_suc-le-suc, ap, length-append}
 use native.Mathlib.Omega.{arith}
 use mathlib.Core.List.{List, [], ◌∷◌, ◌++◌, map, flat_map}
@@ -30,19 +30,18 @@ use Rattle.sampling.specs.J1j2free.{curves, bends, critical_slices, half_cuts, f
 use Rattle.sampling.specs.Promises.Curves.{most_curves}
 use Rattle.sampling.proofs.Laws.AngleCounts.{both, either, all_copies_few}
 use Rattle.sampling.specs.declared.critical_slices.Chart.{Chart}
-use Rattle.sampling.specs.declared.intervals.Range.{Range}
-use Rattle.sampling.specs.declared.intervals.Range.TheVariants.{Nothing, Between}
 use Rattle.sampling.specs.declared.j1j2free.Folded.{Folded}
 use Rattle.sampling.specs.declared.pose.Vector.{Vector}
 use Rattle.sampling.specs.declared.pose.Matrix.{Matrix}
 use Rattle.sampling.specs.Pose as Pose
+use Rattle.sampling.specs.Intervals.{Range}
 
 -- ---- curves
 
 second_curves_few : (q3 : Float) (range : Range) → length (second_curves q3 range) ≤ 2
 unfolding second_curves
-second_curves_few q3 Nothing = omega arith
-second_curves_few q3 (Between lower upper) = omega arith
+second_curves_few q3 None = omega arith
+second_curves_few q3 (Some (lower, upper)) = omega arith
 
 pole_curves_few : (z : Vector) → length (pole_curves z) ≤ 2
 unfolding pole_curves
@@ -50,24 +49,24 @@ pole_curves_few z = omega arith
 
 fourth_curves_few : (z : Vector) (range : Range) → length (fourth_curves z range) ≤ 2
 unfolding fourth_curves
-fourth_curves_few z Nothing = omega arith
-fourth_curves_few z (Between lower upper) = omega arith
+fourth_curves_few z None = omega arith
+fourth_curves_few z (Some (lower, upper)) = omega arith
 
 fifth_curves_few : (z : Vector) (range : Range) → length (fifth_curves z range) ≤ 2
 unfolding fifth_curves
-fifth_curves_few z Nothing = omega arith
-fifth_curves_few z (Between lower upper) = omega arith
+fifth_curves_few z None = omega arith
+fifth_curves_few z (Some (lower, upper)) = omega arith
 
 sixth_curves_few : (m : Matrix) (range : Range) → length (sixth_curves m range) ≤ 2
 unfolding sixth_curves
-sixth_curves_few m Nothing = omega arith
-sixth_curves_few m (Between lower upper) = omega arith
+sixth_curves_few m None = omega arith
+sixth_curves_few m (Some (lower, upper)) = omega arith
 
 corner_curves_few : (m : Matrix) (range4 range6 : Range) → length (corner_curves m range4 range6) ≤ 8
 unfolding corner_curves signed_corners
-corner_curves_few m Nothing range6 = omega arith
-corner_curves_few m (Between a b) Nothing = omega arith
-corner_curves_few m (Between a b) (Between c d) = omega arith
+corner_curves_few m None range6 = omega arith
+corner_curves_few m (Some (a, b)) None = omega arith
+corner_curves_few m (Some (a, b)) (Some (c, d)) = omega arith
 
 module _ (m : Matrix) (q3 : Float) (range2 range4 range5 range6 : Range) where
   pub boundaries_few : length (boundaries m q3 range2 range4 range5 range6) ≤ most_curves
@@ -96,8 +95,8 @@ transverse_few radius azimuth component =
 
 transverse_range_few : (radius azimuth extreme : Float) (range : Range) → length (transverse_range radius azimuth extreme range) ≤ 4
 unfolding transverse_range
-transverse_range_few radius azimuth extreme Nothing = omega arith
-transverse_range_few radius azimuth extreme (Between lower upper) =
+transverse_range_few radius azimuth extreme None = omega arith
+transverse_range_few radius azimuth extreme (Some (lower, upper)) =
     let a = extreme ⊗ (sin_cos lower).sine in
     let b = extreme ⊗ (sin_cos upper).sine in
     both (transverse radius azimuth a) (transverse radius azimuth b) (transverse_few radius azimuth a) (transverse_few radius azimuth b)
@@ -116,8 +115,8 @@ transverses_few z s5 range =
 
 axes_range_few : (m : Matrix) (q5 : SinCos) (range : Range) → length (axes_range m q5 range) ≤ 4
 unfolding axes_range axis_angles
-axes_range_few m q5 Nothing = omega arith
-axes_range_few m q5 (Between lower upper) = omega arith
+axes_range_few m q5 None = omega arith
+axes_range_few m q5 (Some (lower, upper)) = omega arith
 
 folds_few : (z : Vector) (q3 s5 angle2 : Float) → length (folds z q3 s5 angle2) ≤ 58
 unfolding folds
@@ -125,8 +124,8 @@ folds_few z q3 s5 angle2 = squared_norm_few (fold z (angle2 ⊕ q3)) (across z) 
 
 folds_range_few : (z : Vector) (q3 s5 : Float) (range : Range) → length (folds_range z q3 s5 range) ≤ 116
 unfolding folds_range
-folds_range_few z q3 s5 Nothing = omega arith
-folds_range_few z q3 s5 (Between lower upper) = both (folds z q3 s5 lower) (folds z q3 s5 upper) (folds_few z q3 s5 lower) (folds_few z q3 s5 upper)
+folds_range_few z q3 s5 None = omega arith
+folds_range_few z q3 s5 (Some (lower, upper)) = both (folds z q3 s5 lower) (folds z q3 s5 upper) (folds_few z q3 s5 lower) (folds_few z q3 s5 upper)
 
 module _ (m : Matrix) (q3 : Float) (range2 range4 : Range) where
   bend_slice_few : (range6 : Range) (angle5 : Float) → length (bend_slice m q3 range2 range4 range6 angle5) ≤ 128
@@ -140,8 +139,8 @@ module _ (m : Matrix) (q3 : Float) (range2 range4 : Range) where
 
   pub bend_slices_few : (range5 range6 : Range) → length (bend_slices m q3 range2 range4 range5 range6) ≤ 256
   unfolding bend_slices
-  bend_slices_few Nothing range6 = omega arith
-  bend_slices_few (Between lower upper) range6 =
+  bend_slices_few None range6 = omega arith
+  bend_slices_few (Some (lower, upper)) range6 =
       both (bend_slice m q3 range2 range4 range6 lower) (bend_slice m q3 range2 range4 range6 upper) (bend_slice_few range6 lower) (bend_slice_few range6 upper)
 
 -- ---- what the curves give: 509 for each curve and for each pair of curves
@@ -268,5 +267,5 @@ unfolding cut_count first_half second_half
 both_cuts_few t = go t.range1
   where
     go : (range : Range) → on_interval range 0 (λ lower upper. length (first_half t lower upper) + length (second_half t lower upper)) ≤ most_both_cuts
-    go Nothing = omega arith
-    go (Between lower upper) = omega (arith, half_cuts_few t lower (middle lower upper), half_cuts_few t (middle lower upper) upper)
+    go None = omega arith
+    go (Some (lower, upper)) = omega (arith, half_cuts_few t lower (middle lower upper), half_cuts_few t (middle lower upper) upper)

@@ -1,6 +1,6 @@
 -- The boundary curves of two free joints and the harmonics whose norm joint 5's bend fixes: with matrix entries within 17, joint 3's angle within ±8 and ends
 -- of limits within a turn, their coefficients are at most 2 ^ 7. So every squared norm that is asked for is fair.
-use Rattle.std.specs.Prelude.{ℕ, ◌≤◌, false, List, ◌++◌, pos, Float}
+use Rattle.std.specs.Prelude.{None, Some, ℕ, ◌≤◌, false, List, ◌++◌, pos, Float}
 use Rattle.std.proofs.Common.{lit≤}
 use Rattle.std.specs.Float.{fin, binary64}
 use Rattle.std.specs.Float.Ieee.{neg, add, le}
@@ -27,8 +27,6 @@ use Rattle.sampling.specs.Boundaries.{corner_curve, second_curves, pole_curves, 
 use Rattle.sampling.specs.Boundaries.{sixth_curves, signed_corners, corner_curves, boundaries}
 use Rattle.sampling.specs.BendSlices.{fold}
 use Rattle.sampling.specs.InnerCalls.{at_ends, fold_calls, slice_calls}
-use Rattle.sampling.specs.declared.intervals.Range.{Range}
-use Rattle.sampling.specs.declared.intervals.Range.TheVariants.{Nothing, Between}
 use Rattle.sampling.specs.declared.j1j2free.Folded.{Folded}
 use Rattle.sampling.specs.declared.pose.Vector.{Vector}
 use Rattle.sampling.specs.declared.pose.Matrix.{Matrix}
@@ -36,6 +34,7 @@ use Rattle.sampling.proofs.Laws.Pose.{seventeen, Vector-within, Matrix-within}
 use Rattle.sampling.proofs.Laws.SliceBounds.{eight}
 use Rattle.sampling.proofs.Laws.SmallCurves.{Curve-under}
 use Rattle.sampling.specs.Pose as Pose
+use Rattle.sampling.specs.Intervals.{Range}
 
 -- ---- numbers
 
@@ -163,8 +162,8 @@ corner_small {m} {sign} {q4} {q6} h g a b =
 
 -- none, or both ends within a turn
 pub data Ranged : Range → Type 0 where
-  none : Ranged Nothing
-  some : {lower upper : Float} → Within two_pi lower → Within two_pi upper → Ranged (Between lower upper)
+  none : Ranged None
+  some : {lower upper : Float} → Within two_pi lower → Within two_pi upper → Ranged (Some (lower, upper))
 
 second_all : {q3 : Float} {r : Range} → Within eight q3 → Ranged r → All Small (second_curves q3 r)
 unfolding second_curves

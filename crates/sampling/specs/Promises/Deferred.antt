@@ -1,29 +1,19 @@
 -- Crossings that are deferred and worked out later, two at a time: what inner functions promise one
--- another. Definitions only; the proofs' `Deferrals` puts one after the other.
-use Rattle.std.specs.Prelude.{◌≡◌, List, [], ◌∷◌, ◌++◌, ℕ, ◌+◌, ◌≤◌, length, take, Float}
+-- another. Definitions only.
+use Rattle.std.specs.Prelude.{◌≡◌, List, [], ◌∷◌, ◌++◌, Float}
+use Rattle.std.specs.List.{flat_map}
+use Rattle.arrayvec.specs.ArrayVec.{ArrayVec}
 use Rattle.float.specs.Number.{◌⊕◌, ◌⊖◌}
 use Rattle.float.specs.Trig.{atan2, acos}
 use Rattle.polynomial.specs.Angle.{wrapped_angle}
 use Rattle.sampling.specs.declared.deferred.Pending.{Pending}
 
-abbrev pub listed : Pending → List Float
-listed q = q.sine ∷ (q.cosine ∷ (q.ratio ∷ []))
-
 -- the wrapped angles on both sides of the phase
-unfoldable pub angles_of : Float → Float → Float → List Float
-angles_of s c t = wrapped_angle (atan2 s c ⊖ acos t) ∷ (wrapped_angle (atan2 s c ⊕ acos t) ∷ [])
+unfoldable pub angles_of : Pending → List Float
+angles_of p =
+    let phase = atan2 p.sine p.cosine in
+    wrapped_angle (phase ⊖ acos p.ratio) ∷ (wrapped_angle (phase ⊕ acos p.ratio) ∷ [])
 
--- the angles of deferred crossings that stand one after the other
-abbrev pub all_angles_of : List Float → List Float
-all_angles_of [] = []
-all_angles_of (s ∷ []) = []
-all_angles_of (s ∷ (c ∷ [])) = []
-all_angles_of (s ∷ (c ∷ (t ∷ l))) = angles_of s c t ++ all_angles_of l
-
--- n values stood in the front of a; then deferred crossings whose angles are l came after them, at most k values: r stand in the front of b
-pub record Deferred (k : ℕ) (l : List Float) (n : ℕ) (a : List Float) (r : ℕ) (b : List Float) : Type 0 where
-  pub pending : List Float
-  pub count : r ≡ n + length pending
-  pub front : take r b ≡ take n a ++ pending
-  pub most : r ≤ n + k
-  pub gives : (rest : List Float) → all_angles_of (pending ++ rest) ≡ l ++ all_angles_of rest
+-- crossings whose angles are l come after those of old
+abbrev pub Defers : ArrayVec Pending → List Float → ArrayVec Pending → Type 0
+Defers old l new = flat_map angles_of new.items ≡ flat_map angles_of old.items ++ l

@@ -4,16 +4,10 @@ use Rattle.std.specs.Prelude.{Bool, not, ◌&&◌, Float}
 use Rattle.std.specs.Float.Ieee.{neg, eq, lt}
 use Rattle.std.specs.Float.Ieee.Scale.{finite}
 use Rattle.float.specs.Number.{◌⊕◌, ◌⊖◌, ◌⊘◌, abs, clamp, zero_float}
-use Rattle.float.specs.Trig.{hypot, atan2, acos}
+use Rattle.float.specs.Trig.{acos}
 use Rattle.polynomial.specs.Angle.{wrapped_angle}
 use Rattle.sampling.specs.Continuum.{error}
 use Rattle.sampling.specs.declared.continuum.Trig.{Trig}
-use Rattle.sampling.specs.declared.continuum.Polar.{Polar}
-use Rattle.sampling.specs.declared.continuum.Crossings.{Crossings}
-use Rattle.sampling.specs.declared.continuum.Crossings.TheVariants.{Both}
-
-unfoldable pub polar : Trig → Polar
-polar t = record { radius = hypot t.cosine t.sine; phase = atan2 t.sine t.cosine }
 
 -- whether t, of this radius, equals the target anywhere
 unfoldable pub meets : Trig → Float → Float → Bool
@@ -22,7 +16,7 @@ meets t radius target =
     finite radius && finite constant && not (eq radius zero_float) && not (lt (radius ⊕ error t target) (abs constant))
 
 -- the wrapped angles on both sides of the phase
-unfoldable pub around : Trig → Polar → Float → Crossings
-around t p target =
-    let offset = acos (clamp (neg (t.constant ⊖ target) ⊘ p.radius)) in
-    Both (wrapped_angle (p.phase ⊖ offset)) (wrapped_angle (p.phase ⊕ offset))
+unfoldable pub around : Trig → Float → Float → Float → Float × Float
+around t radius phase target =
+    let offset = acos (clamp (neg (t.constant ⊖ target) ⊘ radius)) in
+    (wrapped_angle (phase ⊖ offset), wrapped_angle (phase ⊕ offset))

@@ -1,6 +1,7 @@
 -- `sampling::critical_slices::critical` meets its contract. The loop's invariant: what the first j curves give is in the cuts, and their polynomials are kept.
 use native.Mathlib.Omega.{arith}
-use mathlib.Core.Path.{◌≡◌, refl, ◌∙◌}
+use mathlib.Core.Path.{refl, ◌∙◌}
+use Rattle.std.proofs.lemmas.List.{take_all}
 use borrow.Author.Rules.{rules}
 use Rattle.sampling.proofs.Laws.CriticalSlices.{critical_nil}
 use Rattle.sampling.proofs.Grown.{none}
@@ -8,10 +9,10 @@ use Rattle.sampling.proofs.CriticalSlices.{known_none, known_more, critical_grow
 use Rattle.sampling.proofs.critical_slices.critical.Goals as goal
 
 pub loop-j-init : goal.loop-j-init
-loop-j-init c = (search rules, search rules, refl, search rules, known_none, rw (critical_nil c.args.c) none)
+loop-j-init c = (refl, search rules, known_none, rw (critical_nil c.args.c) none)
 
 pub meetings-state-requires : goal.meetings-state-requires
-meetings-state-requires c = (omega arith, c.loop-j.invariant.4.long, c.requires.1)
+meetings-state-requires c = (omega arith, c.loop-j.invariant.2.long, c.requires.1)
 
 pub loop-j-preserved : goal.loop-j-preserved
 loop-j-preserved c = let a = c.args in
@@ -22,14 +23,11 @@ loop-j-preserved c = let a = c.args in
     let t = c.meetings-state.ensures in
     let i = c.loop-j.invariant in
     let j = c.loop-j.j in (
+      t.same ∙ r.same ∙ i.0,
       search rules,
-      i.1,
-      t.same ∙ r.same ∙ i.2,
-      search rules,
-      known_more a.c.origin c.loop-j.known a.at j k _ (omega arith) (omega arith) e i.4,
-      critical_grown a.c a.at c.loop-j.known j _ (omega arith) i.4 k e _ f i.5 r t,
+      known_more a.c.origin c.loop-j.known a.curves.now j k _ (omega arith) (omega arith) e i.2,
+      critical_grown a.c a.curves.now c.loop-j.known j _ (omega arith) i.2 k e _ f i.3 r t,
     )
 
 pub returns : goal.returns
-returns c = let e : c.args.n ≡ c.loop-j.j = omega arith in
-    rw e c.loop-j.invariant.5
+returns c = rw (← take_all c.loop-j.j c.args.curves.now (omega arith)) c.loop-j.invariant.3

@@ -1,4 +1,3 @@
-use Prim.Native.Nat.{◌-◌, ◌≤◌}
 use mathlib.Core.Path.{◌≡◌}
 use lib.ListN.{length, take}
 use Rattle.sampling.specs.Promises.Curves.{most_curves}
@@ -9,9 +8,6 @@ use Rattle.sampling.proofs.critical_slices.critical.Given as goal
 
 abbrev pub invariant-loop-j : goal.invariant-loop-j
 invariant-loop-j l =
-    (l.j ≤ l.n) × (length l.at ≡ most_curves) × (length l.work ≡ length l.initial.work) × (length l.known ≡ most_curves)
-    × Known l.c.origin (take l.j l.known) (take l.j l.at)
-    × Grown (Of.critical l.c (take l.j l.at)) l.initial.work l.initial.state l.work l.state
-
-abbrev pub decreases-loop-j : goal.decreases-loop-j
-decreases-loop-j l = l.n - l.j
+    (length l.work ≡ length l.initial.work) × (length l.known ≡ most_curves)
+    × Known l.c.origin (take l.j l.known) (take l.j l.curves)
+    × Grown (Of.critical l.c (take l.j l.curves)) l.initial.work l.initial.state l.work l.state

@@ -7,7 +7,7 @@ use Rattle.float.specs.declared.arc.Four.{Four}
 use Rattle.polynomial.specs.Angle.{wrapped_angle}
 use Rattle.float.specs.Trig.{atan2, acos, other_side}
 use Rattle.float.specs.Promises.Four.{beside}
-use Rattle.sampling.specs.Promises.Deferred.{angles_of, all_angles_of, listed}
+use Rattle.sampling.specs.Promises.Deferred.{angles_of}
 use Rattle.sampling.specs.declared.deferred.Pending.{Pending}
 use Rattle.sampling.proofs.deferred.angles_of_two.Goals as goal
 
@@ -18,7 +18,7 @@ angles s c f t = wrapped_angle (atan2 s c ⊖ atan2 f t) ∷ (wrapped_angle (ata
 joined : (p q : Pending) (f g : Float) (v : Four) (a b c d : Float) → f ≡ other_side p.ratio → g ≡ other_side q.ratio
     → v ≡ beside atan2 (record { a = p.sine; b = f; c = q.sine; d = g }) (record { a = p.cosine; b = p.ratio; c = q.cosine; d = q.ratio })
     → a ≡ wrapped_angle (v.a ⊖ v.b) → b ≡ wrapped_angle (v.a ⊕ v.b) → c ≡ wrapped_angle (v.c ⊖ v.d) → d ≡ wrapped_angle (v.c ⊕ v.d)
-    → a ∷ (b ∷ (c ∷ (d ∷ []))) ≡ all_angles_of (listed p ++ listed q)
+    → a ∷ (b ∷ (c ∷ (d ∷ []))) ≡ angles_of p ++ angles_of q
 unfolding angles_of acos beside
 joined p q f g v a b c d ef eg ev ea eb ec ed =
     (λ i. ea i ∷ (eb i ∷ (ec i ∷ (ed i ∷ []))))

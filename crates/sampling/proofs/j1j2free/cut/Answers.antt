@@ -10,15 +10,15 @@ use Rattle.sampling.proofs.Laid.{all_three}
 use Rattle.sampling.proofs.j1j2free.cut.Goals as goal
 
 pub cut_halves-requires : goal.cut_halves-requires
-cut_halves-requires c = subst Charted c.in-Between.is c.requires
+cut_halves-requires c = subst Charted c.in-Some.is c.requires
 
-pub returns-in-Nothing : goal.returns-in-Nothing
+pub returns-in-None : goal.returns-in-None
 unfolding cut_count folded_plan folded_cuts
-returns-in-Nothing c =
+returns-in-None c =
     let none = all_three [] [] [] (length c.args.work.now) 0 0 0 refl refl refl (omega arith) in
-    record { value = simp c.in-Nothing.is none; work_after = simp c.in-Nothing.is refl }
+    record { value = simp c.in-None.is none; work_after = simp c.in-None.is refl }
 
-pub returns-in-Between : goal.returns-in-Between
+pub returns-in-Some : goal.returns-in-Some
 unfolding cut_count folded_plan folded_cuts
-returns-in-Between c =
-    record { value = simp c.in-Between.is c.cut_halves.ensures.value; work_after = simp c.in-Between.is c.cut_halves.ensures.work_after }
+returns-in-Some c =
+    record { value = simp c.in-Some.is c.cut_halves.ensures.value; work_after = simp c.in-Some.is c.cut_halves.ensures.work_after }

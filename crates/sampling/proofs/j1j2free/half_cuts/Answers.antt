@@ -5,7 +5,7 @@ use Rattle.sampling.proofs.Grown.{then, whole}
 use Rattle.sampling.proofs.j1j2free.half_cuts.Goals as goal
 
 pub critical-cuts-requires : goal.critical-cuts-requires
-critical-cuts-requires c = (c.requires.0, subst Bounded (sym c.chart_of-c.ensures) c.requires.2)
+critical-cuts-requires c = (c.requires.0, subst Bounded (sym c.chart_of-c.ensures) c.requires.1)
 
 pub returns : goal.returns
 returns c = simp (← c.chart_of-c.ensures)

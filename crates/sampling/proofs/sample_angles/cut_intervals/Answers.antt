@@ -1,20 +1,19 @@
 -- `sampling::sample_angles::cut_intervals` meets its contract: one list after the other, by `Laid`.
 use mathlib.Core.Path.{refl}
 use mathlib.Core.List.{List}
-use lib.ListN.{take}
 use lib.Ieee.{Float}
 use borrow.Author.Rules.{rules}
 use Rattle.sampling.specs.Samples.{interval_cuts}
 use Rattle.sampling.proofs.Laid.{no_place_behind, laid_first, laid_next, short_first, short_second, short_third, all_three, laid_three}
-use Rattle.sampling.specs.declared.intervals.Range.{Range}
 use Rattle.polynomial.specs.Laws.Held.{kept_full}
 use Rattle.sampling.proofs.sample_angles.cut_intervals.Goals as goal
+use Rattle.sampling.specs.Intervals.{Range}
 
 pub returns-in_default : goal.returns-in_default
 unfolding interval_cuts
 returns-in_default c =
     let a = c.args in
-    let of : Range → List Float = interval_cuts a.near (take a.n a.roots.now) in (
+    let of : Range → List Float = interval_cuts a.near a.roots.now in (
       short_first (of a.three.first) (of a.three.second) (of a.three.third) _
           (kept_full _ _ _ _ c.interval_cuts.ensures c.in_default.is),
       refl,
@@ -30,7 +29,7 @@ pub returns-in_default-interval_cuts : goal.returns-in_default-interval_cuts
 unfolding interval_cuts
 returns-in_default-interval_cuts c =
     let a = c.args in
-    let of : Range → List Float = interval_cuts a.near (take a.n a.roots.now) in
+    let of : Range → List Float = interval_cuts a.near a.roots.now in
     let one = laid_first _ _ _ _ c.interval_cuts.ensures _ c.in-Count.is in (
       short_second (of a.three.first) (of a.three.second) (of a.three.third) _
           (no_place_behind _ _ _ _ one _ _ _ c.interval_cuts-2.ensures c.in_default-interval_cuts.is),
@@ -59,7 +58,7 @@ pub returns-in_default-interval_cuts-2 : goal.returns-in_default-interval_cuts-2
 unfolding interval_cuts
 returns-in_default-interval_cuts-2 c =
     let a = c.args in
-    let of : Range → List Float = interval_cuts a.near (take a.n a.roots.now) in
+    let of : Range → List Float = interval_cuts a.near a.roots.now in
     let one = laid_first _ _ _ _ c.interval_cuts.ensures _ c.in-Count.is in
     let two = laid_next _ _ _ _ one _ _ _ c.interval_cuts-2.ensures _ c.in-Count-interval_cuts.is in (
       short_third (of a.three.first) (of a.three.second) (of a.three.third) _
@@ -71,7 +70,7 @@ pub returns : goal.returns
 unfolding interval_cuts
 returns c =
     let a = c.args in
-    let of : Range → List Float = interval_cuts a.near (take a.n a.roots.now) in
+    let of : Range → List Float = interval_cuts a.near a.roots.now in
     let one = laid_first _ _ _ _ c.interval_cuts.ensures _ c.in-Count.is in
     let two = laid_next _ _ _ _ one _ _ _ c.interval_cuts-2.ensures _ c.in-Count-interval_cuts.is in
     let three = laid_next _ _ _ _ two _ _ _ c.interval_cuts-3.ensures _ c.in-Count-interval_cuts-2.is in

@@ -4,13 +4,13 @@ use Rattle.sampling.proofs.Grown.{then, whole_counted}
 use Rattle.sampling.specs.Samples.{interval_values}
 use Rattle.sampling.proofs.samples.interval_cuts.Goals as goal
 
-pub returns-in-Nothing : goal.returns-in-Nothing
+pub returns-in-None : goal.returns-in-None
 unfolding interval_values
-returns-in-Nothing c = simp c.in-Nothing.is (kept_none _)
+returns-in-None c = simp c.in-None.is (kept_none _)
 
-pub returns-in-Between : goal.returns-in-Between
+pub returns-in-Some : goal.returns-in-Some
 unfolding interval_values
-returns-in-Between c = simp c.in-Between.is
+returns-in-Some c = simp c.in-Some.is
     (whole_counted c.all_windings-all.result
     (then (then c.put_in-first.ensures
     c.put_in-ends.ensures) c.all_windings-all.ensures) c.put_of.ensures)

@@ -2,10 +2,10 @@
 use Rattle.sampling_parts.specs.Parts.{of_range}
 use Rattle.sampling_parts.proofs.parts.of_range.Goals as goal
 
-pub returns-in-Nothing : goal.returns-in-Nothing
+pub returns-in-None : goal.returns-in-None
 unfolding of_range
-returns-in-Nothing c = simp c.in-Nothing.is
+returns-in-None c = simp c.in-None.is
 
-pub returns-in-Between : goal.returns-in-Between
+pub returns-in-Some : goal.returns-in-Some
 unfolding of_range
-returns-in-Between c = simp (c.in-Between.is, ← c.of_ends.ensures)
+returns-in-Some c = simp (c.in-Some.is, ← c.of_ends.ensures)
