@@ -4,15 +4,13 @@
 #![tactic(auto)]
 
 use listing::check_text::check_text;
-use listing::printed::Printed;
 use text::input::with_input;
 use text::report::deliver;
 
 // So many bytes always suffice: `room_suffices` of listing's Laws.
 fn answer(rt: &HostRuntime, input: &[u8]) {
     let mut text = [0u8; 147456];
-    let printed = check_text(input, &mut text);
-    if let Printed::Length(n) = printed {
+    if let Some(n) = check_text(input, &mut text) {
         deliver(rt, &mut rt.stdout(), &text[..n]);
     }
 }

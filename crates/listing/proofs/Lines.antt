@@ -10,7 +10,7 @@ use Rattle.digits.specs.Hex.{spelled}
 use Rattle.digits.specs.Laws.Lengths.{length_spelled}
 use Rattle.digits.specs.Laws.Stores.{joined, stored}
 use Rattle.listing.specs.Listing.{item, lines, filled, after, printed}
-use Rattle.listing.specs.declared.printed.Printed.TheVariants.{Length, Short}
+use Rattle.std.specs.Prelude.{Some, None}
 
 -- ---- a line
 abbrev pub line : ℕ → List ℕ
@@ -48,12 +48,12 @@ pub front : (t lent : List ℕ) (k : ℕ) → k ≡ length t → k ≤ length le
 front t lent k e h = rw (sets_filled t lent (omega arith), e) (take_at t (drop (length t) lent) (length t) refl)
 
 module _ (t lent : List ℕ) (k : ℕ) (e : k ≡ length t) where
-  pub fits : k ≤ length lent → (Length k ≡ printed t (length lent)) × (sets lent 0 t ≡ after t lent)
+  pub fits : k ≤ length lent → (Some k ≡ printed t (length lent)) × (sets lent 0 t ≡ after t lent)
   fits h =
       let l : length t ≤ length lent = omega arith in
       (rw (le-leb (length t) (length lent) l, e), rw (le-leb (length t) (length lent) l) (sets_filled t lent l))
 
-  pub fails : length lent < k → (Short ≡ printed t (length lent)) × (lent ≡ after t lent)
+  pub fails : length lent < k → (None ≡ printed t (length lent)) × (lent ≡ after t lent)
   fails h =
       let l : length lent < length t = omega arith in
       (rw (lt-leb (length t) (length lent) l), rw (lt-leb (length t) (length lent) l))

@@ -1,5 +1,5 @@
 -- Pages stored one after the other, a form feed between, are those of the definition; what each way through `pages_text` gives is the definition's text.
-use Prim.Native.Nat.{ℕ, suc, ◌+◌, ◌*◌, ◌-◌, ◌≤◌, ◌<◌, min}
+use Prim.Native.Nat.{ℕ, suc, ◌+◌, ◌*◌, ◌-◌, ◌≤◌, ◌<◌}
 use native.Mathlib.Omega.{arith}
 use mathlib.Core.Path.{◌≡◌, sym, ap, ◌∙◌}
 use mathlib.Core.List.{List, ◌∷◌, ◌++◌, append-nil}
@@ -10,9 +10,9 @@ use Rattle.digits.specs.Laws.Stores.{joined}
 use Rattle.sheet.specs.Edition.{newest}
 use Rattle.sheet.specs.Refusals.{accepted, refused}
 use Rattle.sheet.specs.Check as Check
-use Rattle.page.specs.Page.{per_page, before_page, pages}
+use Rattle.page.specs.Page.{pages}
 use Rattle.page.specs.Operation.{text}
-use Rattle.page.specs.Promises.Sheets.{Paged, angles_on}
+use Rattle.page.specs.Promises.Sheets.{Paged}
 use Rattle.page.specs.Laws.Sheets.{listed_count}
 use Rattle.listing.specs.Listing.{places, most, too_long, head, lines}
 use Rattle.listing.specs.Pages.{pages_from, all_pages, pages_text}
@@ -46,25 +46,6 @@ module _ (s : List ℕ) (n : ℕ) (p : Paged s n) where
   pages_all t last e =
       let f : suc (last - 1) ≡ pages n = omega arith in
       ap (λ (k : ℕ). sets t 0 (pages_from s 1 k)) (f ∙ ap pages (sym (listed_count s n p)))
-
--- the pages before the last leave angles to it
-before_last : (n last : ℕ) → 2 ≤ last → last ≡ pages n → 60 * (last - 1) < n
-before_last n last h e = omega arith
-
-full_room : (a n k last room : ℕ) → a ≤ 60 → 1 ≤ k → k < last → 60 * (last - 1) < n → 65 * (n + last) + (last - 1) ≤ room
-    → 3966 * (k - 1) + (65 + 65 * a) ≤ room
-full_room a n k last room h l g f r = omega arith
-
-pub last_page : (k last n : ℕ) → k < last → last ≡ pages n → k ≤ pages n
-last_page k last n h e = rw (← e) (omega arith)
-
--- each page has room
-pub page_room : (n k last room : ℕ) → 1 ≤ k → k < last → last ≡ pages n → 65 * (n + last) + (last - 1) ≤ room
-    → 3966 * (k - 1) + (65 + 65 * angles_on n k) ≤ room
-page_room n k last room l h e r = full_room (angles_on n k) n k last room (few (n - before_page k)) l h (before_last n last (omega arith) e) r
-  where
-    few : (m : ℕ) → min per_page m ≤ 60
-    few m = omega arith
 
 -- ---- pages_text
 

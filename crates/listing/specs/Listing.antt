@@ -1,5 +1,6 @@
 -- What the two programs print (01: "A program reads a sheet from standard input .."), byte by byte. Definitions only.
-use Rattle.std.specs.Prelude.{ℕ, zero, suc, ◌*◌, cond, List, [], ◌∷◌, ◌++◌, leb, ltb, length, drop}
+use Rattle.std.specs.Prelude.{ℕ, zero, suc, ◌*◌, cond, List, [], ◌∷◌, ◌++◌, leb, ltb, length, drop, Some, None}
+use Rattle.std.specs.declared.option.Option.{Option}
 use Rattle.sheet.specs.Bytes.{little_endian, part}
 use Rattle.sheet.specs.Edition.{newest}
 use Rattle.sheet.specs.Refusals.{Answer, accepted, refused}
@@ -8,8 +9,6 @@ use Rattle.sheet.specs.Sampling as Sampling
 use Rattle.sheet.specs.Check as Check
 use Rattle.digits.specs.Hex.{spelled}
 use Rattle.text.specs.Numbered.{numbered}
-use Rattle.listing.specs.declared.printed.Printed.{Printed}
-use Rattle.listing.specs.declared.printed.Printed.TheVariants as printed-case
 
 -- the work places lent, and the most bytes that are looked at
 abbrev pub places : ℕ
@@ -75,8 +74,8 @@ abbrev pub filled : List ℕ → List ℕ → List ℕ
 filled t lent = t ++ drop (length t) lent
 
 -- `check_text`: how many bytes the text has; where fewer are lent, none is written
-abbrev pub printed : List ℕ → ℕ → Printed
-printed t room = cond (leb (length t) room) (printed-case.Length (length t)) printed-case.Short
+abbrev pub printed : List ℕ → ℕ → Option ℕ
+printed t room = cond (leb (length t) room) (Some (length t)) None
 
 abbrev pub after : List ℕ → List ℕ → List ℕ
 after t lent = cond (leb (length t) (length lent)) (filled t lent) lent

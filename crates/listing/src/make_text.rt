@@ -23,7 +23,7 @@ pub fn make_text(request: &[u8], output: &mut [u8], error: &mut [u8]) -> Made
     ensures error_after { error.new ≡ Listing.filled (Listing.make_error request.now (length output.old)) error.old }
     ensures output_in_bounds { (result.output ≤ length output.old) × (result.error ≤ length error.old) }
 {
-    let mut work = [0.0f64; 4096];
+    let mut work = [0.0; 4096];
     let a = sample(request, &mut work, output);
     match a {
         Ok(n) => Made {

@@ -7,10 +7,10 @@ ghost use Rattle.page.specs.Promises.Sheets as Sheets;
 ghost use Rattle.listing.specs.Listing as Listing;
 ghost use Rattle.listing.specs.Pages as Pages;
 
-use crate::printed::{Printed, print};
+use crate::check_text::checked;
+use crate::printed::print;
 use page::lines::LINE;
 use page::page::{PER_PAGE, pages, put_page};
-use sheet::check::check;
 use sheet::refusals::{Fault, fault_number};
 use text::decimal::put_number;
 
@@ -25,18 +25,16 @@ fn put_pages(text: &mut [u8], sheet: &[u8], n: usize, last: usize)
     requires last_value { (last ≡ Page.pages n) × (65 * (n + last) + (last - 1) ≤ length text.old) }
     ensures { text.new ≡ sets text.old 0 (Pages.all_pages sheet.now) }
 {
-    let mut k = 1usize;
-    while k < last {
+    for k in 1..last {
         let at = NEXT * (k - 1);
         put_page(text, at, sheet, n, k);
         text[at + FULL] = 12;
-        k += 1;
     }
     put_page(text, NEXT * (last - 1), sheet, n, last);
 }
 
-// All pages of a checked sheet with n angles, where they have room.
-fn print_pages(text: &mut [u8], sheet: &[u8], n: usize) -> Printed
+// All pages of a checked sheet with n angles, where they have room; how many bytes they are.
+fn print_pages(text: &mut [u8], sheet: &[u8], n: usize) -> Option<usize>
     requires { Sheets.Paged sheet.now n }
     ensures value { result ≡ Listing.printed (Pages.all_pages sheet.now) (length text.old) }
     ensures text_after { text.new ≡ Listing.after (Pages.all_pages sheet.now) text.old }
@@ -44,14 +42,14 @@ fn print_pages(text: &mut [u8], sheet: &[u8], n: usize) -> Printed
     let last = pages(n);
     let size = LINE * (n + last) + (last - 1);
     if text.len() < size {
-        return Printed::Short;
+        return None;
     }
     put_pages(text, sheet, n, last);
-    Printed::Length(size)
+    Some(size)
 }
 
 // The line of a refusal.
-fn print_refusal(text: &mut [u8], f: Fault) -> Printed
+fn print_refusal(text: &mut [u8], f: Fault) -> Option<usize>
     ensures value { result ≡ Listing.printed (Listing.head (Refusals.refused (Refusals.fault_number f))) (length text.old) }
     ensures text_after { text.new ≡ Listing.after (Listing.head (Refusals.refused (Refusals.fault_number f))) text.old }
 {
@@ -60,16 +58,14 @@ fn print_refusal(text: &mut [u8], f: Fault) -> Printed
     print(text, &line[..size], b"", 0)
 }
 
-// The text, in the first bytes of what is lent. Check is lent 4,096 places.
-pub fn pages_text(input: &[u8], text: &mut [u8]) -> Printed
+// The text, in the first bytes of what is lent; how many bytes it has, where as many are lent.
+pub fn pages_text(input: &[u8], text: &mut [u8]) -> Option<usize>
     ensures value { result ≡ Listing.printed (Pages.pages_text input.now) (length text.old) }
     ensures text_after { text.new ≡ Listing.after (Pages.pages_text input.now) text.old }
 {
-    if input.len() > 65536 {
+    let Some(checked) = checked(input) else {
         return print(text, b"too long\n", input, 0);
-    }
-    let mut work = [0.0f64; 4096];
-    let checked = check(input, &mut work);
+    };
     match checked {
         Ok(n) => print_pages(text, input, n),
         Err(f) => print_refusal(text, f),

@@ -11,15 +11,13 @@ ghost use Rattle.std.specs.Prelude.{◌+◌, ◌*◌, ◌≤◌, ◌<◌, IfSome
 
 use digits::hex::word;
 use listing::check_text::check_text;
-use listing::printed::Printed;
 use text::input::with_input;
 use text::lines::{bytes, held, line};
 use text::report::deliver;
 
 fn print(rt: &HostRuntime, input: &[u8]) {
     let mut text = [0u8; 147456];
-    let printed = check_text(input, &mut text);
-    if let Printed::Length(n) = printed {
+    if let Some(n) = check_text(input, &mut text) {
         deliver(rt, &mut rt.stdout(), &text[..n]);
     }
 }

@@ -19,6 +19,7 @@ use sampling::pose::{Quaternion, try_normalize};
 pub mod parts;
 
 // The limits from `from` to `to`: their centre for part 0, else their tolerance.
+#[tactic(auto, unfolding(crate::specs::Parts::center))]
 pub fn parts_center(from: u64, to: u64, part: u64) -> u64
     ensures { result ≡ Parts.center (of_bits binary64 from) (of_bits binary64 to) part }
 {
@@ -26,6 +27,7 @@ pub fn parts_center(from: u64, to: u64, part: u64) -> u64
 }
 
 // The interval of a joint's model angle, where `limited` is 0 for no limits.
+#[tactic(auto, unfolding(crate::specs::Parts::limits))]
 pub fn parts_limits(
     limited: u64,
     sign: u64,
@@ -48,6 +50,7 @@ pub fn parts_limits(
 }
 
 // One of the three intervals of allowed displacements: 0, 1, else the third.
+#[tactic(auto, unfolding(crate::specs::Parts::interval))]
 pub fn parts_interval(
     center: u64,
     tolerance: u64,
@@ -67,6 +70,7 @@ pub fn parts_interval(
 }
 
 // The normalized quaternion and its matrix.
+#[tactic(auto, unfolding(crate::specs::Parts::pose))]
 pub fn parts_pose(x: u64, y: u64, z: u64, w: u64, part: u64) -> u64
     ensures { result ≡ Parts.pose (Parts.quaternion x y z w) part }
 {

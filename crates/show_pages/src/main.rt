@@ -4,7 +4,6 @@
 #![tactic(auto)]
 
 use listing::pages_text::pages_text;
-use listing::printed::Printed;
 use text::input::with_input;
 use text::lines::room;
 use text::report::deliver;
@@ -12,8 +11,7 @@ use text::report::deliver;
 // 540,672 bytes always suffice, by `pages_suffice` of listing's Laws, and `room` has more.
 fn answer(rt: &HostRuntime, input: &[u8]) {
     let mut text = room();
-    let printed = pages_text(input, &mut text);
-    if let Printed::Length(n) = printed {
+    if let Some(n) = pages_text(input, &mut text) {
         deliver(rt, &mut rt.stdout(), &text[..n]);
     }
 }

@@ -1,5 +1,5 @@
 -- What `check_sheet` prints has at most 147,456 bytes, which the program lends.
-use Rattle.std.specs.Prelude.{ℕ, zero, suc, ◌*◌, ◌≤◌, ◌≡◌, refl, Bool, true, false, cond, List, T, leb, ltb, length}
+use Rattle.std.specs.Prelude.{ℕ, zero, suc, ◌*◌, ◌≤◌, ◌≡◌, refl, Bool, true, false, cond, List, T, Some, None, leb, ltb, length}
 use Rattle.std.proofs.Common.{arith, sym, lit≤, length-append, leb-true, ltb-false}
 use Rattle.std.specs.Float.Ieee.Bits.{is_true}
 use Rattle.std.specs.Float.Ieee.Fits.{and_r}
@@ -10,7 +10,6 @@ use Rattle.sheet.specs.Laws.Demands.{answers, checked_length}
 use Rattle.sheet.specs.Check as Check
 use Rattle.digits.specs.Laws.Lengths.{length_spelled, whole_short}
 use Rattle.listing.specs.Listing.{places, most, too_long, head, item, lines, report, check_text, printed}
-use Rattle.listing.specs.declared.printed.Printed.TheVariants.{Length, Short}
 
 pub length_lines : (s : List ℕ) (i n : ℕ) → length (lines s i n) ≡ 17 * n
 unfolding lines
@@ -39,10 +38,10 @@ room_suffices s = go (ltb most (length s)) refl
     go false e = length_report s (Check.answer newest s places) (ltb-false most (length s) (sym e)) refl (answers.check newest s places)
 
 -- what is counted was lent
-pub printed_within : (t : List ℕ) (room n : ℕ) → Length n ≡ printed t room → n ≤ room
+pub printed_within : (t : List ℕ) (room n : ℕ) → Some n ≡ printed t room → n ≤ room
 printed_within t room n e = go (leb (length t) room) refl e
   where
-    go : (b : Bool) → b ≡ leb (length t) room → Length n ≡ cond b (Length (length t)) Short → n ≤ room
+    go : (b : Bool) → b ≡ leb (length t) room → Some n ≡ cond b (Some (length t)) None → n ≤ room
     go true f g =
         let h : n ≡ length t = cc in
         omega (arith, leb-true (length t) room (sym f))

@@ -3,20 +3,20 @@ use Rattle.std.proofs.Common.{ℕ, ◌≡◌, ◌≤◌, List, length, length-ta
 use Rattle.listing.specs.Listing.{printed}
 use Rattle.listing.specs.Pages.{pages_text}
 use Rattle.listing.specs.Laws.Room.{printed_within}
-use Rattle.listing.specs.declared.printed.Printed.TheVariants.{Length}
+use Rattle.std.specs.Prelude.{Some}
 use Rattle.show_pages.proofs.answer.Goals as goal
 
 -- a text keeps its length
-within : (t room text : List ℕ) (n : ℕ) → length text ≡ length room → Length n ≡ printed t (length room) → n ≤ length text
+within : (t room text : List ℕ) (n : ℕ) → length text ≡ length room → Some n ≡ printed t (length room) → n ≤ length text
 within t room text n e h = rw e (printed_within t (length room) n h)
 
 pub slice_bounds-text-end : goal.slice_bounds-text-end
 slice_bounds-text-end c =
-    within (pages_text c.args.input.now) c.room-text.result c.pages_text-printed.new.text c.in-Length.n
-    c.pages_text-printed.auto.text (sym c.in-Length.is ∙ c.pages_text-printed.ensures.value)
+    within (pages_text c.args.input.now) c.room-text.result c.pages_text.new.text c.in-Some.n
+    c.pages_text.auto.text (sym c.in-Some.is ∙ c.pages_text.ensures.value)
 
 pub slice_bounds-deliver-end : goal.slice_bounds-deliver-end
 slice_bounds-deliver-end c =
-    sym (length-take-le c.in-Length.n c.pages_text-printed.new.text
-    (within (pages_text c.args.input.now) c.room-text.result c.pages_text-printed.new.text c.in-Length.n
-    c.pages_text-printed.auto.text (sym c.in-Length.is ∙ c.pages_text-printed.ensures.value)))
+    sym (length-take-le c.in-Some.n c.pages_text.new.text
+    (within (pages_text c.args.input.now) c.room-text.result c.pages_text.new.text c.in-Some.n
+    c.pages_text.auto.text (sym c.in-Some.is ∙ c.pages_text.ensures.value)))
