@@ -6,8 +6,9 @@ ghost use Rattle.sheet.specs.Check as Check;
 ghost use Rattle.listing.specs.Listing as Listing;
 
 use crate::printed::print;
+use polynomial::refusals::Numbered;
 use sheet::check::check;
-use sheet::refusals::{Fault, fault_number};
+use sheet::refusals::Fault;
 use text::decimal::put_number;
 
 // The first line, written in the first bytes; how many it has.
@@ -19,7 +20,7 @@ fn put_head(line: &mut [u8], a: Result<usize, Fault>) -> usize
 {
     match a {
         Ok(n) => put_number(line, b"accepted ", n as u64),
-        Err(f) => put_number(line, b"refused ", fault_number(f)),
+        Err(f) => put_number(line, b"refused ", u64::from(f.number())),
     }
 }
 

@@ -2,7 +2,7 @@
 ghost use Rattle.std.specs.Prelude.{◌≡◌, ◌≤◌, length};
 ghost use Rattle.listing.specs.Listing as Listing;
 
-use sheet::refusals::refusal_number;
+use polynomial::refusals::Numbered;
 use sheet::sample::sample;
 use sheet::trailer::FRAME;
 use text::decimal::put_number;
@@ -32,7 +32,7 @@ pub fn make_text(request: &[u8], output: &mut [u8], error: &mut [u8]) -> Made
         },
         Err(k) => Made {
             output: 0,
-            error: put_number(error, b"refused ", refusal_number(k)),
+            error: put_number(error, b"refused ", u64::from(k.number())),
         },
     }
 }

@@ -11,7 +11,8 @@ use crate::check_text::checked;
 use crate::printed::print;
 use page::lines::LINE;
 use page::page::{PER_PAGE, pages, put_page};
-use sheet::refusals::{Fault, fault_number};
+use polynomial::refusals::Numbered;
+use sheet::refusals::Fault;
 use text::decimal::put_number;
 
 // A full page, and the same with the form feed behind it.
@@ -54,7 +55,7 @@ fn print_refusal(text: &mut [u8], f: Fault) -> Option<usize>
     ensures text_after { text.new ≡ Listing.after (Listing.head (Refusals.refused (Refusals.fault_number f))) text.old }
 {
     let mut line = [0u8; 32];
-    let size = put_number(&mut line, b"refused ", fault_number(f));
+    let size = put_number(&mut line, b"refused ", u64::from(f.number()));
     print(text, &line[..size], b"", 0)
 }
 

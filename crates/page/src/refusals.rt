@@ -1,8 +1,8 @@
 // What the operation Page refuses, and the papers' number of each.
 ghost use Rattle.std.specs.Prelude.{◌≡◌};
-ghost use Rattle.page.specs.Operation as Operation;
 
-use sheet::refusals::{Fault, fault_number};
+use polynomial::refusals::Numbered;
+use sheet::refusals::Fault;
 
 // The check's refusals, that there is no such page, or that fewer bytes are lent.
 #[derive(Clone, Copy)]
@@ -22,12 +22,16 @@ impl From<Fault> for Refusal {
     }
 }
 
-pub fn refusal_number(r: Refusal) -> u64
-    ensures { result ≡ Operation.number r }
-{
-    match r {
-        Refusal::Sheet(f) => fault_number(f),
-        Refusal::NoPage => 43,
-        Refusal::Short => 42,
+impl Numbered for Refusal {
+    ghost use Rattle.page.specs.Operation as Operation;
+
+    ghost number = { Operation.number };
+
+    fn number(self) -> u8 {
+        match self {
+            Refusal::Sheet(f) => f.number(),
+            Refusal::NoPage => 43,
+            Refusal::Short => 42,
+        }
     }
 }

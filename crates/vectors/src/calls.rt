@@ -4,8 +4,8 @@ ghost use Rattle.std.specs.Prelude.{◌+◌, ◌*◌, ◌<◌, ◌≤◌, IfSome
 use crate::digest::digest;
 use digits::hex::word;
 use float::number::bits;
+use polynomial::refusals::Numbered;
 use sheet::check::check;
-use sheet::refusals::{Fault, Refusal, fault_number, refusal_number};
 use sheet::sample::sample;
 use std::num::wrapping_sub_u64;
 use text::lines::{bytes, held};
@@ -33,19 +33,11 @@ pub(crate) fn words(s: &[u8], at: usize) -> Option<usize>
     Some(head(s[at]) + n.div_ceil(8))
 }
 
-// The count, or minus 01's number of the refusal, in two's complement.
-fn sampled_number(a: Result<usize, Refusal>) -> u64 {
-    match a {
+// An answer as it is stored: the count, or minus the number of the refusal, in two's complement.
+pub(crate) fn number<E: Numbered>(answer: Result<usize, E>) -> u64 {
+    match answer {
         Ok(n) => n as u64,
-        Err(k) => wrapping_sub_u64(0, refusal_number(k)),
-    }
-}
-
-// The number of Check's answer, as it is stored.
-fn checked_number(a: Result<usize, Fault>) -> u64 {
-    match a {
-        Ok(n) => n as u64,
-        Err(f) => wrapping_sub_u64(0, fault_number(f)),
+        Err(k) => wrapping_sub_u64(0, u64::from(k.number())),
     }
 }
 
@@ -62,7 +54,7 @@ fn sample_answers(request: &[u8], places: usize, room: usize, answer: u64, sum: 
 {
     let mut work = [7.5; 4096];
     let mut output = [165; 8192];
-    let found = sampled_number(sample(request, &mut work[..places], &mut output[..room]));
+    let found = number(sample(request, &mut work[..places], &mut output[..room]));
     found == answer && digest(&output) == sum && is_cleared(&work, places)
 }
 
@@ -71,7 +63,7 @@ fn check_answers(sheet: &[u8], places: usize, answer: u64) -> bool
     requires { places ≤ 4096 }
 {
     let mut work = [7.5; 4096];
-    let found = checked_number(check(sheet, &mut work[..places]));
+    let found = number(check(sheet, &mut work[..places]));
     found == answer && is_cleared(&work, places)
 }
 

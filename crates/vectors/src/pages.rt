@@ -1,23 +1,13 @@
 // A stored call of Page, or a stored decimal, made anew.
 ghost use Rattle.std.specs.Prelude.{◌+◌, ◌*◌, ◌≤◌, length};
 
-use crate::calls::is_cleared;
+use crate::calls::{is_cleared, number};
 use crate::digest::digest;
 use digits::hex::word;
 use float::number::of_bits;
 use page::decimal::decimal_text;
 use page::page::page_text;
-use page::refusals::{Refusal, refusal_number};
-use std::num::wrapping_sub_u64;
 use text::lines::{bytes, held};
-
-// The text's length, or minus 02's number of the refusal, in two's complement.
-fn laid_number(a: Result<usize, Refusal>) -> u64 {
-    match a {
-        Ok(n) => n as u64,
-        Err(k) => wrapping_sub_u64(0, refusal_number(k)),
-    }
-}
 
 // Whether the float of the line at `at` shows the 16 bytes of its two other words.
 pub(crate) fn decimal_agrees(s: &[u8], at: usize, k: usize) -> Option<bool>
@@ -29,7 +19,7 @@ pub(crate) fn decimal_agrees(s: &[u8], at: usize, k: usize) -> Option<bool>
     let mut stored = [0; 16];
     bytes(s, at + 19, 2, 16, &mut stored);
     let mut text = [165; 16];
-    let found = laid_number(decimal_text(of_bits(word(s, at + 2)), &mut text));
+    let found = number(decimal_text(of_bits(word(s, at + 2)), &mut text));
     Some(found == 16 && text == stored)
 }
 
@@ -51,7 +41,7 @@ fn page_answers(sheet: &[u8], call: Call) -> bool {
     let mut work = [7.5; 4096];
     let mut text = [165; 8192];
     let lent = &mut work[..call.places];
-    let found = laid_number(page_text(sheet, call.page, lent, &mut text[..call.room]));
+    let found = number(page_text(sheet, call.page, lent, &mut text[..call.room]));
     found == call.answer && digest(&text) == call.sum && is_cleared(&work, call.places)
 }
 

@@ -1,9 +1,10 @@
 // A stored call of the operation Roots, made anew.
 ghost use Rattle.std.specs.Prelude.{◌+◌, ◌*◌, ◌<◌, ◌≤◌, IfSome, length};
 
+use crate::calls::number;
 use digits::hex::word;
 use float::number::{bits, of_bits};
-use polynomial::operation::{Answer, roots};
+use polynomial::operation::roots;
 use std::array::from_fn;
 use text::lines::held;
 
@@ -36,17 +37,6 @@ pub(crate) fn words(s: &[u8], at: usize) -> Option<usize>
 // The bits of what place i of the result slice holds beforehand, another float at each place.
 fn rubbish(i: usize) -> u64 {
     0xc3a5_5a3c_0000_0000 ^ i as u64
-}
-
-// The count, or minus 01's number of the refusal, in two's complement.
-fn number(a: Answer) -> u64 {
-    match a {
-        Answer::Count(n) => n as u64,
-        Answer::BadLength => 0xffff_ffff_ffff_ffeb,
-        Answer::BadBounds => 0xffff_ffff_ffff_ffea,
-        Answer::BadPart => 0xffff_ffff_ffff_ffe9,
-        Answer::ShortResult => 0xffff_ffff_ffff_ffe8,
-    }
 }
 
 // Whether each place, by its bits, holds what it is to hold: one of m words, which stand 17 bytes

@@ -10,7 +10,7 @@ returns-in-Ok c = record {
 
 pub returns-in-Err : goal.returns-in-Err
 returns-in-Err c = record {
-  value = rw (c.in-Err.is, ← c.fault_number.ensures) c.put_number-in-Err.ensures.value;
-  line_after = rw (c.in-Err.is, ← c.fault_number.ensures) c.put_number-in-Err.ensures.out_after;
+  value = rw (c.in-Err.is, ← c.number.ensures, ← c.from.ensures) c.put_number-in-Err.ensures.value;
+  line_after = rw (c.in-Err.is, ← c.number.ensures, ← c.from.ensures) c.put_number-in-Err.ensures.out_after;
   upper_bound = c.put_number-in-Err.ensures.upper_bound;
 }

@@ -41,10 +41,10 @@ returns-in-Ok c = let a = c.args in
 pub returns-in-Err : goal.returns-in-Err
 returns-in-Err c = let a = c.args in
     let v = c.in-Err.is in
-    let q = c.refusal_number in
+    let q = c.from in
     let p = c.put_number in
     let e : answer a.request.now 4096 (length a.output.now) ≡ refused q.result =
-    sym c.sample-a.ensures.result_value ∙ ap answer_of v ∙ ap refused (sym q.ensures) in
+    sym c.sample-a.ensures.result_value ∙ ap answer_of v ∙ ap refused (sym (q.ensures ∙ c.number.ensures)) in
     let z = refused_sized a.request.now a.output.now a.error.now q.result e in
     let f = refused_filled a.request.now a.output.now a.error.now q.result e in
     let t = sets_filled (numbered refused_word q.result) a.error.now (omega (arith, p.ensures.value, p.ensures.upper_bound)) in
