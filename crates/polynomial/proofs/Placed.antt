@@ -1,4 +1,5 @@
 -- What `insert` has to show at each of its ends, on plain lists: w is the room, its first n places hold the list, and at is where v belongs.
+use Rattle.std.specs.Prelude.{Some, None}
 use mathlib.Core.Path.{◌≡◌, refl, sym, ap, subst, ◌∙◌}
 use mathlib.Core.Bool.{Bool, true, false, ◌||◌}
 use mathlib.Core.List.{List, [], ◌∷◌, ◌++◌}
@@ -13,7 +14,6 @@ use lib.ListN.{length, get_or, set, take, drop, length-append, length-drop, leng
 use lib.Seq.{paste, take-take, take-add, drop_at, drop-cons, set_split, set-append_left, get_or-take, length-take-le}
 use lib.Ieee.{Float, nan, eq}
 use lib.Ieee.Bits.{is_true}
-use Rattle.polynomial.specs.declared.cuts.Put.TheVariants.{Count, Full}
 use Rattle.float.specs.Number.{total_le}
 use Rattle.polynomial.specs.Cuts.{put}
 use Rattle.float.specs.Laws.Total.{eq_comm}
@@ -62,10 +62,10 @@ drop_take at j w h = ap (drop at) (take-add at j w) ∙ drop_at (take at w) (tak
 
 module _ (w : List Float) (n : ℕ) (v : Float) where
   -- the new list is G, and has room
-  fits : (G : List Float) (m : ℕ) → grown w n v ≡ G → length G ≡ m → m ≤ length w → (Count m ≡ put_answer w n v) × (G ++ drop m w ≡ put_room w n v)
+  fits : (G : List Float) (m : ℕ) → grown w n v ≡ G → length G ≡ m → m ≤ length w → (Some m ≡ put_answer w n v) × (G ++ drop m w ≡ put_room w n v)
   fits G m g e h = (sym (simp (g, e, le-leb m (length w) h)), sym (simp (g, e, le-leb m (length w) h)))
 
-  none : (G : List Float) → grown w n v ≡ G → length w < length G → (Full ≡ put_answer w n v) × (w ≡ put_room w n v)
+  none : (G : List Float) → grown w n v ≡ G → length w < length G → (None ≡ put_answer w n v) × (w ≡ put_room w n v)
   none G g h = (sym (simp (g, lt-leb (length G) (length w) h)), sym (simp (g, lt-leb (length G) (length w) h)))
 
 module _ (w : List Float) (n : ℕ) (v : Float) (at : ℕ) (le : n ≤ length w) (f : Found w n v at) where
@@ -87,7 +87,7 @@ module _ (w : List Float) (n : ℕ) (v : Float) (at : ℕ) (le : n ≤ length w)
       let l = len in
       drop-cons (take n w) at nan (omega arith) ∙ ap (λ (z : Float). z ∷ drop (suc at) (take n w)) (get_or-take n w at nan h)
 
-  pub replaced : at < n → T (eq y v) → T (total_le v y) → (Count n ≡ put_answer w n v) × (set w at v ≡ put_room w n v)
+  pub replaced : at < n → T (eq y v) → T (total_le v y) → (Some n ≡ put_answer w n v) × (set w at v ≡ put_room w n v)
   replaced h e t =
       let l = len in
       let G : grown w n v ≡ set (take n w) at v =
@@ -97,7 +97,7 @@ module _ (w : List Float) (n : ℕ) (v : Float) (at : ℕ) (le : n ≤ length w)
       let r = fits w n v (set (take n w) at v) n G (length-set (take n w) at v ∙ l) le in
       (r.0, ap (λ (z : List Float). set z at v) (sym (take-append-drop n w)) ∙ set-append_left (take n w) (drop n w) at v (omega arith) ∙ r.1)
 
-  pub kept : at < n → T (eq y v) → total_le v y ≡ false → (Count n ≡ put_answer w n v) × (w ≡ put_room w n v)
+  pub kept : at < n → T (eq y v) → total_le v y ≡ false → (Some n ≡ put_answer w n v) × (w ≡ put_room w n v)
   kept h e t =
       let l = len in
       let G : grown w n v ≡ take n w =
@@ -139,10 +139,10 @@ module _ (w : List Float) (n : ℕ) (v : Float) (at : ℕ) (le : n ≤ length w)
       let c : length (take (n - at) (drop at w)) ≡ n - at = length-take-le (n - at) (drop at w) (omega arith) in
       omega arith
 
-  pub full : (at < n → eq y v ≡ false) → n ≡ length w → (Full ≡ put_answer w n v) × (w ≡ put_room w n v)
+  pub full : (at < n → eq y v ≡ false) → n ≡ length w → (None ≡ put_answer w n v) × (w ≡ put_room w n v)
   full e h = none w n v G (new e) (omega (arith, new_length))
 
-  pub inserted : (at < n → eq y v ≡ false) → n < length w → (Count (n + 1) ≡ put_answer w n v) × (paste w at (v ∷ drop at w) (n - at + 1) ≡ put_room w n v)
+  pub inserted : (at < n → eq y v ≡ false) → n < length w → (Some (n + 1) ≡ put_answer w n v) × (paste w at (v ∷ drop at w) (n - at + 1) ≡ put_room w n v)
   inserted e h =
       let i = f.within in
       let k : at + (n - at + 1) ≡ n + 1 = omega arith in

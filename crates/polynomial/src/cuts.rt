@@ -58,15 +58,9 @@ pub(crate) fn shift(room: &mut [f64], at: usize, many: usize, v: f64)
     room[at + many] = carry;
 }
 
-// Where v was put: the list's new length, or no room for one more.
-#[derive(Clone, Copy)]
-pub enum Put {
-    Count(usize),
-    Full,
-}
-
-// Puts v into the list in the first `count` places of room.
-pub fn insert(room: &mut [f64], count: usize, v: f64) -> Put
+// Puts v into the list in the first `count` places of room: the list's new length, or none where
+// there is no room for one more.
+pub fn insert(room: &mut [f64], count: usize, v: f64) -> Option<usize>
     requires { count ≤ length room.old }
     ensures value { result ≡ put_answer room.old count v }
     ensures room_after { room.new ≡ put_room room.old count v }
@@ -77,18 +71,18 @@ pub fn insert(room: &mut [f64], count: usize, v: f64) -> Put
         if w == v {
             if negative(v) {
                 room[at] = v;
-                return Put::Count(count);
+                return Some(count);
             }
             if negative(w) {
-                return Put::Count(count);
+                return Some(count);
             }
             room[at] = v;
-            return Put::Count(count);
+            return Some(count);
         }
     }
     if count == room.len() {
-        return Put::Full;
+        return None;
     }
     shift(room, at, count - at, v);
-    Put::Count(count + 1)
+    Some(count + 1)
 }

@@ -12,7 +12,7 @@ ghost use Rattle.polynomial.specs.Promises.Plain.{AllTidy};
 
 use crate::bisection::bisect;
 use crate::compensated::Compensated;
-use crate::cuts::{Put, insert};
+use crate::cuts::insert;
 use crate::flat::{pair_at, spread};
 use crate::kinds::{Root, kind, mark};
 use crate::plain::{all_tidy, plain_sign};
@@ -47,11 +47,7 @@ pub(crate) fn keep(out: &mut [f64], k: usize, v: f64) -> usize
     ensures value { result ≡ length (put v (take k out.old)) }
     ensures out_after { out.new ≡ put v (take k out.old) ++ drop result out.old }
 {
-    let answer = insert(out, k, v);
-    match answer {
-        Put::Count(n) => n,
-        Put::Full => k,
-    }
+    insert(out, k, v).unwrap()
 }
 
 // The root of a + b * x, where it lies between the bounds, in the first place of out, and its kind.

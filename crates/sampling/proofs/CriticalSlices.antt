@@ -1,4 +1,5 @@
 -- Laws of the cuts that curves give, for the loops over them: one more root, one more curve.
+use Rattle.std.specs.Prelude.{Option}
 use Prim.Native.Nat.{ℕ, zero, suc, ◌+◌, ◌-◌, ◌≤◌, ◌<◌}
 use native.Mathlib.Nat.{not-suc-le-zero, le_of_suc-le-suc}
 use native.Mathlib.Omega.{arith}
@@ -17,7 +18,6 @@ use Rattle.polynomial.specs.Laws.Lists.{all_append}
 use Rattle.polynomial.specs.Laws.Nine.{add_front, multiply_front, determinant_front, numerator_front}
 use Rattle.polynomial.specs.declared.compensated.Compensated.{Compensated}
 use Rattle.polynomial.specs.declared.curve.Curve.{Curve}
-use Rattle.polynomial.specs.declared.cuts.Put.{Put}
 use Rattle.polynomial.specs.declared.curve.Harmonic.{Harmonic}
 use Rattle.polynomial.specs.declared.curve.Numerators.{Numerators}
 use Rattle.sampling.specs.CriticalSlices.{angles, chart_roots, critical, Polynomials, polynomials, all_polynomials, squares, tangency, intersection}
@@ -147,7 +147,7 @@ module _ (c : Chart) (l : List Numerators) (i n : ℕ) (d k : Numerators) (h : i
       let y = map-append (λ (z : Polynomials). intersection z (first_three k)) (first_threes (take i l)) (first_three e ∷ []) in
       rw (add-one, take-suc l i d (omega arith), x, front_met) y
 
-  pub met_grown : {w w' w'' : List Float} {s s' s'' : Put} → Grown (flat_map (chart_roots c) (met i)) w s w' s' → Grown (chart_roots c (take 9 p)) w' s' w'' s''
+  pub met_grown : {w w' w'' : List Float} {s s' s'' : Option ℕ} → Grown (flat_map (chart_roots c) (met i)) w s w' s' → Grown (chart_roots c (take 9 p)) w' s' w'' s''
       → Grown (flat_map (chart_roots c) (met (i + 1))) w s w'' s''
   unfolding flat_map
   met_grown {w} {w'} {w''} {s} {s'} {s''} x y =
@@ -168,7 +168,7 @@ module _ (c : Chart) (l : List Curve) (r : List Numerators) (j : ℕ) (d : Curve
   met_own : meetings (first_threes (take j r)) (first_three k) ≡ meetings (all_polynomials c.origin (take j l)) own
   met_own = λ i. meetings (known.are i) (numerators_are k (get_or l j d) c.origin e i)
 
-  pub critical_grown : {w w' w'' w''' : List Float} {s s' s'' s''' : Put} → Grown (critical c (take j l)) w s w' s'
+  pub critical_grown : {w w' w'' w''' : List Float} {s s' s'' s''' : Option ℕ} → Grown (critical c (take j l)) w s w' s'
       → Grown (chart_roots c (take 5 p)) w' s' w'' s''
       → Grown (flat_map (chart_roots c) (meetings (first_threes (take j r)) (first_three k))) w'' s'' w''' s'''
       → Grown (critical c (take (j + 1) l)) w s w''' s'''

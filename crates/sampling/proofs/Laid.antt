@@ -1,4 +1,5 @@
 -- Lists of cuts that stand one after the other in a lent slice, and what is answered of three.
+use Rattle.std.specs.Prelude.{Option, Some, None}
 use mathlib.Core.Path.{◌≡◌, sym, ap, ap₂, ◌∙◌}
 use mathlib.Core.List.{List, ◌++◌, append_assoc}
 use Prim.Native.Nat.{ℕ, ◌+◌, ◌-◌, ◌≤◌, ◌<◌}
@@ -7,8 +8,6 @@ use borrow.Author.Tests.{le-leb, lt-leb}
 use lib.ListN.{length, take, drop, length-append, length-drop}
 use lib.Seq.{take_at, drop_at, drop-drop}
 use lib.Ieee.{Float}
-use Rattle.polynomial.specs.declared.cuts.Put.{Put}
-use Rattle.polynomial.specs.declared.cuts.Put.TheVariants.{Count, Full}
 use Rattle.polynomial.specs.Cuts.{cuts}
 use Rattle.polynomial.specs.Promises.Held.{Kept}
 use Rattle.polynomial.specs.Laws.Held.{kept_full}
@@ -24,8 +23,8 @@ pub record Laid (l w r : List Float) (n : ℕ) : Type 0 where
 
 -- ---- one list of cuts, in the front
 
-module _ (v w r : List Float) (p : Put) (k : Kept v w r p) where
-  pub laid_first : (n : ℕ) → p ≡ Count n → Laid (cuts v) w r n
+module _ (v w r : List Float) (p : Option ℕ) (k : Kept v w r p) where
+  pub laid_first : (n : ℕ) → p ≡ Some n → Laid (cuts v) w r n
   laid_first n e = let h = k.held n e in record { count = h.count; within = h.within; list = h.list }
 
 -- ---- one more, in what stands behind
@@ -45,11 +44,11 @@ module _ (l w r : List Float) (n : ℕ) (h : Laid l w r n) where
   places : length (take (length r - n) (drop n r)) + n ≡ length w
   places = let a = ap length part in let b = length-drop n w in omega (arith, h.within)
 
-  module _ (v last : List Float) (p : Put) (k : Kept v (take (length r - n) (drop n r)) last p) where
-    pub no_place_behind : p ≡ Full → length w < length l + length (cuts v)
+  module _ (v last : List Float) (p : Option ℕ) (k : Kept v (take (length r - n) (drop n r)) last p) where
+    pub no_place_behind : p ≡ None → length w < length l + length (cuts v)
     no_place_behind e = omega (arith, kept_full v _ last p k e, places, h.count)
 
-    pub laid_next : (m : ℕ) → p ≡ Count m → Laid (l ++ cuts v) w (replaced n r last) (n + m)
+    pub laid_next : (m : ℕ) → p ≡ Some m → Laid (l ++ cuts v) w (replaced n r last) (n + m)
     laid_next m e =
         let g = k.held m e in
         record {

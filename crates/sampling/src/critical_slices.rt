@@ -18,7 +18,6 @@ use float::trig::tan;
 use polynomial::arithmetic::{add, determinant, multiply};
 use polynomial::compensated::Compensated;
 use polynomial::curve::{Curve, Numerators};
-use polynomial::cuts::Put;
 use polynomial::inner::inner_roots;
 
 // The chart u = tan((q1 - origin) / 2): its origin and its bounds.
@@ -42,7 +41,13 @@ pub(crate) fn chart_of(lower: f64, upper: f64) -> Chart
 }
 
 // The angles of the first n roots.
-fn angles(work: &mut [f64], cuts: Put, origin: f64, roots: &[f64], n: usize) -> Put
+fn angles(
+    work: &mut [f64],
+    cuts: Option<usize>,
+    origin: f64,
+    roots: &[f64],
+    n: usize,
+) -> Option<usize>
     requires { n ≤ length roots.now }
     ensures { Grown (Of.angles origin (take n roots.now)) work.old cuts work.new result }
 {
@@ -57,7 +62,13 @@ fn angles(work: &mut [f64], cuts: Put, origin: f64, roots: &[f64], n: usize) -> 
 }
 
 // An inner call of the root finder, for the first n coefficients. A cut is the same however it arose.
-fn chart_roots(work: &mut [f64], cuts: Put, c: Chart, p: [Compensated; 9], n: usize) -> Put
+fn chart_roots(
+    work: &mut [f64],
+    cuts: Option<usize>,
+    c: Chart,
+    p: [Compensated; 9],
+    n: usize,
+) -> Option<usize>
     requires { (n ≤ 9) × Bounded c }
     ensures { Grown (Of.chart_roots c (take n p)) work.old cuts work.new result }
 {
@@ -112,12 +123,12 @@ fn intersection(k: Numerators, l: Numerators) -> [Compensated; 9]
 // operands.
 fn meetings(
     work: &mut [f64],
-    cuts: Put,
+    cuts: Option<usize>,
     c: Chart,
     at: [Numerators; CURVES],
     later: usize,
     k: Numerators,
-) -> Put
+) -> Option<usize>
     requires { (later ≤ most_curves) × All Threes (take later at) × Bounded c }
     ensures { Grown (flat_map (Of.chart_roots c) (meetings (first_threes (take later at)) (first_three k))) work.old cuts
         work.new result }
@@ -133,7 +144,12 @@ fn meetings(
 }
 
 // Each of the curves alone, then with each earlier one, whose polynomials are kept.
-pub(crate) fn critical(work: &mut [f64], cuts: Put, c: Chart, curves: &[Curve]) -> Put
+pub(crate) fn critical(
+    work: &mut [f64],
+    cuts: Option<usize>,
+    c: Chart,
+    curves: &[Curve],
+) -> Option<usize>
     requires { (length curves.now ≤ most_curves) × Bounded c }
     ensures { Grown (Of.critical c curves.now) work.old cuts work.new result }
 {

@@ -22,7 +22,6 @@ use crate::work::push;
 use float::number::middle;
 use polynomial::angle::wrapped_angle;
 use polynomial::curve::Curve;
-use polynomial::cuts::Put;
 
 // What counts of a job whose joints 1 and 2 are free.
 #[derive(Clone, Copy)]
@@ -80,12 +79,18 @@ pub(crate) fn folded_of(job: Job) -> Folded
 }
 
 // The cuts of one half, in the front of the slice.
-fn half_cuts(work: &mut [f64], curves: &[Curve], bends: &[f64], lower: f64, upper: f64) -> Put
+fn half_cuts(
+    work: &mut [f64],
+    curves: &[Curve],
+    bends: &[f64],
+    lower: f64,
+    upper: f64,
+) -> Option<usize>
     requires { (length curves.now ≤ most_curves) × Bounded (chart lower upper) }
     ensures { Kept (half_values curves.now bends.now lower upper) work.old work.new result }
 {
     let c = chart_of(lower, upper);
-    let first = push(work, Put::Count(0), lower);
+    let first = push(work, Some(0), lower);
     let ends = push(work, first, upper);
     let cuts = critical(work, ends, c, curves);
     all_copies(work, cuts, lower, upper, bends)
@@ -93,29 +98,29 @@ fn half_cuts(work: &mut [f64], curves: &[Curve], bends: &[f64], lower: f64, uppe
 
 // Where the second half's list starts: behind the first, or, where that has too few places, at the
 // end.
-fn start_of(cuts: Put, end: usize) -> usize
+fn start_of(cuts: Option<usize>, end: usize) -> usize
     ensures { result ≡ start cuts end }
 {
     match cuts {
-        Put::Count(n) => n,
-        Put::Full => end,
+        Some(n) => n,
+        None => end,
     }
 }
 
 // How both halves' lists came out.
-fn halves_of(reference: f64, first: Put, second: Put) -> Plan
+fn halves_of(reference: f64, first: Option<usize>, second: Option<usize>) -> Plan
     ensures { result ≡ both reference first second }
 {
     match first {
-        Put::Count(a) => match second {
-            Put::Count(b) => Plan::Halves(Halves {
+        Some(a) => match second {
+            Some(b) => Plan::Halves(Halves {
                 reference,
                 first: a,
                 second: b,
             }),
-            Put::Full => Plan::Short,
+            None => Plan::Short,
         },
-        Put::Full => Plan::Short,
+        None => Plan::Short,
     }
 }
 

@@ -17,7 +17,6 @@ use crate::wrist::{Wrist, wrist_of};
 use arrayvec::ArrayVec;
 use float::number::is_finite;
 use float::trig::P;
-use polynomial::cuts::Put;
 
 // What counts of a job with one free joint.
 #[derive(Clone, Copy)]
@@ -88,15 +87,15 @@ fn cut_intervals(work: &mut [f64], near: f64, three: Intervals, roots: &[f64]) -
         (interval_cuts near roots.now three.third) work.old result work.new }
 {
     let range1 = three.first;
-    let Put::Count(first) = interval_cuts(work, near, range1, roots) else {
+    let Some(first) = interval_cuts(work, near, range1, roots) else {
         return Plan::Short;
     };
     let range2 = three.second;
-    let Put::Count(second) = interval_cuts(&mut work[first..], near, range2, roots) else {
+    let Some(second) = interval_cuts(&mut work[first..], near, range2, roots) else {
         return Plan::Short;
     };
     let range3 = three.third;
-    let Put::Count(third) = interval_cuts(&mut work[first + second..], near, range3, roots) else {
+    let Some(third) = interval_cuts(&mut work[first + second..], near, range3, roots) else {
         return Plan::Short;
     };
     Plan::Lists(Lists {

@@ -3,33 +3,44 @@
 ghost use Rattle.std.specs.Prelude.{◌≡◌, [], ◌∷◌, ◌≤◌, length, take, get_or};
 ghost use Rattle.std.specs.Float.{nan};
 ghost use Rattle.polynomial.specs.Promises.Held.{Kept};
-ghost use Rattle.sampling.specs.Promises.Grown.{Grown, counted};
+ghost use Rattle.sampling.specs.Promises.Grown.{Grown};
 ghost use Rattle.sampling.specs.Samples as Of;
 
 use crate::continuum::ROOT_ROUNDOFF;
 use crate::intervals::Range;
-use crate::work::{number_of, put_in, put_of};
+use crate::work::push;
 use float::number::{abs, is_finite, maximum, middle, minimum};
 use float::trig::TWO_PI;
-use polynomial::cuts::Put;
 
 // An angle counts where it lies in the interval.
+#[inline]
 #[tactic(auto, unfolding(crate::specs::Samples::inside))]
-fn inside(work: &mut [f64], cuts: usize, lower: f64, upper: f64, angle: f64) -> usize
-    ensures { Grown (Of.inside lower upper angle) work.old (counted cuts work.old) work.new
-        (counted result work.new) }
+fn inside(
+    work: &mut [f64],
+    cuts: Option<usize>,
+    lower: f64,
+    upper: f64,
+    angle: f64,
+) -> Option<usize>
+    ensures { Grown (Of.inside lower upper angle) work.old cuts work.new result }
 {
     if (lower <= angle) & (angle <= upper) {
-        return put_in(work, cuts, angle);
+        return push(work, cuts, angle);
     }
     cuts
 }
 
 // An angle, a turn below, as it is and a turn above. Mostly the two outer ones lie outside.
+#[inline]
 #[tactic(auto, unfolding(crate::specs::Samples::inside, crate::specs::Samples::copies, crate::proofs::Literals::of_bits))]
-fn copies(work: &mut [f64], cuts: usize, lower: f64, upper: f64, angle: f64) -> usize
-    ensures { Grown (Of.copies lower upper angle) work.old (counted cuts work.old) work.new
-        (counted result work.new) }
+fn copies(
+    work: &mut [f64],
+    cuts: Option<usize>,
+    lower: f64,
+    upper: f64,
+    angle: f64,
+) -> Option<usize>
+    ensures { Grown (Of.copies lower upper angle) work.old cuts work.new result }
 {
     let below = angle + -1.0 * TWO_PI;
     let above = angle + 1.0 * TWO_PI;
@@ -42,21 +53,32 @@ fn copies(work: &mut [f64], cuts: usize, lower: f64, upper: f64, angle: f64) -> 
 }
 
 // The copies of each angle.
-pub(crate) fn all_copies(work: &mut [f64], cuts: Put, lower: f64, upper: f64, angles: &[f64]) -> Put
+pub(crate) fn all_copies(
+    work: &mut [f64],
+    mut cuts: Option<usize>,
+    lower: f64,
+    upper: f64,
+    angles: &[f64],
+) -> Option<usize>
     ensures { Grown (Of.all_copies lower upper angles.now) work.old cuts work.new result }
 {
-    let mut state = number_of(cuts, work.len());
     for angle in angles {
-        state = copies(work, state, lower, upper, *angle);
+        cuts = copies(work, cuts, lower, upper, *angle);
     }
-    put_of(state, work.len())
+    cuts
 }
 
 // A root counts if it is finite.
+#[inline]
 #[tactic(auto, unfolding(crate::specs::Samples::windings))]
-fn windings(work: &mut [f64], cuts: usize, lower: f64, upper: f64, root: f64) -> usize
-    ensures { Grown (Of.windings lower upper root) work.old (counted cuts work.old) work.new
-        (counted result work.new) }
+fn windings(
+    work: &mut [f64],
+    cuts: Option<usize>,
+    lower: f64,
+    upper: f64,
+    root: f64,
+) -> Option<usize>
+    ensures { Grown (Of.windings lower upper root) work.old cuts work.new result }
 {
     if is_finite(root) {
         return copies(work, cuts, lower, upper, root);
@@ -65,32 +87,38 @@ fn windings(work: &mut [f64], cuts: usize, lower: f64, upper: f64, root: f64) ->
 }
 
 // The windings of each root.
-fn all_windings(work: &mut [f64], cuts: usize, lower: f64, upper: f64, roots: &[f64]) -> usize
-    ensures { Grown (Of.all_windings lower upper roots.now) work.old
-        (counted cuts work.old) work.new (counted result work.new) }
+fn all_windings(
+    work: &mut [f64],
+    mut cuts: Option<usize>,
+    lower: f64,
+    upper: f64,
+    roots: &[f64],
+) -> Option<usize>
+    ensures { Grown (Of.all_windings lower upper roots.now) work.old cuts work.new result }
 {
-    let mut state = cuts;
     for root in roots {
-        state = windings(work, state, lower, upper, *root);
+        cuts = windings(work, cuts, lower, upper, *root);
     }
-    state
+    cuts
 }
 
 // The cuts of one interval, in the front of the slice.
-pub(crate) fn interval_cuts(work: &mut [f64], near: f64, range: Range, roots: &[f64]) -> Put
+pub(crate) fn interval_cuts(
+    work: &mut [f64],
+    near: f64,
+    range: Range,
+    roots: &[f64],
+) -> Option<usize>
     ensures { Kept (Of.interval_values near roots.now range) work.old work.new result }
 {
-    match range {
-        None => Put::Count(0),
-        Some((a, b)) => {
-            let lower = near + a;
-            let upper = near + b;
-            let first = put_in(work, 0, lower);
-            let ends = put_in(work, first, upper);
-            let all = all_windings(work, ends, lower, upper, roots);
-            put_of(all, work.len())
-        }
-    }
+    let Some((a, b)) = range else {
+        return Some(0);
+    };
+    let lower = near + a;
+    let upper = near + b;
+    let first = push(work, Some(0), lower);
+    let ends = push(work, first, upper);
+    all_windings(work, ends, lower, upper, roots)
 }
 
 // How far inside a pair of neighbouring cuts the outer samples lie.

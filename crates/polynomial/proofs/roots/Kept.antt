@@ -1,4 +1,5 @@
 -- What stands in a slice whose first places hold a list, and after one more value was put there, or was not.
+use Rattle.std.specs.Prelude.{Option, Some, IsSome}
 use Prim.Native.Nat.{ℕ, ◌<◌, ◌≤◌}
 use native.Mathlib.Omega.{arith}
 use mathlib.Core.Path.{◌≡◌, sym, ap, ap₂, subst, ◌∙◌}
@@ -8,6 +9,7 @@ use lib.Dec.{leb}
 use lib.ListN.{length, take, drop, length-take, length-append, length-drop, take-append-drop}
 use lib.Seq.{length-take-le, take_at}
 use lib.Ieee.{Float}
+use borrow.Author.Rules.{rules}
 use borrow.Author.Tests.{le-leb}
 use Rattle.float.specs.Number.{negative}
 use Rattle.polynomial.specs.Cuts.{put}
@@ -17,8 +19,6 @@ use Rattle.polynomial.specs.Promises.Insert.{grown, put_answer, put_room}
 use Rattle.polynomial.specs.Laws.Cuts.{put_most, put_longer}
 use Rattle.polynomial.specs.Laws.Held.{drop_past}
 use Rattle.polynomial.specs.declared.roots.Interval.{Interval}
-use Rattle.polynomial.specs.declared.cuts.Put.{Put}
-use Rattle.polynomial.specs.declared.cuts.Put.TheVariants.{Count, Full}
 
 -- r values of l, and behind them what stood there
 abbrev pub Front : List Float → List Float → ℕ → List Float → Type 0
@@ -55,18 +55,10 @@ module _ (w : List Float) (k : ℕ) (v : Float) (h : k < length w) where
   room : leb (length (grown w k v)) (length w) ≡ true
   room = let m = put_most v (take k w) in let t = length-take k w in le-leb (length (grown w k v)) (length w) (omega arith)
 
-  pub kept_count : (answer : Put) (after : List Float) (n : ℕ) → answer ≡ put_answer w k v → after ≡ put_room w k v → answer ≡ Count n
-      → Front (put v (take k w)) w n after
-  kept_count answer after n a b e =
-      let c : answer ≡ Count (length (grown w k v)) = a ∙ simp room in
-      let l : n ≡ length (grown w k v) = cc in
-      (l, b ∙ (simp room) ∙ ap (λ (i : ℕ). grown w k v ++ drop i w) (sym l))
-
-  pub kept_room : (answer : Put) → answer ≡ put_answer w k v → answer ≡ Full → ⊥
-  kept_room answer a e =
-      let c : answer ≡ Count (length (grown w k v)) = a ∙ simp room in
-      let z : ◌≡◌ {A = ℕ} 0 1 = cc in
-      omega arith
+  pub kept_some : (answer : Option ℕ) → answer ≡ put_answer w k v → IsSome answer
+  kept_some answer a =
+      let c : answer ≡ Some (length (grown w k v)) = a ∙ simp room in
+      rw c (search rules)
 
 pub same : (w : List Float) (k : ℕ) → k ≤ length w → Front (take k w) w k w
 same w k h = (sym (length-take-le k w h), sym (take-append-drop k w))

@@ -1,5 +1,5 @@
 -- A list of cuts that grows in a lent slice: what a loop around `insert` keeps, and what it has to show at its ends.
-use Rattle.std.specs.Prelude.{◌≡◌, Bool, true, false, cond, ℕ, zero, suc, ◌+◌, ◌-◌, ◌≤◌, ◌<◌, T, leb, length, get_or, take, drop, Float}
+use Rattle.std.specs.Prelude.{Option, Some, None, ◌≡◌, Bool, true, false, cond, ℕ, zero, suc, ◌+◌, ◌-◌, ◌≤◌, ◌<◌, T, leb, length, get_or, take, drop, Float}
 use Rattle.std.proofs.Math.Path.{refl, subst}
 use Rattle.std.proofs.Common.{sym, ap, ◌∙◌, suc-le-suc, zero-lt-suc, arith, leb-true, leb-false, le-leb, length-append, length-drop, take_at, drop-drop}
 use mathlib.Core.List.{List, [], ◌∷◌, ◌++◌}
@@ -7,8 +7,6 @@ use Rattle.std.proofs.lemmas.Bool.{lt-leb}
 use Rattle.std.proofs.Math.Seq.{drop-append-add}
 use Rattle.std.specs.Float.{nan, binary64}
 use Rattle.std.specs.Float.Ieee.{fits}
-use Rattle.polynomial.specs.declared.cuts.Put.{Put}
-use Rattle.polynomial.specs.declared.cuts.Put.TheVariants.{Count, Full}
 use Rattle.polynomial.specs.Cuts.{put, cuts}
 use Rattle.polynomial.specs.Promises.Lists.{Fit}
 use Rattle.polynomial.specs.Laws.Cuts.{cuts_snoc, cuts_longer_left}
@@ -30,11 +28,11 @@ drop_past a r k m e h =
     let j : k + (m - k) ≡ m = omega arith in
     ap (λ (x : ℕ). drop x (a ++ drop k r)) (sym i) ∙ drop-append-add a (drop k r) (m - k) ∙ drop-drop (m - k) k r ∙ ap (λ (x : ℕ). drop x r) j
 
-put_counted : (b : Bool) (m n : ℕ) → cond b (Count m) Full ≡ Count n → (b ≡ true) × (m ≡ n)
+put_counted : (b : Bool) (m n : ℕ) → cond b (Some m) None ≡ Some n → (b ≡ true) × (m ≡ n)
 put_counted true m n e = (refl, cc)
 put_counted false m n e = let z : ◌≡◌ {A = ℕ} 0 1 = cc in absurd (omega arith)
 
-put_full : (b : Bool) (m : ℕ) → cond b (Count m) Full ≡ Full → b ≡ false
+put_full : (b : Bool) (m : ℕ) → cond b (Some m) None ≡ None → b ≡ false
 put_full true m e = let z : ◌≡◌ {A = ℕ} 0 1 = cc in absurd (omega arith)
 put_full false m e = refl
 
@@ -48,7 +46,7 @@ module _ (l r₀ r : List Float) (n : ℕ) (v : Float) (f : Fit l) (g : T (fits 
   answer : put_answer r n v ≡ cut_answer (l ++ v ∷ []) (length r₀)
   answer = rw (now_cuts, same_length)
 
-  held_more : (r' : List Float) (m : ℕ) → Count m ≡ put_answer r n v → r' ≡ put_room r n v → Held (l ++ v ∷ []) r₀ r' m
+  held_more : (r' : List Float) (m : ℕ) → Some m ≡ put_answer r n v → r' ≡ put_room r n v → Held (l ++ v ∷ []) r₀ r' m
   held_more r' m a b =
       let p = put_counted (leb (length (cuts (l ++ v ∷ []))) (length r₀)) (length (cuts (l ++ v ∷ []))) m (sym answer ∙ sym a) in
       let w : length (cuts (l ++ v ∷ [])) ≤ length r₀ = leb-true _ _ p.0 in
@@ -62,18 +60,18 @@ module _ (l r₀ r : List Float) (n : ℕ) (v : Float) (f : Fit l) (g : T (fits 
 
 -- ---- a list that grows, whether or not there are places
 
-pub kept_none : (r : List Float) → Kept [] r r (Count 0)
+pub kept_none : (r : List Float) → Kept [] r r (Some 0)
 kept_none r = record {
   answer_is = unfold cuts in rw (le-leb 0 (length r) (omega arith));
   same = refl;
   held = λ n e. let z : 0 ≡ n = cc in subst (λ (k : ℕ). Held [] r r k) z (held_none r);
 }
 
-pub kept_within : (l r₀ r : List Float) (p : Put) → Kept l r₀ r p → Within r p
-kept_within l r₀ r (Count n) k = let h = k.held n refl in omega (arith, h.within, k.same)
-kept_within l r₀ r Full k = tt
+pub kept_within : (l r₀ r : List Float) (p : Option ℕ) → Kept l r₀ r p → Within r p
+kept_within l r₀ r (Some n) k = let h = k.held n refl in omega (arith, h.within, k.same)
+kept_within l r₀ r None k = tt
 
-pub kept_full : (l r₀ r : List Float) (p : Put) → Kept l r₀ r p → p ≡ Full → length r₀ < length (cuts l)
+pub kept_full : (l r₀ r : List Float) (p : Option ℕ) → Kept l r₀ r p → p ≡ None → length r₀ < length (cuts l)
 kept_full l r₀ r p k e = leb-false _ _ (put_full (leb (length (cuts l)) (length r₀)) (length (cuts l)) (sym k.answer_is ∙ e))
 
 room_length : (r : List Float) (n : ℕ) (v : Float) → length (put_room r n v) ≡ length r
@@ -87,17 +85,17 @@ room_length r n v = go (leb (length (grown r n v)) (length r)) refl
         omega arith
     go false e = refl
 
-pub kept_push : (l r₀ r : List Float) (p : Put) (v : Float) → Fit l → T (fits binary64 v) → Kept l r₀ r p
+pub kept_push : (l r₀ r : List Float) (p : Option ℕ) (v : Float) → Fit l → T (fits binary64 v) → Kept l r₀ r p
     → Kept (l ++ v ∷ []) r₀ (push_room r p v) (push_answer r p v)
-kept_push l r₀ r (Count n) v f g k =
+kept_push l r₀ r (Some n) v f g k =
     let h = k.held n refl in record {
       answer_is = answer l r₀ r n v f g h;
       same = room_length r n v ∙ k.same;
       held = λ m e. held_more l r₀ r n v f g h (put_room r n v) m (sym e) refl;
     }
-kept_push l r₀ r Full v f g k = record {
+kept_push l r₀ r None v f g k = record {
   answer_is =
-      let a = kept_full l r₀ r Full k refl in
+      let a = kept_full l r₀ r None k refl in
       let b = cuts_longer_left l (v ∷ []) f (g, tt) in
       rw (lt-leb (length (cuts (l ++ v ∷ []))) (length r₀) (omega arith));
   same = k.same;

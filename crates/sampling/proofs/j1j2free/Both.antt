@@ -1,4 +1,5 @@
 -- Both halves' lists, one after the other in the front of a slice, by what `half_cuts` says of each.
+use Rattle.std.specs.Prelude.{Option, Some, None}
 use Prim.Native.Nat.{ℕ, ◌+◌, ◌-◌, ◌≤◌, ◌<◌}
 use native.Mathlib.Omega.{arith}
 use mathlib.Core.Path.{◌≡◌, refl, sym, ap, subst, ◌∙◌}
@@ -15,8 +16,6 @@ use Rattle.polynomial.specs.Promises.Held.{Kept}
 use Rattle.polynomial.specs.Laws.Held.{kept_full}
 use Rattle.polynomial.specs.Laws.Lists.{tail_part, tail_post}
 use Rattle.polynomial.specs.declared.curve.Curve.{Curve}
-use Rattle.polynomial.specs.declared.cuts.Put.{Put}
-use Rattle.polynomial.specs.declared.cuts.Put.TheVariants.{Count, Full}
 use Rattle.sampling.specs.J1j2free.{curves, bends, first_half, second_half}
 use Rattle.sampling.specs.Promises.Halves.{half_values, start, both}
 use Rattle.sampling.specs.Promises.Plan.{halves_of, granted, where_laid}
@@ -25,46 +24,46 @@ use Rattle.sampling.specs.declared.j1j2free.Folded.{Folded}
 use Rattle.sampling.specs.declared.lists.Plan.{Plan}
 
 -- the second list starts within the slice
-pub starts : (a w v : List Float) (s : Put) (n : ℕ) → n ≡ start s (length v) → Kept a w v s → n ≤ length v
-starts a w v (Count m) n e k = let h = k.held m refl in omega (arith, e, h.within, k.same)
-starts a w v Full n e k = omega (arith, e)
+pub starts : (a w v : List Float) (s : Option ℕ) (n : ℕ) → n ≡ start s (length v) → Kept a w v s → n ≤ length v
+starts a w v (Some m) n e k = let h = k.held m refl in omega (arith, e, h.within, k.same)
+starts a w v None n e k = omega (arith, e)
 
 -- a into w, which leaves v; b into v behind the first list, which leaves u
 module _ (r : Float) (a b w v u : List Float) where
   abbrev count : ℕ
   count = length (cuts a) + length (cuts b)
 
-  answers : (s t : Put) → Kept a w v s → Kept b (drop (start s (length v)) v) u t → both r s t ≡ granted count (halves_of r (cuts a) (cuts b)) (length w)
-  answers (Count n) (Count m) k l =
+  answers : (s t : Option ℕ) → Kept a w v s → Kept b (drop (start s (length v)) v) u t → both r s t ≡ granted count (halves_of r (cuts a) (cuts b)) (length w)
+  answers (Some n) (Some m) k l =
       let h = k.held n refl in
       let i = l.held m refl in
       let d = length-drop n v in
       let e : count ≤ length w = omega (arith, h.count, h.within, k.same, i.count, i.within, d) in
       rw (le-leb count (length w) e, h.count, i.count)
-  answers (Count n) Full k l =
+  answers (Some n) None k l =
       let h = k.held n refl in
       let d = length-drop n v in
-      let e : length w < count = omega (arith, h.count, h.within, k.same, kept_full b (drop n v) u Full l refl, d) in
+      let e : length w < count = omega (arith, h.count, h.within, k.same, kept_full b (drop n v) u None l refl, d) in
       rw (lt-leb count (length w) e)
-  answers Full t k l =
-      let e : length w < count = omega (arith, kept_full a w v Full k refl) in
+  answers None t k l =
+      let e : length w < count = omega (arith, kept_full a w v None k refl) in
       rw (lt-leb count (length w) e)
 
-  lists : (s t : Put) → Kept a w v s → Kept b (drop (start s (length v)) v) u t
+  lists : (s t : Option ℕ) → Kept a w v s → Kept b (drop (start s (length v)) v) u t
       → where_laid (both r s t) (take (start s (length v)) v ++ u) [] ≡ where_laid (both r s t) ((cuts a ++ cuts b) ++ drop count w) []
-  lists (Count n) (Count m) k l =
+  lists (Some n) (Some m) k l =
       let h = k.held n refl in
       let i = l.held m refl in
       let x : take n v ≡ cuts a = ap (take n) h.list ∙ take_at (cuts a) (drop n w) n (sym h.count) in
       let y : drop n v ≡ drop n w = ap (drop n) h.list ∙ drop_at (cuts a) (drop n w) n (sym h.count) in
       let z : drop m (drop n v) ≡ drop count w = ap (drop m) y ∙ drop-drop m n w ∙ rw (h.count, i.count) in
       rw (x, i.list, z) (sym (append_assoc (cuts a) (cuts b) (drop count w)))
-  lists (Count n) Full k l = refl
-  lists Full t k l = refl
+  lists (Some n) None k l = refl
+  lists None t k l = refl
 
 module _ (t : Folded) (lower upper m : Float) (f : T (fits binary64 lower)) (g : T (fits binary64 upper)) (em : m ≡ middle lower upper)
     (cs : List Curve) (ec : cs ≡ curves t) (bs : List Float) (eb : bs ≡ bends t)
-    (w v last : List Float) (s r : Put) (n : ℕ) (en : n ≡ start s (length v))
+    (w v last : List Float) (s r : Option ℕ) (n : ℕ) (en : n ≡ start s (length v))
     (k : Kept (half_values cs bs lower m) w v s) (l : Kept (half_values cs bs m upper) (take (length v - n) (drop n v)) last r) where
   first : first_half t lower upper ≡ cuts (half_values cs bs lower m)
   unfolding first_half

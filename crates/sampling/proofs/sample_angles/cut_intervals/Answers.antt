@@ -20,17 +20,17 @@ returns-in_default c =
     )
 
 pub offset_bounds-work-first : goal.offset_bounds-work-first
-offset_bounds-work-first c = let h = (laid_first _ _ _ _ c.interval_cuts.ensures _ c.in-Count.is).within in search (rules, h)
+offset_bounds-work-first c = let h = (laid_first _ _ _ _ c.interval_cuts.ensures _ c.in-Some.is).within in search (rules, h)
 
 pub slice_bounds-interval_cuts-count : goal.slice_bounds-interval_cuts-count
-slice_bounds-interval_cuts-count c = let h = (laid_first _ _ _ _ c.interval_cuts.ensures _ c.in-Count.is).within in search (rules, h)
+slice_bounds-interval_cuts-count c = let h = (laid_first _ _ _ _ c.interval_cuts.ensures _ c.in-Some.is).within in search (rules, h)
 
 pub returns-in_default-interval_cuts : goal.returns-in_default-interval_cuts
 unfolding interval_cuts
 returns-in_default-interval_cuts c =
     let a = c.args in
     let of : Range → List Float = interval_cuts a.near a.roots.now in
-    let one = laid_first _ _ _ _ c.interval_cuts.ensures _ c.in-Count.is in (
+    let one = laid_first _ _ _ _ c.interval_cuts.ensures _ c.in-Some.is in (
       short_second (of a.three.first) (of a.three.second) (of a.three.third) _
           (no_place_behind _ _ _ _ one _ _ _ c.interval_cuts-2.ensures c.in_default-interval_cuts.is),
       refl,
@@ -38,20 +38,20 @@ returns-in_default-interval_cuts c =
 
 pub overflow_add-first : goal.overflow_add-first
 overflow_add-first c =
-    let one = laid_first _ _ _ _ c.interval_cuts.ensures _ c.in-Count.is in
-    let h = (laid_next _ _ _ _ one _ _ _ c.interval_cuts-2.ensures _ c.in-Count-interval_cuts.is).within in
+    let one = laid_first _ _ _ _ c.interval_cuts.ensures _ c.in-Some.is in
+    let h = (laid_next _ _ _ _ one _ _ _ c.interval_cuts-2.ensures _ c.in-Some-interval_cuts.is).within in
     search (rules, h)
 
 pub offset_bounds-work-first-2 : goal.offset_bounds-work-first-2
 offset_bounds-work-first-2 c =
-    let one = laid_first _ _ _ _ c.interval_cuts.ensures _ c.in-Count.is in
-    let h = (laid_next _ _ _ _ one _ _ _ c.interval_cuts-2.ensures _ c.in-Count-interval_cuts.is).within in
+    let one = laid_first _ _ _ _ c.interval_cuts.ensures _ c.in-Some.is in
+    let h = (laid_next _ _ _ _ one _ _ _ c.interval_cuts-2.ensures _ c.in-Some-interval_cuts.is).within in
     search (rules, h)
 
 pub slice_bounds-interval_cuts-count-2 : goal.slice_bounds-interval_cuts-count-2
 slice_bounds-interval_cuts-count-2 c =
-    let one = laid_first _ _ _ _ c.interval_cuts.ensures _ c.in-Count.is in
-    let h = (laid_next _ _ _ _ one _ _ _ c.interval_cuts-2.ensures _ c.in-Count-interval_cuts.is).within in
+    let one = laid_first _ _ _ _ c.interval_cuts.ensures _ c.in-Some.is in
+    let h = (laid_next _ _ _ _ one _ _ _ c.interval_cuts-2.ensures _ c.in-Some-interval_cuts.is).within in
     search (rules, h)
 
 pub returns-in_default-interval_cuts-2 : goal.returns-in_default-interval_cuts-2
@@ -59,8 +59,8 @@ unfolding interval_cuts
 returns-in_default-interval_cuts-2 c =
     let a = c.args in
     let of : Range → List Float = interval_cuts a.near a.roots.now in
-    let one = laid_first _ _ _ _ c.interval_cuts.ensures _ c.in-Count.is in
-    let two = laid_next _ _ _ _ one _ _ _ c.interval_cuts-2.ensures _ c.in-Count-interval_cuts.is in (
+    let one = laid_first _ _ _ _ c.interval_cuts.ensures _ c.in-Some.is in
+    let two = laid_next _ _ _ _ one _ _ _ c.interval_cuts-2.ensures _ c.in-Some-interval_cuts.is in (
       short_third (of a.three.first) (of a.three.second) (of a.three.third) _
           (no_place_behind _ _ _ _ two _ _ _ c.interval_cuts-3.ensures c.in_default-interval_cuts-2.is),
       refl,
@@ -71,11 +71,11 @@ unfolding interval_cuts
 returns c =
     let a = c.args in
     let of : Range → List Float = interval_cuts a.near a.roots.now in
-    let one = laid_first _ _ _ _ c.interval_cuts.ensures _ c.in-Count.is in
-    let two = laid_next _ _ _ _ one _ _ _ c.interval_cuts-2.ensures _ c.in-Count-interval_cuts.is in
-    let three = laid_next _ _ _ _ two _ _ _ c.interval_cuts-3.ensures _ c.in-Count-interval_cuts-2.is in
-    let j = (c.interval_cuts-2.ensures.held _ c.in-Count-interval_cuts.is).count in
-    let k = (c.interval_cuts-3.ensures.held _ c.in-Count-interval_cuts-2.is).count in (
+    let one = laid_first _ _ _ _ c.interval_cuts.ensures _ c.in-Some.is in
+    let two = laid_next _ _ _ _ one _ _ _ c.interval_cuts-2.ensures _ c.in-Some-interval_cuts.is in
+    let three = laid_next _ _ _ _ two _ _ _ c.interval_cuts-3.ensures _ c.in-Some-interval_cuts-2.is in
+    let j = (c.interval_cuts-2.ensures.held _ c.in-Some-interval_cuts.is).count in
+    let k = (c.interval_cuts-3.ensures.held _ c.in-Some-interval_cuts-2.is).count in (
       all_three (of a.three.first) (of a.three.second) (of a.three.third) _ _ _ _ one.count j k three.within,
       laid_three (of a.three.first) (of a.three.second) (of a.three.third) _ _ _ three,
     )

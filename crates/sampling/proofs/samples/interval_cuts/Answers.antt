@@ -1,16 +1,13 @@
 -- `sampling::samples::interval_cuts` meets its contract: at each return, what the calls and the tests on the way to it say.
 use Rattle.polynomial.specs.Laws.Held.{kept_none}
-use Rattle.sampling.proofs.Grown.{then, whole_counted}
+use Rattle.sampling.proofs.Grown.{then, whole}
 use Rattle.sampling.specs.Samples.{interval_values}
 use Rattle.sampling.proofs.samples.interval_cuts.Goals as goal
 
-pub returns-in-None : goal.returns-in-None
+pub returns-in_default : goal.returns-in_default
 unfolding interval_values
-returns-in-None c = simp c.in-None.is (kept_none _)
+returns-in_default c = simp c.in_default.is (kept_none _)
 
-pub returns-in-Some : goal.returns-in-Some
+pub returns : goal.returns
 unfolding interval_values
-returns-in-Some c = simp c.in-Some.is
-    (whole_counted c.all_windings-all.result
-    (then (then c.put_in-first.ensures
-    c.put_in-ends.ensures) c.all_windings-all.ensures) c.put_of.ensures)
+returns c = simp c.in-Some.is (whole (then (then c.push-first.ensures c.push-ends.ensures) c.all_windings.ensures))
