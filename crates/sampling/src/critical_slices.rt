@@ -16,10 +16,11 @@ use float::arc::atan;
 use float::number::middle;
 use float::trig::tan;
 use polynomial::arithmetic::{add, determinant, multiply};
+use polynomial::bounds::Bounds;
 use polynomial::compensated::Compensated;
 use polynomial::curve::{Curve, Numerators};
 use polynomial::cuts::Put;
-use polynomial::inner::inner_roots;
+use polynomial::roots::roots;
 
 // The chart u = tan((q1 - origin) / 2): its origin and its bounds.
 #[derive(Clone, Copy)]
@@ -56,14 +57,17 @@ fn angles(work: &mut [f64], cuts: Put, origin: f64, roots: &[f64], n: usize) -> 
     state
 }
 
-// An inner call of the root finder, for the first n coefficients. A cut is the same however it arose.
+// An inner call of the root finder, for the first n coefficients.
 fn chart_roots(work: &mut [f64], cuts: Put, c: Chart, p: [Compensated; 9], n: usize) -> Put
     requires { (n ≤ 9) × Bounded c }
     ensures { Grown (Of.chart_roots c (take n p)) work.old cuts work.new result }
 {
     let mut found = [0.0; 512];
-    let mut kinds = [0; 512];
-    let m = inner_roots(p, n, c.lower, c.upper, &mut found, &mut kinds);
+    let bounds = Bounds {
+        lower: c.lower,
+        upper: c.upper,
+    };
+    let m = roots(&p[..n], bounds, &mut found);
     angles(work, cuts, c.origin, &found, m)
 }
 
