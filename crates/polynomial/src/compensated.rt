@@ -5,6 +5,7 @@ ghost use Rattle.float.specs.ProductError as ProductError;
 ghost use Rattle.polynomial.specs.Compensated as Of;
 ghost use Rattle.polynomial.specs.Promises.Inside.{finite_parts};
 
+use arrayvec::ArrayVec;
 use float::number::is_finite;
 use float::product_error::{Halves, error_by_halves, product_error};
 
@@ -13,6 +14,9 @@ pub struct Compensated {
     pub high: f64,
     pub low: f64,
 }
+
+// The coefficients of a polynomial: at most nine, the constant term first.
+pub type Coefficients = ArrayVec<Compensated, 9>;
 
 impl Compensated {
     // A float with a residual of zero.

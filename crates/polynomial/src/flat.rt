@@ -2,11 +2,11 @@
 ghost use Rattle.std.specs.Prelude.{◌≡◌, ◌+◌, ◌≤◌, length};
 ghost use Rattle.polynomial.specs.Operation.{pairs};
 
-use crate::compensated::Compensated;
+use crate::compensated::{Coefficients, Compensated};
 use arrayvec::ArrayVec;
 
 // The pairs of at most 18 floats.
-pub(crate) fn coefficients(s: &[f64]) -> ArrayVec<Compensated, 9>
+pub(crate) fn coefficients(s: &[f64]) -> Coefficients
     requires { length s.now ≤ 18 }
     ensures { result.items ≡ pairs s.now }
 {

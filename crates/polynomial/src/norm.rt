@@ -45,7 +45,7 @@ fn half_roots(
         lower: -1.0,
         upper: 1.0,
     };
-    let n = roots(&p[..5], bounds, &mut found);
+    let n = roots(p.as_slice(), bounds, &mut found);
     chart(&found[..n], origin, out, k)
 }
 

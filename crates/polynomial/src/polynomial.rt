@@ -5,7 +5,7 @@ ghost use Rattle.std.specs.List.{list_all};
 ghost use Rattle.polynomial.specs.Polynomial as Of;
 ghost use Rattle.polynomial.specs.Promises.Inside.{finite_parts};
 
-use crate::compensated::Compensated;
+use crate::compensated::{Coefficients, Compensated};
 use arrayvec::ArrayVec;
 use float::number::abs;
 use float::product_error::Halves;
@@ -85,7 +85,7 @@ pub(crate) fn all_finite(p: &[Compensated]) -> bool
 }
 
 // The derivative.
-pub(crate) fn derivative(p: &[Compensated]) -> ArrayVec<Compensated, 9>
+pub(crate) fn derivative(p: &[Compensated]) -> Coefficients
     requires { length p.now ≤ 9 }
     ensures { result.items ≡ Of.derivative p.now }
 {

@@ -91,9 +91,8 @@ fn half_cuts(
     let c = chart_of(lower, upper);
     let first = push(work, Put::Count(0), lower);
     let ends = push(work, first, upper);
-    let count = curves.count;
     let at = curves.at;
-    let cuts = critical(work, ends, c, at, count);
+    let cuts = critical(work, ends, c, &at[..curves.count]);
     all_copies(work, cuts, lower, upper, bends, n)
 }
 
