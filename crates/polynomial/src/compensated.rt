@@ -18,14 +18,16 @@ pub struct Compensated {
 // The coefficients of a polynomial: at most nine, the constant term first.
 pub type Coefficients = ArrayVec<Compensated, 9>;
 
-impl Compensated {
-    // A float with a residual of zero.
-    pub(crate) fn from(high: f64) -> Self
-        ensures { result ≡ Of.from high }
-    {
+// A float with a residual of zero.
+impl From<f64> for Compensated {
+    ghost from_gives = { λ x r. r ≡ Of.from x };
+
+    fn from(high: f64) -> Self {
         Self { high, low: 0.0 }
     }
+}
 
+impl Compensated {
     // Adds both components and retains the rounding error.
     pub(crate) fn plus(self, other: Compensated) -> Self
         ensures { result ≡ Of.plus self other }
