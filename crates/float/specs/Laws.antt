@@ -4,7 +4,7 @@
 -- `Tests` (the code's tests), `Le` (one linear inequality; rounding is monotone).
 -- Ranges: `Within` and `Beyond` (bounds by closed tests), `Remainder` (within its divisor),
 -- `Interval` (with signs), `Range` (from the code's tests), `Zero` (what is zero, what
--- is finite), `Extremes` (the largest value), `Literals` (constants of the code), `Operand` (an operand in its halves),
+-- is finite), `Extremes` (the largest value), `Literals` (constants of the code),
 -- `Under` (bounds by powers of two, for any exponent).
 -- Exactness: `Units` (values as whole numbers of units, and their order), `Near` (half a unit),
 -- `Whole` (the counts of units as functions), `Close` (errors of rounding, in units), `Half` (the same of a half; closeness as a bound).
@@ -27,7 +27,6 @@ pub mod Range
 pub mod Under
 pub mod Zero
 pub mod Literals
-pub mod Operand
 pub mod Units
 pub mod Near
 pub mod Compare

@@ -1,6 +1,6 @@
 // The error of a rounded product, `fma(a, b, -(a * b))`: by Dekker's halves where a is zero or from
 // 2^-200 to 2^400 in magnitude, and b zero or from 2^-768 to 2^400, and by the fused product elsewhere.
-ghost use Rattle.std.specs.Prelude.{◌≡◌, true};
+ghost use Rattle.std.specs.Prelude.{◌≡◌, IfSome, is_some};
 ghost use Rattle.float.specs.ProductError as ProductError;
 ghost use Rattle.float.specs.Promises.Halves as Of;
 
@@ -38,65 +38,58 @@ fn within(low: f64, x: f64) -> bool
     sized(low, x)
 }
 
-// Whether Dekker's halves serve a first operand.
-pub fn in_range(x: f64) -> bool
-    ensures { result ≡ Of.in_range Of.least x }
-{
-    within(LEAST, x)
-}
-
-// An operand with its halves, by Dekker's split at 2^27 + 1, and whether these serve it.
+// An operand with its halves, by Dekker's split at 2^27 + 1, where these serve it: for one that
+// meets many others.
 #[derive(Clone, Copy)]
 pub struct Halves {
     pub whole: f64,
     pub high: f64,
     pub low: f64,
-    pub fine: bool,
+    ghost halved: { Of.Halved whole high low },
 }
 
-// The halves of x, for an operand that meets many others.
-pub fn halved_operand(x: f64) -> Halves
-    ensures { result ≡ Of.halves x }
-{
-    let fine = within(LEAST_HALVED, x);
-    let c = SPLITTER * x;
-    let high = c - (c - x);
-    Halves {
-        whole: x,
-        high,
-        low: x - high,
-        fine,
+impl Halves {
+    // The halves of x, where they serve.
+    pub fn of(x: f64) -> Option<Self>
+        ensures served { is_some result ≡ Of.in_range Of.least_halved x }
+        ensures whole { IfSome result (λ h. h.whole ≡ x) }
+    {
+        if !within(LEAST_HALVED, x) {
+            return None;
+        }
+        let c = SPLITTER * x;
+        let high = c - (c - x);
+        Some(Self {
+            whole: x,
+            high,
+            low: x - high,
+        })
     }
 }
 
-// The error of a product, where Dekker's halves serve both operands.
-pub fn error_by_halves(a: f64, b: Halves) -> f64
-    requires { (b ≡ Of.halves b.whole) × (Of.in_range Of.least a ≡ true) × (b.fine ≡ true) }
-    ensures { result ≡ ProductError.product_error a b.whole }
+// The error of a product with an operand whose halves are at hand, where those of a serve as well.
+pub fn error_by_halves(a: f64, b: Halves) -> Option<f64>
+    ensures served { is_some result ≡ Of.in_range Of.least a }
+    ensures value { IfSome result (λ e. e ≡ ProductError.product_error a b.whole) }
 {
+    if !within(LEAST, a) {
+        return None;
+    }
     let p = a * b.whole;
     let c = SPLITTER * a;
     let high = c - (c - a);
     let low = a - high;
-    (((high * b.high - p) + high * b.low) + low * b.high) + low * b.low
-}
-
-// The error of a product with an operand whose halves are at hand.
-pub(crate) fn product_error_by(a: f64, b: Halves) -> f64
-    requires { b ≡ Of.halves b.whole }
-    ensures { result ≡ ProductError.product_error a b.whole }
-{
-    if in_range(a) {
-        if b.fine {
-            return error_by_halves(a, b);
-        }
-    }
-    mul_add(a, b.whole, -(a * b.whole))
+    Some((((high * b.high - p) + high * b.low) + low * b.high) + low * b.low)
 }
 
 // a * b - p for the rounded product p = a * b, rounded.
 pub fn product_error(a: f64, b: f64) -> f64
     ensures { result ≡ ProductError.product_error a b }
 {
-    product_error_by(a, halved_operand(b))
+    if let Some(halves) = Halves::of(b) {
+        if let Some(error) = error_by_halves(a, halves) {
+            return error;
+        }
+    }
+    mul_add(a, b, -(a * b))
 }

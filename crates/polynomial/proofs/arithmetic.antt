@@ -1,3 +1,2 @@
 mod Sums
 mod Products
-pub mod Filled

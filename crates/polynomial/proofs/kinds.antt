@@ -1,2 +1,2 @@
 -- What the proofs of `marked` and `mark` share.
-mod Marks
+pub mod Marks

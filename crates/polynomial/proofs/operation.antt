@@ -1,3 +1,2 @@
 mod Parts
-mod Pairs
 mod Answers

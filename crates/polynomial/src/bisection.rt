@@ -1,139 +1,116 @@
 // Bisecting an interval until no float lies strictly inside. First by plain arithmetic, as long as that
 // tells the sign at the middle. Then mostly two steps at a time: the values at the middle and at both
 // middles that can come next are worked out side by side.
-ghost use Rattle.std.specs.Prelude.{◌≡◌, ◌+◌, ◌≤◌, length, take};
-ghost use Rattle.polynomial.specs.Operation.{pairs};
+ghost use Rattle.std.specs.Prelude.{◌≡◌, ◌≤◌, length};
 ghost use Rattle.polynomial.specs.Polynomial as Of;
 ghost use Rattle.polynomial.specs.Roots as Roots;
 ghost use Rattle.float.specs.Promises.Order.{Span};
 ghost use Rattle.polynomial.specs.Promises.Inside as Inside;
 ghost use Rattle.polynomial.specs.Promises.Plain.{AllTidy};
 
+use crate::bounds::Bounds;
+use crate::compensated::Compensated;
 use crate::plain::{all_tidy, plain_sign};
-use crate::polynomial::{Three, evaluate, evaluate_three};
+use crate::polynomial::{evaluate, evaluate_three};
 use float::number::{is_sign_positive, middle};
+use std::ops::ControlFlow;
 
-// What a step says: the result, or which half to go on in.
+// The half of an interval to go on in.
 #[derive(Clone, Copy)]
-pub enum Step {
-    Done(f64),
+pub enum Half {
     Upper,
     Lower,
 }
 
-// What steps leave: the result, or an interval to go on in.
-#[derive(Clone, Copy)]
-pub enum Left {
-    Result(f64),
-    Between(f64, f64),
-}
-
-// A step at the middle m of lo and hi, where the value is v.
-fn step_at(lo: f64, hi: f64, m: f64, v: f64, positive: bool) -> Step
+// A step at the middle m of lo and hi, where the value is v: the result, or the half to go on in.
+fn step_at(lo: f64, hi: f64, m: f64, v: f64, positive: bool) -> ControlFlow<f64, Half>
     ensures { result ≡ Inside.step_at lo hi m v positive }
 {
     if m == lo {
-        return Step::Done(m);
+        return ControlFlow::Break(m);
     }
     if m == hi {
-        return Step::Done(m);
+        return ControlFlow::Break(m);
     }
     if v == 0.0 {
-        return Step::Done(middle(m, m));
+        return ControlFlow::Break(middle(m, m));
     }
     if is_sign_positive(v) == positive {
-        return Step::Upper;
+        return ControlFlow::Continue(Half::Upper);
     }
-    Step::Lower
+    ControlFlow::Continue(Half::Lower)
 }
 
-// What a step at the middle m of lo and hi, where the value is v, leaves.
-fn narrowed_once(lo: f64, hi: f64, m: f64, v: f64, positive: bool) -> Left
+// What a step at the middle m of lo and hi, where the value is v, leaves: the result, or the ends of
+// an interval to go on in.
+fn narrowed_once(lo: f64, hi: f64, m: f64, v: f64, positive: bool) -> ControlFlow<f64, (f64, f64)>
     ensures { result ≡ Inside.narrowed_once lo hi m v positive }
 {
-    let step = step_at(lo, hi, m, v, positive);
-    match step {
-        Step::Done(x) => Left::Result(x),
-        Step::Upper => Left::Between(m, hi),
-        Step::Lower => Left::Between(lo, m),
+    match step_at(lo, hi, m, v, positive)? {
+        Half::Upper => ControlFlow::Continue((m, hi)),
+        Half::Lower => ControlFlow::Continue((lo, m)),
     }
 }
 
 // What a step leaves or, where the three values are known, two steps.
-fn narrowed(p: &[f64], n: usize, lo: f64, hi: f64, positive: bool) -> Left
-    requires { (n ≤ 9) × Span 2 lo hi × (n + n ≤ length p.now) }
-    ensures { Inside.Leaves (Of.evaluate (take n (pairs p.now))) positive lo hi result }
+fn narrowed(p: &[Compensated], lo: f64, hi: f64, positive: bool) -> ControlFlow<f64, (f64, f64)>
+    requires { Span 2 lo hi }
+    ensures { Inside.Leaves (Of.evaluate p.now) positive lo hi result }
 {
     let m = middle(lo, hi);
     let below = middle(lo, m);
     let above = middle(m, hi);
-    let values = evaluate_three(p, n, below, m, above);
-    let Three::Values(u, v, w) = values else {
-        return narrowed_once(lo, hi, m, evaluate(p, n, m), positive);
+    let Some((u, v, w)) = evaluate_three(p, below, m, above) else {
+        return narrowed_once(lo, hi, m, evaluate(p, m), positive);
     };
-    let step = step_at(lo, hi, m, v, positive);
-    match step {
-        Step::Done(x) => Left::Result(x),
-        Step::Upper => narrowed_once(m, hi, above, w, positive),
-        Step::Lower => narrowed_once(lo, m, below, u, positive),
+    match step_at(lo, hi, m, v, positive)? {
+        Half::Upper => narrowed_once(m, hi, above, w, positive),
+        Half::Lower => narrowed_once(lo, m, below, u, positive),
     }
 }
 
 // Bisects the interval while plain arithmetic tells the sign at the middle.
-fn roughly(p: &[f64], n: usize, from: f64, to: f64, positive: bool) -> Left
-    requires { (n ≤ 9) × Span 2 from to × AllTidy (take n (pairs p.now)) × (n + n ≤ length p.now) }
-    ensures { Inside.Rest (Of.evaluate (take n (pairs p.now))) positive from to result }
+fn roughly(p: &[Compensated], from: f64, to: f64, positive: bool) -> ControlFlow<f64, (f64, f64)>
+    requires { (length p.now ≤ 9) × Span 2 from to × AllTidy p.now }
+    ensures { Inside.Rest (Of.evaluate p.now) positive from to result }
 {
     let mut lo = from;
     let mut hi = to;
     loop {
         let m = middle(lo, hi);
-        let sign = plain_sign(p, n, m);
-        if sign == 0.0 {
-            return Left::Between(lo, hi);
-        }
-        let left = narrowed_once(lo, hi, m, sign, positive);
-        match left {
-            Left::Result(x) => return Left::Result(x),
-            Left::Between(x, y) => {
-                lo = x;
-                hi = y;
-            }
-        }
+        let Some(sign) = plain_sign(p, m) else {
+            return ControlFlow::Continue((lo, hi));
+        };
+        (lo, hi) = narrowed_once(lo, hi, m, sign, positive)?;
     }
 }
 
 // Bisects the interval, by compensated values, until no float lies strictly inside.
-fn finely(p: &[f64], n: usize, from: f64, to: f64, positive: bool) -> f64
-    requires { (n ≤ 9) × Span 2 from to × (n + n ≤ length p.now) }
-    ensures { result ≡ Roots.bisected (Of.evaluate (take n (pairs p.now))) positive from to }
+fn finely(p: &[Compensated], from: f64, to: f64, positive: bool) -> f64
+    requires { Span 2 from to }
+    ensures { result ≡ Roots.bisected (Of.evaluate p.now) positive from to }
 {
     let mut lo = from;
     let mut hi = to;
     loop {
-        let left = narrowed(p, n, lo, hi, positive);
-        match left {
-            Left::Result(x) => return x,
-            Left::Between(x, y) => {
-                lo = x;
-                hi = y;
-            }
+        match narrowed(p, lo, hi, positive) {
+            ControlFlow::Break(x) => return x,
+            ControlFlow::Continue(left) => (lo, hi) = left,
         }
     }
 }
 
-// Bisects the interval until no float lies strictly inside; the value at `from` is positive where
-// `positive` says so.
-pub(crate) fn bisect(p: &[f64], n: usize, from: f64, to: f64, positive: bool) -> f64
-    requires { (n ≤ 9) × Span 2 from to × (n + n ≤ length p.now) }
-    ensures { result ≡ Roots.bisected (Of.evaluate (take n (pairs p.now))) positive from to }
+// Bisects the interval until no float lies strictly inside; the value at its lower end is positive
+// where `positive` says so.
+pub(crate) fn bisect(p: &[Compensated], at: Bounds, positive: bool) -> f64
+    requires { length p.now ≤ 9 }
+    ensures { result ≡ Roots.bisected (Of.evaluate p.now) positive at.lower at.upper }
 {
-    if all_tidy(p, n) {
-        let left = roughly(p, n, from, to, positive);
-        match left {
-            Left::Result(x) => return x,
-            Left::Between(x, y) => return finely(p, n, x, y, positive),
-        }
+    if !all_tidy(p) {
+        return finely(p, at.lower, at.upper, positive);
     }
-    finely(p, n, from, to, positive)
+    match roughly(p, at.lower, at.upper, positive) {
+        ControlFlow::Break(x) => x,
+        ControlFlow::Continue((lo, hi)) => finely(p, lo, hi, positive),
+    }
 }

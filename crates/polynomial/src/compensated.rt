@@ -1,35 +1,92 @@
 // Compensated numbers, from src/singularity/j1j2free.rs: a rounded value and its residual rounding
 // error, by value.
-ghost use Rattle.std.specs.Prelude.{◌≡◌, true};
-ghost use Rattle.float.specs.Promises.Halves.{halves, least, in_range};
+ghost use Rattle.std.specs.Prelude.{◌≡◌, IfSome};
+ghost use Rattle.float.specs.ProductError as ProductError;
 ghost use Rattle.polynomial.specs.Compensated as Of;
+ghost use Rattle.polynomial.specs.Promises.Inside.{finite_parts};
 
-use float::product_error::{Halves, error_by_halves, in_range, product_error};
+use arrayvec::ArrayVec;
+use float::number::is_finite;
+use float::product_error::{Halves, error_by_halves, product_error};
 
-#[derive(Clone, Copy)]
+#[derive(Clone, Copy, Default)]
 pub struct Compensated {
     pub high: f64,
     pub low: f64,
 }
 
-impl Compensated {
-    // A float with a residual of zero.
-    pub(crate) fn from(high: f64) -> Self
-        ensures { result ≡ Of.from high }
-    {
+// The coefficients of a polynomial: at most nine, the constant term first.
+pub type Coefficients = ArrayVec<Compensated, 9>;
+
+// A float with a residual of zero.
+impl From<f64> for Compensated {
+    ghost from_gives = { λ x r. r ≡ Of.from x };
+
+    fn from(high: f64) -> Self {
         Self { high, low: 0.0 }
     }
+}
 
+impl Compensated {
     // Adds both components and retains the rounding error.
     pub(crate) fn plus(self, other: Compensated) -> Self
         ensures { result ≡ Of.plus self other }
     {
         let sum = self.high + other.high;
         let virtual_other = sum - self.high;
-        let error = (self.high - (sum - virtual_other))
-            + (other.high - virtual_other)
-            + self.low
-            + other.low;
+        Compensated::rounded(
+            sum,
+            (self.high - (sum - virtual_other))
+                + (other.high - virtual_other)
+                + self.low
+                + other.low,
+        )
+    }
+
+    // Multiplies both components and retains the rounding error.
+    pub(crate) fn times(self, other: Compensated) -> Self
+        ensures { result ≡ Of.times self other }
+    {
+        self.product(other, product_error(self.high, other.high))
+    }
+
+    // The product with a float, where Dekker's halves serve both it and the high part.
+    pub(crate) fn times_by_halves(self, x: Halves) -> Option<Self>
+        ensures { IfSome result (λ r. r ≡ Of.times self (Of.from x.whole)) }
+    {
+        let error = error_by_halves(self.high, x)?;
+        Some(self.product(Compensated::from(x.whole), error))
+    }
+
+    // The product with a float whose halves, where they serve, are at hand.
+    pub(crate) fn times_by(self, x: f64, halves: Option<Halves>) -> Self
+        requires { IfSome halves (λ h. h.whole ≡ x) }
+        ensures { result ≡ Of.times self (Of.from x) }
+    {
+        if let Some(h) = halves {
+            if let Some(product) = self.times_by_halves(h) {
+                return product;
+            }
+        }
+        self.times(Compensated::from(x))
+    }
+
+    // The product, by the error of the product of the high parts.
+    fn product(self, other: Compensated, error: f64) -> Self
+        requires { error ≡ ProductError.product_error self.high other.high }
+        ensures { result ≡ Of.times self other }
+    {
+        let product = self.high * other.high;
+        Compensated::rounded(
+            product,
+            error + self.high * other.low + self.low * other.high + self.low * other.low,
+        )
+    }
+
+    // A sum and its error, as a rounded value and what is left of the error.
+    fn rounded(sum: f64, error: f64) -> Self
+        ensures { result ≡ Of.rounded sum error }
+    {
         let high = sum + error;
         Self {
             high,
@@ -37,57 +94,18 @@ impl Compensated {
         }
     }
 
-    // Multiplies both components and retains the rounding error.
-    pub(crate) fn times(self, other: Compensated) -> Self
-        ensures { result ≡ Of.times self other }
-    {
-        let product = self.high * other.high;
-        let error = product_error(self.high, other.high)
-            + self.high * other.low
-            + self.low * other.high
-            + self.low * other.low;
-        let high = product + error;
-        Self {
-            high,
-            low: error - (high - product),
-        }
-    }
-
-    // The product with a float, where Dekker's halves serve both it and the high part.
-    pub(crate) fn times_by_halves(self, x: Halves) -> Self
-        requires { (x ≡ halves x.whole) × (in_range least self.high ≡ true) × (x.fine ≡ true) }
-        ensures { result ≡ Of.times self (Of.from x.whole) }
-    {
-        let product = self.high * x.whole;
-        let error = error_by_halves(self.high, x)
-            + self.high * 0.0
-            + self.low * x.whole
-            + self.low * 0.0;
-        let high = product + error;
-        Self {
-            high,
-            low: error - (high - product),
-        }
-    }
-
-    // The product with a float whose halves are at hand.
-    pub(crate) fn times_by(self, x: Halves) -> Self
-        requires { x ≡ halves x.whole }
-        ensures { result ≡ Of.times self (Of.from x.whole) }
-    {
-        if in_range(self.high) {
-            if x.fine {
-                return self.times_by_halves(x);
-            }
-        }
-        self.times(Compensated::from(x.whole))
-    }
-
     // Both components rounded to one float.
     pub(crate) fn value(self) -> f64
         ensures { result ≡ Of.value self }
     {
         self.high + self.low
+    }
+
+    // Whether both components are finite.
+    pub(crate) fn is_finite(self) -> bool
+        ensures { result ≡ finite_parts self }
+    {
+        is_finite(self.high) && is_finite(self.low)
     }
 
     // Whether both components are zero.

@@ -18,28 +18,21 @@ fn negative(x: f64) -> bool
 pub(crate) fn passes(w: f64, v: f64) -> bool
     ensures { result ≡ passed v w }
 {
-    if w < v {
-        return true;
-    }
-    if v != v {
-        return w == w;
-    }
-    false
+    w < v || v.is_nan() && !w.is_nan()
 }
 
-// The first of `count` places that v does not go past, or count.
+// The first of `count` places that v does not go past, or count. What stands there may be in any
+// order, so it is not searched by halves.
 pub(crate) fn find(room: &[f64], count: usize, v: f64) -> usize
     requires { count ≤ length room.now }
     ensures { Found room.now count v result }
 {
-    let mut i = 0;
-    while i < count {
+    for i in 0..count {
         if !passes(room[i], v) {
             return i;
         }
-        i += 1;
     }
-    i
+    count
 }
 
 // Moves `many` values from `at` one place up, and puts v before them.
@@ -47,15 +40,8 @@ pub(crate) fn shift(room: &mut [f64], at: usize, many: usize, v: f64)
     requires { at + many < length room.old }
     ensures { room.new ≡ paste room.old at (v ∷ drop at room.old) (many + 1) }
 {
-    let mut carry = v;
-    let mut k = 0;
-    while k < many {
-        let next = room[at + k];
-        room[at + k] = carry;
-        carry = next;
-        k += 1;
-    }
-    room[at + many] = carry;
+    room.copy_within(at..at + many, at + 1);
+    room[at] = v;
 }
 
 // Puts v into the list in the first `count` places of room: the list's new length, or none where

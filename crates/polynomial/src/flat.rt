@@ -1,35 +1,23 @@
-// Coefficients laid out as floats, the two parts of each together, for the functions that bisection
-// calls at each step: a slice is lent to them, where an array by value would be copied for each call.
-ghost use Rattle.std.specs.Prelude.{◌≡◌, ◌+◌, ◌<◌, length, get_or};
+// The coefficients of a lent slice of floats: C lends floats.
+ghost use Rattle.std.specs.Prelude.{◌≡◌, ◌+◌, ◌≤◌, length};
 ghost use Rattle.polynomial.specs.Operation.{pairs};
-ghost use Rattle.polynomial.specs.Polynomial.{zero_pair};
 
-use crate::compensated::Compensated;
+use crate::compensated::{Coefficients, Compensated};
+use arrayvec::ArrayVec;
 
-// The parts of nine coefficients.
-pub(crate) fn spread(p: [Compensated; 9]) -> [f64; 18]
-    ensures { pairs result ≡ p }
+// The pairs of at most 18 floats.
+pub(crate) fn coefficients(s: &[f64]) -> Coefficients
+    requires { length s.now ≤ 18 }
+    ensures { result.items ≡ pairs s.now }
 {
-    let mut s = [0.0; 18];
-    let mut i = 0;
-    while i < 9 {
-        let c = p[i];
-        let at = i + i;
-        s[at] = c.high;
-        s[at + 1] = c.low;
-        i += 1;
+    let mut p = ArrayVec::new();
+    let mut left = s;
+    while let [high, low, rest @ ..] = left {
+        p.push(Compensated {
+            high: *high,
+            low: *low,
+        });
+        left = rest;
     }
-    s
-}
-
-// Coefficient i.
-pub(crate) fn pair_at(p: &[f64], i: usize) -> Compensated
-    requires { i + i + 1 < length p.now }
-    ensures { result ≡ get_or (pairs p.now) i zero_pair }
-{
-    let at = i + i;
-    Compensated {
-        high: p[at],
-        low: p[at + 1],
-    }
+    p
 }

@@ -1,5 +1,5 @@
 // How a root arose: touching or crossing (02, change 1).
-ghost use Rattle.std.specs.Prelude.{◌≡◌, ◌++◌, map, ◌≤◌, length, take, drop};
+ghost use Rattle.std.specs.Prelude.{◌≡◌, ◌++◌, map, ◌≤◌, length, drop};
 ghost use Rattle.polynomial.specs.Kinds as Kinds;
 
 // A root with its value: a partition point near zero, or the end of a bisection. The quotient of
@@ -10,42 +10,35 @@ pub enum Root {
     Crossing(f64),
 }
 
-// 1 for a touch and 2 for a crossing.
-pub(crate) fn kind(root: Root) -> u8
-    ensures { result ≡ Kinds.kind root }
-{
-    match root {
-        Root::Touch(_) => 1,
-        Root::Crossing(_) => 2,
-    }
-}
+// 1 for a touch and 2 for a crossing, as the C interface has it.
+impl From<Root> for u8 {
+    ghost from_gives = { λ r b. b ≡ Kinds.kind r };
 
-// The root x: a touch if one of the first `many` points near zero equals it.
-fn marked(near: &[f64], many: usize, x: f64) -> Root
-    requires { many ≤ length near.now }
-    ensures { result ≡ Kinds.marked (take many near.now) x }
-{
-    let mut i = 0;
-    while i < many {
-        let y = near[i];
-        i += 1;
-        if x == y {
-            return Root::Touch(x);
+    fn from(root: Root) -> u8 {
+        match root {
+            Root::Touch(_) => 1,
+            Root::Crossing(_) => 2,
         }
     }
-    Root::Crossing(x)
 }
 
-// The kinds of the first `count` roots, in the first places of kinds. What stands behind is left.
-pub(crate) fn mark(near: &[f64], many: usize, roots: &[f64], count: usize, kinds: &mut [u8])
-    requires { (many ≤ length near.now) × (count ≤ length roots.now) × (count ≤ length kinds.old) }
-    ensures { kinds.new ≡ map Kinds.kind (map (Kinds.marked (take many near.now)) (take count roots.now))
-        ++ drop count kinds.old }
+// The root x: a touch if one of the points near zero equals it.
+fn marked(near: &[f64], x: f64) -> Root
+    ensures { result ≡ Kinds.marked near.now x }
 {
-    let mut i = 0;
-    while i < count {
-        let x = roots[i];
-        kinds[i] = kind(marked(near, many, x));
-        i += 1;
+    if near.contains(&x) {
+        Root::Touch(x)
+    } else {
+        Root::Crossing(x)
+    }
+}
+
+// The kinds of the roots, in the first places of kinds. What stands behind is left.
+pub(crate) fn mark(near: &[f64], roots: &[f64], kinds: &mut [u8])
+    requires { length roots.now ≤ length kinds.old }
+    ensures { kinds.new ≡ map Kinds.kind (map (Kinds.marked near.now) roots.now) ++ drop (length roots.now) kinds.old }
+{
+    for (i, x) in roots.iter().enumerate() {
+        kinds[i] = u8::from(marked(near, *x));
     }
 }

@@ -4,11 +4,11 @@
 pub mod angle;
 pub mod arithmetic;
 pub mod bisection;
+pub mod bounds;
 pub mod compensated;
 pub mod curve;
 pub mod cuts;
 mod flat;
-pub mod inner;
 pub mod kinds;
 pub mod norm;
 pub mod operation;

@@ -1,11 +1,15 @@
 // The operation Roots of document 01, with its refusals in 01's order.
-ghost use Rattle.std.specs.Prelude.{◌≡◌, ◌++◌, ◌+◌, ◌≤◌, length, take, drop};
-ghost use Rattle.float.specs.Promises.Order.{Span};
+ghost use Rattle.std.specs.Prelude.{◌≡◌, ◌≤◌, length};
+ghost use Rattle.std.specs.List.{list_all};
 ghost use Rattle.polynomial.specs.Operation as Operation;
 ghost use Rattle.polynomial.specs.Roots as Roots;
 ghost use Rattle.polynomial.specs.Kinds as Kinds;
 
+use crate::bounds::Bounds;
+use crate::compensated::Compensated;
+use crate::flat;
 use crate::refusals::Refusal;
+use crate::roots::marked_roots;
 use float::number::abs;
 
 // 2^400.
@@ -33,71 +37,29 @@ pub(crate) fn part_holds(x: f64) -> bool
 
 // Whether every part is finite, and at most 2^400 in magnitude.
 fn parts_hold(s: &[f64]) -> bool
-    ensures { result ≡ Operation.parts_hold s.now }
+    ensures { result ≡ list_all Operation.part_holds s.now }
 {
-    let mut i = 0;
-    while i < s.len() {
-        let x = s[i];
-        i += 1;
-        if !part_holds(x) {
-            return false;
-        }
-    }
-    true
+    s.iter().all(|x| part_holds(*x))
 }
 
-// The first `count` numbers of `from`, written to the front of `to`.
-fn copy(from: &[f64], count: usize, to: &mut [f64])
-    requires { (count ≤ length from.now) × (count ≤ length to.old) }
-    ensures { to.new ≡ take count from.now ++ drop count to.old }
-{
-    let mut i = 0;
-    while i < count {
-        to[i] = from[i];
-        i += 1;
-    }
-}
-
-// As `copy`, for bytes.
-fn copy_bytes(from: &[u8], count: usize, to: &mut [u8])
-    requires { (count ≤ length from.now) × (count ≤ length to.old) }
-    ensures { to.new ≡ take count from.now ++ drop count to.old }
-{
-    let mut i = 0;
-    while i < count {
-        to[i] = from[i];
-        i += 1;
-    }
-}
-
-// The roots of n coefficients, found elsewhere first: the list may be too long for a slice.
-fn roots_apart(
-    coefficients: &[f64],
-    n: usize,
-    lower: f64,
-    upper: f64,
-    res: &mut [f64],
-    kinds: &mut [u8],
-) -> Result<usize, Refusal>
-    requires { (n ≤ 9) × Span 2 lower upper × (n + n ≤ length coefficients.now) }
-    ensures value { result ≡ Operation.fitted (length (Roots.roots_at n (take n (Operation.pairs coefficients.now)) lower upper))
-        (length res.old) (length kinds.old) }
-    ensures res_after { res.new ≡ Operation.filled result (Roots.roots_at n (take n (Operation.pairs coefficients.now)) lower upper)
-        res.old }
-    ensures kinds_after { kinds.new ≡ Operation.filled result (Kinds.kinds (take n (Operation.pairs coefficients.now)) lower upper)
-        kinds.old }
+// The roots, found elsewhere first: the list may be too long for a slice.
+fn roots_apart(p: &[Compensated], bounds: Bounds, res: &mut [f64], kinds: &mut [u8]) -> Result<usize, Refusal>
+    requires { length p.now ≤ 9 }
+    ensures value { result ≡ Operation.fitted (length (Roots.roots p.now bounds.lower bounds.upper)) (length res.old) (length kinds.old) }
+    ensures res_after { res.new ≡ Operation.filled result (Roots.roots p.now bounds.lower bounds.upper) res.old }
+    ensures kinds_after { kinds.new ≡ Operation.filled result (Kinds.kinds p.now bounds.lower bounds.upper) kinds.old }
 {
     let mut found = [0.0; 512];
     let mut arose = [0; 512];
-    let count = crate::roots::roots(coefficients, n, lower, upper, &mut found, &mut arose);
+    let count = marked_roots(p, bounds, &mut found, &mut arose);
     if res.len() < count {
         return Err(Refusal::ShortResult);
     }
     if kinds.len() < count {
         return Err(Refusal::ShortResult);
     }
-    copy(&found, count, res);
-    copy_bytes(&arose, count, kinds);
+    res[..count].copy_from_slice(&found[..count]);
+    kinds[..count].copy_from_slice(&arose[..count]);
     Ok(count)
 }
 
@@ -127,11 +89,14 @@ pub fn roots(
     if !parts_hold(coefficients) {
         return Err(Refusal::BadPart);
     }
-    let n = len / 2;
+    let bounds = Bounds { lower, upper };
+    let list = flat::coefficients(coefficients);
+    let p = list.as_slice();
+    let n = p.len();
     if 1 << n <= res.len() {
         if 1 << n <= kinds.len() {
-            return Ok(crate::roots::roots(coefficients, n, lower, upper, res, kinds));
+            return Ok(marked_roots(p, bounds, res, kinds));
         }
     }
-    roots_apart(coefficients, n, lower, upper, res, kinds)
+    roots_apart(p, bounds, res, kinds)
 }

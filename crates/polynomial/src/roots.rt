@@ -1,20 +1,20 @@
 // The root finder, from src/singularity/j1j2free.rs: the roots of degree d come from partition
 // points, and those from the derivative's roots; the degree falls.
-ghost use Rattle.std.specs.Prelude.{◌≡◌, true, [], ◌++◌, ◌+◌, ◌-◌, ◌^◌, ◌≤◌, ◌<◌, length, take, drop};
-ghost use Rattle.polynomial.specs.Operation.{pairs};
+ghost use Rattle.std.specs.Prelude.{◌≡◌, true, ◌++◌, ◌+◌, ◌^◌, ◌≤◌, ◌<◌, length, take, drop};
 ghost use Rattle.polynomial.specs.Cuts.{put};
 ghost use Rattle.polynomial.specs.Polynomial as Of;
 ghost use Rattle.polynomial.specs.Roots as Roots;
 ghost use Rattle.polynomial.specs.Kinds as Kinds;
 ghost use Rattle.float.specs.Promises.Order.{Span};
-ghost use Rattle.polynomial.specs.Promises.Inside.{Ready, Stands, one_if, touched, crossed, found, kinds_of};
+ghost use Rattle.polynomial.specs.Promises.Front.{Front};
+ghost use Rattle.polynomial.specs.Promises.Inside.{Ready, Stands, touched, crossed, found, kinds_of, points_of, counting_of};
 ghost use Rattle.polynomial.specs.Promises.Plain.{AllTidy};
 
 use crate::bisection::bisect;
+use crate::bounds::Bounds;
 use crate::compensated::Compensated;
 use crate::cuts::insert;
-use crate::flat::{pair_at, spread};
-use crate::kinds::{Root, kind, mark};
+use crate::kinds::mark;
 use crate::plain::{all_tidy, plain_sign};
 use crate::polynomial::{all_finite, derivative, evaluate, trimmed, value_near};
 use float::number::is_sign_positive;
@@ -32,10 +32,7 @@ pub struct Interval {
 fn crosses(u: f64, v: f64) -> bool
     ensures { result ≡ Roots.crosses u v }
 {
-    if u == 0.0 {
-        return false;
-    }
-    if v == 0.0 {
+    if u == 0.0 || v == 0.0 {
         return false;
     }
     is_sign_positive(u) != is_sign_positive(v)
@@ -50,78 +47,58 @@ pub(crate) fn keep(out: &mut [f64], k: usize, v: f64) -> usize
     insert(out, k, v).unwrap()
 }
 
-// The root of a + b * x, where it lies between the bounds, in the first place of out, and its kind.
-fn quotient(
-    a: Compensated,
-    b: Compensated,
-    lower: f64,
-    upper: f64,
-    out: &mut [f64],
-    kinds: &mut [u8],
-) -> usize
-    requires { (0 < length out.old) × (0 < length kinds.old) }
-    ensures value { (result ≡ length (Roots.quotient a b lower upper)) × (out.new ≡ Roots.quotient a b lower upper ++ drop result out.old) }
-    ensures kinds_after { kinds.new ≡ kinds_of [] (Roots.quotient a b lower upper) ++ drop result kinds.old }
-{
-    let root = -a.value() / b.value();
-    if lower <= root {
-        if root <= upper {
-            out[0] = root;
-            kinds[0] = kind(Root::Crossing(root));
-            return 1;
-        }
-    }
-    0
-}
-
 // Puts the end of the bisection between two points, whose values are u and v, into the cuts in the
 // first k places of out if the values cross zero.
-fn cross(p: &[f64], n: usize, at: Interval, out: &mut [f64], k: usize) -> usize
-    requires { (n ≤ 9) × (k < length out.old) × Span 2 at.lo at.hi × (n + n ≤ length p.now) }
-    ensures value { result ≡ length (crossed (Of.evaluate (take n (pairs p.now))) at (take k out.old)) }
-    ensures out_after { out.new ≡ crossed (Of.evaluate (take n (pairs p.now))) at (take k out.old) ++ drop result out.old }
+fn cross(p: &[Compensated], at: Interval, out: &mut [f64], k: usize) -> usize
+    requires { (length p.now ≤ 9) × (k < length out.old) × Span 2 at.lo at.hi }
+    ensures { Front (crossed (Of.evaluate p.now) at (take k out.old)) out.old result out.new }
 {
     if crosses(at.u, at.v) {
-        let root = bisect(p, n, at.lo, at.hi, is_sign_positive(at.u));
-        return keep(out, k, root);
+        let between = Bounds {
+            lower: at.lo,
+            upper: at.hi,
+        };
+        return keep(out, k, bisect(p, between, is_sign_positive(at.u)));
     }
     k
 }
 
-// What a look at a point gives: how many points near zero, one or none, a number that stands for the
-// value there, and how many cuts there are.
+// What a look at a point gives: whether it is near zero, a number that stands for the value there,
+// and how many cuts there are.
 #[derive(Clone, Copy)]
 pub struct Seen {
-    pub near: usize,
+    pub near: bool,
     pub v: f64,
     pub k: usize,
 }
 
 // Looks at x, and puts it into the cuts in the first k places of out if the value there is near zero.
 // Where plain arithmetic tells the value's sign, it is not, and the sign stands for it.
-fn look(p: &[f64], n: usize, tidy: bool, x: f64, out: &mut [f64], k: usize) -> Seen
-    requires { (n ≤ 9) × (k < length out.old) × (tidy ≡ true → AllTidy (take n (pairs p.now))) × (n + n ≤ length p.now) }
-    ensures near_value { result.near ≡ one_if (Of.near_zero (take n (pairs p.now)) x) }
-    ensures stands { Stands result.v (Of.evaluate (take n (pairs p.now)) x) }
-    ensures k_value { result.k ≡ length (touched (take n (pairs p.now)) x (take k out.old)) }
-    ensures out_after { out.new ≡ touched (take n (pairs p.now)) x (take k out.old) ++ drop result.k out.old }
+fn look(p: &[Compensated], tidy: bool, x: f64, out: &mut [f64], k: usize) -> Seen
+    requires { (length p.now ≤ 9) × (k < length out.old) × (tidy ≡ true → AllTidy p.now) }
+    ensures near_value { result.near ≡ Of.near_zero p.now x }
+    ensures stands { Stands result.v (Of.evaluate p.now x) }
+    ensures kept { Front (touched p.now x (take k out.old)) out.old result.k out.new }
 {
     if tidy {
-        let sign = plain_sign(p, n, x);
-        if sign != 0.0 {
+        if let Some(sign) = plain_sign(p, x) {
             return Seen {
-                near: 0,
+                near: false,
                 v: sign,
                 k,
             };
         }
     }
-    let v = evaluate(p, n, x);
-    if value_near(p, n, x, v) {
+    let v = evaluate(p, x);
+    if value_near(p, x, v) {
         let m = keep(out, k, x);
-        return Seen { near: 1, v, k: m };
+        return Seen {
+            near: true,
+            v,
+            k: m,
+        };
     }
-    Seen { near: 0, v, k }
+    Seen { near: false, v, k }
 }
 
 // How many roots a scan found, and how many points near zero.
@@ -131,124 +108,126 @@ pub struct Counts {
     pub near: usize,
 }
 
-// The points near zero and the ends of the bisections between neighbours, of the first `count`
-// points, as cuts in the first places of out. Each point is looked at once; those near zero are
-// gathered in the first places of points, where the others are no longer needed.
-fn scan(p: &[f64], n: usize, points: &mut [f64], count: usize, out: &mut [f64]) -> Counts
-    requires { (n ≤ 9) × (0 < count) × (count ≤ length points.old) × (count + count ≤ length out.old) ×
-        Ready (take count points.old) × (n + n ≤ length p.now) }
-    ensures near_le_count { (result.near ≤ count) × (take result.near points.new ≡
-        Roots.touches (take n (pairs p.now)) (take count points.old)) }
-    ensures roots_value { result.roots ≡ length (found (take n (pairs p.now)) (take count points.old)) }
-    ensures out_after { out.new ≡ found (take n (pairs p.now)) (take count points.old) ++ drop result.roots out.old }
+// The points near zero and the ends of the bisections between neighbours, as cuts in the first places
+// of out. Each point is looked at once; those near zero are gathered in the first places of points,
+// where the others are no longer needed.
+fn scan(p: &[Compensated], points: &mut [f64], out: &mut [f64]) -> Counts
+    requires { (length p.now ≤ 9) × (0 < length points.old) × (length points.old + length points.old ≤ length out.old) × Ready points.old }
+    ensures near { (result.near ≤ length points.old) × (take result.near points.new ≡ Roots.touches p.now points.old) }
+    ensures roots { Front (found p.now points.old) out.old result.roots out.new }
 {
-    let tidy = all_tidy(p, n);
+    let tidy = all_tidy(p);
     let mut lo = points[0];
-    let first = look(p, n, tidy, lo, out, 0);
+    let first = look(p, tidy, lo, out, 0);
     let mut u = first.v;
     let mut k = first.k;
-    let mut near = first.near;
-    let mut i = 1;
-    while i < count {
+    let mut near = usize::from(first.near);
+    for i in 1..points.len() {
         let hi = points[i];
-        let seen = look(p, n, tidy, hi, out, k);
+        let seen = look(p, tidy, hi, out, k);
         let v = seen.v;
-        let many = seen.k;
         points[near] = hi;
-        near += seen.near;
-        k = cross(p, n, Interval { lo, hi, u, v }, out, many);
+        near += usize::from(seen.near);
+        k = cross(p, Interval { lo, hi, u, v }, out, seen.k);
         lo = hi;
         u = v;
-        i += 1;
     }
     Counts { roots: k, near }
 }
 
-// The roots by the first `count` points, in the first places of out, and their kinds.
-fn roots_by(
-    p: &[f64],
-    n: usize,
-    points: &mut [f64],
-    count: usize,
-    out: &mut [f64],
-    kinds: &mut [u8],
-) -> usize
-    requires { (n ≤ 9) × (0 < count) × (count ≤ length points.old) × (count + count ≤ length out.old) ×
-        Ready (take count points.old) × (n + n ≤ length p.now) × (count + count ≤ length kinds.old) }
-    ensures value { (result ≡ length (found (take n (pairs p.now)) (take count points.old))) ×
-        (out.new ≡ found (take n (pairs p.now)) (take count points.old) ++ drop result out.old) }
-    ensures kinds_after { kinds.new ≡ kinds_of (Roots.touches (take n (pairs p.now)) (take count points.old))
-        (found (take n (pairs p.now)) (take count points.old)) ++ drop result kinds.old }
+// The coefficients that count: without the zeros at the end, and none where a part is not finite.
+fn counting(p: &[Compensated]) -> &[Compensated]
+    ensures { result.now ≡ counting_of p.now }
 {
-    let counts = scan(p, n, points, count, out);
-    let roots = counts.roots;
-    mark(points, counts.near, out, roots, kinds);
-    roots
+    let left = trimmed(p);
+    if all_finite(left) { left } else { &[] }
 }
 
-// The roots of the first n coefficients, in the first places of out, and their kinds. What stands
-// behind them is left.
-#[cycle(partitions_roots)]
-pub(crate) fn roots(
-    p: &[f64],
-    n: usize,
-    lower: f64,
-    upper: f64,
-    out: &mut [f64],
-    kinds: &mut [u8],
-) -> usize
-    requires { (n ≤ 9) × (2 ^ n ≤ length out.old) × Span 2 lower upper × (n + n ≤ length p.now) × (2 ^ n ≤ length kinds.old) }
-    ensures value { (result ≡ length (Roots.roots_at n (take n (pairs p.now)) lower upper)) ×
-        (out.new ≡ Roots.roots_at n (take n (pairs p.now)) lower upper ++ drop result out.old) }
-    ensures kinds_after { kinds.new ≡ Kinds.kinds (take n (pairs p.now)) lower upper ++ drop result kinds.old }
+// The root of a + b * x, where it lies between the bounds, in the first place of out.
+fn line_root(a: Compensated, b: Compensated, bounds: Bounds, out: &mut [f64]) -> usize
+    requires { 0 < length out.old }
+    ensures { Front (Roots.quotient a b bounds.lower bounds.upper) out.old result out.new }
 {
-    let m = trimmed(p, n);
-    if m < 2 {
-        return 0;
+    let root = -a.value() / b.value();
+    if bounds.lower <= root && root <= bounds.upper {
+        out[0] = root;
+        return 1;
     }
-    if !all_finite(p, m) {
-        return 0;
-    }
-    if m == 2 {
-        let a = pair_at(p, 0);
-        let b = pair_at(p, 1);
-        return quotient(a, b, lower, upper, out, kinds);
-    }
-    if m <= 5 {
+    0
+}
+
+// The roots of three coefficients or more, in the first places of out. The partition points, the
+// bounds with the derivative's roots between them, sorted, each once, come to the first places of
+// points; those near zero are left in front there.
+#[cycle(derivatives)]
+fn curve_roots(p: &[Compensated], bounds: Bounds, points: &mut [f64], out: &mut [f64]) -> Counts
+    requires { (2 < length p.now) × (length p.now ≤ 9) × (2 ^ length p.now ≤ length points.old) × (2 ^ length p.now ≤ length out.old) }
+    ensures near { (result.near ≤ length points.old) × (take result.near points.new ≡
+        Roots.touches p.now (points_of p.now bounds.lower bounds.upper)) }
+    ensures roots { Front (found p.now (points_of p.now bounds.lower bounds.upper)) out.old result.roots out.new }
+{
+    let k = roots(derivative(p).as_slice(), bounds, points);
+    let with_lower = keep(points, k, bounds.lower);
+    let count = keep(points, with_lower, bounds.upper);
+    scan(p, &mut points[..count], out)
+}
+
+// The roots, in the first places of out. What stands behind them is left.
+#[cycle(derivatives)]
+pub fn roots(p: &[Compensated], bounds: Bounds, out: &mut [f64]) -> usize
+    requires { (length p.now ≤ 9) × (2 ^ length p.now ≤ length out.old) }
+    ensures { Front (Roots.roots p.now bounds.lower bounds.upper) out.old result out.new }
+{
+    let left = counting(p);
+    match left.len() {
+        0 | 1 => 0,
+        2 => line_root(left[0], left[1], bounds, out),
         // fewer places have to be cleared than 512
-        let mut few = [0.0; 32];
-        let mut arose = [0; 16];
-        let count = partitions(p, m, lower, upper, &mut few, &mut arose);
-        return roots_by(p, m, &mut few, count, out, kinds);
+        3..=5 => curve_roots(left, bounds, &mut [0.0; 32], out).roots,
+        _ => curve_roots(left, bounds, &mut [0.0; 512], out).roots,
     }
-    let mut points = [0.0; 512];
-    let mut arose = [0; 256];
-    let count = partitions(p, m, lower, upper, &mut points, &mut arose);
-    roots_by(p, m, &mut points, count, out, kinds)
 }
 
-// The bounds with the derivative's roots between them, sorted, each once, in the first places of
-// points; the kinds of these roots, which a partition point is the same without, in those of arose.
-// What stands behind them is left.
-#[cycle(partitions_roots)]
-pub(crate) fn partitions(
-    p: &[f64],
-    n: usize,
-    lower: f64,
-    upper: f64,
+// As `curve_roots`, with the kinds of the roots in the first places of kinds.
+fn marked_curve(
+    p: &[Compensated],
+    bounds: Bounds,
     points: &mut [f64],
-    arose: &mut [u8],
+    out: &mut [f64],
+    kinds: &mut [u8],
 ) -> usize
-    requires { (2 < n) × (n ≤ 9) × (2 ^ n ≤ length points.old) × Span 2 lower upper × (n + n ≤ length p.now) × (2 ^ (n - 1) ≤ length arose.old) }
-    ensures value { (result ≡ length (Roots.partitions lower upper
-        (Roots.roots_at (n - 1) (Of.derivative (take n (pairs p.now))) lower upper))) ×
-        (points.new ≡ Roots.partitions lower upper
-        (Roots.roots_at (n - 1) (Of.derivative (take n (pairs p.now))) lower upper) ++ drop result points.old) }
-    ensures arose_after { arose.new ≡ Kinds.kinds (Of.derivative (take n (pairs p.now))) lower upper ++
-        drop (length (Roots.roots_at (n - 1) (Of.derivative (take n (pairs p.now))) lower upper)) arose.old }
+    requires { (2 < length p.now) × (length p.now ≤ 9) × (2 ^ length p.now ≤ length points.old) × (2 ^ length p.now ≤ length out.old) ×
+        (2 ^ length p.now ≤ length kinds.old) }
+    ensures value { Front (found p.now (points_of p.now bounds.lower bounds.upper)) out.old result out.new }
+    ensures kinds_after { kinds.new ≡ kinds_of (Roots.touches p.now (points_of p.now bounds.lower bounds.upper))
+        (found p.now (points_of p.now bounds.lower bounds.upper)) ++ drop result kinds.old }
 {
-    let d = spread(derivative(p, n));
-    let k = roots(&d, n - 1, lower, upper, points, arose);
-    let with_lower = keep(points, k, lower);
-    keep(points, with_lower, upper)
+    let counts = curve_roots(p, bounds, points, out);
+    mark(&points[..counts.near], &out[..counts.roots], kinds);
+    counts.roots
+}
+
+// As `roots`, with the kinds of the roots in the first places of kinds. A line's root is no partition
+// point, and so a crossing.
+pub(crate) fn marked_roots(
+    p: &[Compensated],
+    bounds: Bounds,
+    out: &mut [f64],
+    kinds: &mut [u8],
+) -> usize
+    requires { (length p.now ≤ 9) × (2 ^ length p.now ≤ length out.old) × (2 ^ length p.now ≤ length kinds.old) }
+    ensures value { Front (Roots.roots p.now bounds.lower bounds.upper) out.old result out.new }
+    ensures kinds_after { kinds.new ≡ Kinds.kinds p.now bounds.lower bounds.upper ++ drop result kinds.old }
+{
+    let left = counting(p);
+    match left.len() {
+        0 | 1 => 0,
+        2 => {
+            let count = line_root(left[0], left[1], bounds, out);
+            mark(&[], &out[..count], kinds);
+            count
+        }
+        3..=5 => marked_curve(left, bounds, &mut [0.0; 32], out, kinds),
+        _ => marked_curve(left, bounds, &mut [0.0; 512], out, kinds),
+    }
 }

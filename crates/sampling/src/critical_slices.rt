@@ -1,24 +1,24 @@
 // The cuts of joint 1 at the intersections and the vertical tangencies of curves, from
 // src/singularity/j1j2free.rs, put into the cuts in a lent slice.
-ghost use Rattle.std.specs.Prelude.{◌≡◌, ◌≤◌, ◌<◌, length, take};
+ghost use Rattle.std.specs.Prelude.{◌≡◌, ◌≤◌, ◌<◌, length, map};
 ghost use mathlib.Core.List.{flat_map};
-ghost use Rattle.polynomial.specs.Polynomial.{nine};
-ghost use Rattle.polynomial.specs.Promises.Lists.{All};
 ghost use Rattle.sampling.specs.Promises.Curves.{most_curves};
 ghost use Rattle.sampling.specs.Promises.Charts.{Bounded};
 ghost use Rattle.sampling.specs.Promises.Grown.{Grown};
 ghost use Rattle.sampling.specs.CriticalSlices as Of;
-ghost use Rattle.sampling.specs.Promises.Numerators.{first_three, first_threes, Threes, meetings};
+ghost use Rattle.sampling.specs.Promises.Numerators.{polynomials_of, meetings};
 
 use crate::boundaries::CURVES;
 use crate::work::push;
+use arrayvec::ArrayVec;
 use float::arc::atan;
 use float::number::middle;
 use float::trig::tan;
 use polynomial::arithmetic::{add, determinant, multiply};
-use polynomial::compensated::Compensated;
+use polynomial::bounds::Bounds;
+use polynomial::compensated::{Coefficients, Compensated};
 use polynomial::curve::{Curve, Numerators};
-use polynomial::inner::inner_roots;
+use polynomial::roots::roots;
 
 // The chart u = tan((q1 - origin) / 2): its origin and its bounds.
 #[derive(Clone, Copy)]
@@ -40,72 +40,53 @@ pub(crate) fn chart_of(lower: f64, upper: f64) -> Chart
     }
 }
 
-// The angles of the first n roots.
-fn angles(
-    work: &mut [f64],
-    cuts: Option<usize>,
-    origin: f64,
-    roots: &[f64],
-    n: usize,
-) -> Option<usize>
-    requires { n ≤ length roots.now }
-    ensures { Grown (Of.angles origin (take n roots.now)) work.old cuts work.new result }
+// The angles of the roots.
+fn angles(work: &mut [f64], cuts: Option<usize>, origin: f64, roots: &[f64]) -> Option<usize>
+    ensures { Grown (Of.angles origin roots.now) work.old cuts work.new result }
 {
     let mut state = cuts;
-    let mut i = 0;
-    while i < n {
-        let u = roots[i];
-        i += 1;
-        state = push(work, state, origin + 2.0 * atan(u));
+    for u in roots {
+        state = push(work, state, origin + 2.0 * atan(*u));
     }
     state
 }
 
-// An inner call of the root finder, for the first n coefficients. A cut is the same however it arose.
-fn chart_roots(
-    work: &mut [f64],
-    cuts: Option<usize>,
-    c: Chart,
-    p: [Compensated; 9],
-    n: usize,
-) -> Option<usize>
-    requires { (n ≤ 9) × Bounded c }
-    ensures { Grown (Of.chart_roots c (take n p)) work.old cuts work.new result }
+// An inner call of the root finder.
+fn chart_roots(work: &mut [f64], cuts: Option<usize>, c: Chart, p: &[Compensated]) -> Option<usize>
+    requires { (length p.now ≤ 9) × Bounded c }
+    ensures { Grown (Of.chart_roots c p.now) work.old cuts work.new result }
 {
     let mut found = [0.0; 512];
-    let mut kinds = [0; 512];
-    let m = inner_roots(p, n, c.lower, c.upper, &mut found, &mut kinds);
-    angles(work, cuts, c.origin, &found, m)
+    let bounds = Bounds {
+        lower: c.lower,
+        upper: c.upper,
+    };
+    let m = roots(p, bounds, &mut found);
+    angles(work, cuts, c.origin, &found[..m])
 }
 
-// p * p + q * q - r * r, of n coefficients each.
-fn squares(
-    p: [Compensated; 9],
-    q: [Compensated; 9],
-    r: [Compensated; 9],
-    n: usize,
-) -> [Compensated; 9]
-    requires { (0 < n) × (n ≤ 5) }
-    ensures { result ≡ nine (Of.squares (take n p) (take n q) (take n r)) }
+// p * p + q * q - r * r, of as many coefficients each.
+fn squares(p: &[Compensated], q: &[Compensated], r: &[Compensated]) -> Coefficients
+    requires { (0 < length p.now) × (length p.now ≤ 5) × (length q.now ≡ length p.now) × (length r.now ≡ length p.now) }
+    ensures { result.items ≡ Of.squares p.now q.now r.now }
 {
-    let m = n + n - 1;
-    let sum = add(multiply(p, n, p, n), multiply(q, n, q, n), m, 1.0);
-    add(sum, multiply(r, n, r, n), m, -1.0)
+    let sum = add(multiply(p, p).as_slice(), multiply(q, q).as_slice(), 1.0);
+    add(sum.as_slice(), multiply(r, r).as_slice(), -1.0)
 }
 
 // The polynomial of a curve's vertical tangencies.
-fn tangency(k: Numerators) -> [Compensated; 9]
-    ensures { result ≡ nine (Of.tangency (first_three k)) }
+fn tangency(k: Numerators) -> Coefficients
+    ensures { result.items ≡ Of.tangency (polynomials_of k) }
 {
     let a = k.a;
     let b = k.b;
     let c = k.c;
-    squares(a, b, c, 3)
+    squares(&a, &b, &c)
 }
 
 // The polynomial of the intersections of two curves.
-fn intersection(k: Numerators, l: Numerators) -> [Compensated; 9]
-    ensures { result ≡ nine (Of.intersection (first_three k) (first_three l)) }
+fn intersection(k: Numerators, l: Numerators) -> Coefficients
+    ensures { result.items ≡ Of.intersection (polynomials_of k) (polynomials_of l) }
 {
     let a = k.a;
     let b = k.b;
@@ -113,62 +94,39 @@ fn intersection(k: Numerators, l: Numerators) -> [Compensated; 9]
     let d = l.a;
     let e = l.b;
     let f = l.c;
-    let denominator = determinant(a, e, d, b, 3, 3);
-    let cosine = determinant(b, f, e, c, 3, 3);
-    let sine = determinant(c, d, f, a, 3, 3);
-    squares(cosine, sine, denominator, 5)
+    let denominator = determinant(&a, &e, &d, &b);
+    let cosine = determinant(&b, &f, &e, &c);
+    let sine = determinant(&c, &d, &f, &a);
+    squares(cosine.as_slice(), sine.as_slice(), denominator.as_slice())
 }
 
-// A later curve, k, with each of the earlier ones at the places below `later`, which are the first
-// operands.
-fn meetings(
-    work: &mut [f64],
-    cuts: Option<usize>,
-    c: Chart,
-    at: [Numerators; CURVES],
-    later: usize,
-    k: Numerators,
-) -> Option<usize>
-    requires { (later ≤ most_curves) × All Threes (take later at) × Bounded c }
-    ensures { Grown (flat_map (Of.chart_roots c) (meetings (first_threes (take later at)) (first_three k))) work.old cuts
+// A later curve, k, with each of the earlier ones, which are the first operands.
+fn meetings(work: &mut [f64], cuts: Option<usize>, c: Chart, earlier: &[Numerators], k: Numerators) -> Option<usize>
+    requires { Bounded c }
+    ensures { Grown (flat_map (Of.chart_roots c) (meetings (map polynomials_of earlier.now) (polynomials_of k))) work.old cuts
         work.new result }
 {
     let mut state = cuts;
-    let mut earlier = 0;
-    while earlier < later {
-        let e = at[earlier];
-        earlier += 1;
-        state = chart_roots(work, state, c, intersection(e, k), 9);
+    for e in earlier {
+        let both = intersection(*e, k);
+        state = chart_roots(work, state, c, both.as_slice());
     }
     state
 }
 
 // Each of the curves alone, then with each earlier one, whose polynomials are kept.
-pub(crate) fn critical(
-    work: &mut [f64],
-    cuts: Option<usize>,
-    c: Chart,
-    curves: &[Curve],
-) -> Option<usize>
+pub(crate) fn critical(work: &mut [f64], cuts: Option<usize>, c: Chart, curves: &[Curve]) -> Option<usize>
     requires { (length curves.now ≤ most_curves) × Bounded c }
     ensures { Grown (Of.critical c curves.now) work.old cuts work.new result }
 {
-    let zero = [Compensated {
-        high: 0.0,
-        low: 0.0,
-    }; 9];
-    let none = Numerators {
-        a: zero,
-        b: zero,
-        c: zero,
-    };
-    let mut known = [none; CURVES];
+    let mut known: ArrayVec<Numerators, CURVES> = ArrayVec::new();
     let mut state = cuts;
-    for (j, curve) in curves.iter().enumerate() {
+    for curve in curves {
         let k = curve.polynomials(c.origin);
-        let alone = chart_roots(work, state, c, tangency(k), 5);
-        state = meetings(work, alone, c, known, j, k);
-        known[j] = k;
+        let own = tangency(k);
+        let alone = chart_roots(work, state, c, own.as_slice());
+        state = meetings(work, alone, c, known.as_slice(), k);
+        known.push(k);
     }
     state
 }

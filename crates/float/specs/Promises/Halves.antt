@@ -1,9 +1,8 @@
 -- Dekker's halves of an operand, and the range in which they serve it. Definitions only.
-use Rattle.std.specs.Prelude.{Bool, true, false, cond, pos, negsuc, Float}
+use Rattle.std.specs.Prelude.{◌≡◌, Bool, true, false, cond, pos, negsuc, Float}
 use Rattle.std.specs.Float.{fin}
 use Rattle.std.specs.Float.Ieee.{neg, lt, le, eq}
 use Rattle.float.specs.Number.{◌⊖◌, ◌⊗◌, zero_float}
-use Rattle.float.specs.declared.product_error.Halves.{Halves}
 
 -- 2 ^ 400, and the least magnitudes, 2 ^ -200 and 2 ^ -768: of an operand, and of one in its halves
 abbrev pub most : Float
@@ -23,7 +22,7 @@ unfoldable pub in_range : Float → Float → Bool
 unfolding sized
 in_range low x = cond (lt x zero_float) (sized low (neg x)) (sized low x)
 
--- The halves of an operand, by Dekker's split at 2 ^ 27 + 1, and whether they serve it: for one that meets many others.
+-- The halves of an operand, by Dekker's split at 2 ^ 27 + 1.
 abbrev pub splitter : Float
 splitter = fin false 134217729 (pos 0)
 
@@ -33,5 +32,8 @@ high_half x = splitter ⊗ x ⊖ (splitter ⊗ x ⊖ x)
 abbrev pub low_half : Float → Float
 low_half x = x ⊖ high_half x
 
-unfoldable pub halves : Float → Halves
-halves x = record { whole = x; high = high_half x; low = low_half x; fine = in_range least_halved x }
+-- these are the halves of `whole`, and they serve it
+pub record Halved (whole high low : Float) : Type 0 where
+  pub high_is : high ≡ high_half whole
+  pub low_is : low ≡ low_half whole
+  pub serve : in_range least_halved whole ≡ true

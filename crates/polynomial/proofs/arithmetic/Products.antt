@@ -1,14 +1,9 @@
 -- A product of polynomials: a coefficient with one more place, and one more coefficient.
-use Prim.Native.Nat.{ℕ, suc, ◌+◌, ◌-◌, ◌≤◌, ◌<◌, min}
-use native.Mathlib.Numerals.{add-one}
-use native.Mathlib.Omega.{arith}
-use mathlib.Core.Path.{◌≡◌, refl, sym, ap, ap₂, ◌∙◌}
-use mathlib.Core.List.{List, ◌∷◌, ◌++◌, append-nil}
-use lib.ListN.{length, get_or, set, take}
-use lib.Seq.{get_or-take, length-take-le}
+use Rattle.std.proofs.Common.{◌≡◌, ℕ, suc, ◌+◌, ◌-◌, ◌≤◌, ◌<◌, List, [], ◌∷◌, ◌++◌, length, get_or, refl, sym, ap, ap₂, ◌∙◌, append_assoc, add-one, arith}
+use mathlib.Core.List.{append-nil}
 use Rattle.polynomial.specs.Compensated.{plus, times}
-use Rattle.polynomial.specs.Polynomial.{zero_pair, column, first_place, coefficient, coefficients, multiply}
-use Rattle.polynomial.specs.Laws.Lists.{get_d_any, store_more}
+use Rattle.polynomial.specs.Polynomial.{zero_pair, column, coefficient, coefficients, multiply}
+use Rattle.polynomial.specs.Laws.Lists.{get_d_any}
 use Rattle.polynomial.specs.declared.compensated.Compensated.{Compensated}
 
 -- ---- one coefficient
@@ -17,56 +12,42 @@ next_place : (a b : List Compensated) (k i count : ℕ) (sum : Compensated)
 unfolding column
 next_place a b k i count sum = refl
 
-place : (l : List Compensated) (n i : ℕ) (z : Compensated) → i < n → n ≤ length l → get_or (take n l) i zero_pair ≡ get_or l i z
-place l n i z h k = get_or-take n l i zero_pair h ∙ get_d_any l i zero_pair z (omega arith)
-
-module _ (a b : List Compensated) (n m k : ℕ) (h : n ≤ length a) (l : m ≤ length b) (i end : ℕ) (sum : Compensated) where
-  pub column_start : i ≡ first_place m k → end ≡ min (k + 1) n → sum ≡ zero_pair
-      → column (take n a) (take m b) k i (end - i) sum ≡ coefficient (take n a) (take m b) k
-  column_start e1 e2 e3 = simp (e1, e2, e3, length-take-le n a h, length-take-le m b l)
-
-  pub column_more : (y z product next : Compensated) → i < end → i < n → k - i < m → product ≡ times (get_or a i y) (get_or b (k - i) z)
-      → next ≡ plus sum product
-      → column (take n a) (take m b) k i (end - i) sum ≡ column (take n a) (take m b) k (i + 1) (end - (i + 1)) next
+module _ (a b : List Compensated) (k i end : ℕ) (sum : Compensated) where
+  pub column_more : (y z product next : Compensated) → i < end → i < length a → k - i < length b
+      → product ≡ times (get_or a i y) (get_or b (k - i) z) → next ≡ plus sum product
+      → column a b k (i + 1) (end - (i + 1)) next ≡ column a b k i (end - i) sum
   column_more y z product next I N M e1 e2 =
       let e : end - i ≡ suc (end - (i + 1)) = omega arith in
-      let more = e2 ∙ ap (plus sum) (e1 ∙ sym (ap₂ times (place a n i y N h) (place b m (k - i) z M l))) in
-      ap (λ (count : ℕ). column (take n a) (take m b) k i count sum) e
-      ∙ next_place (take n a) (take m b) k i (end - (i + 1)) sum
-      ∙ ap₂ (λ (j : ℕ) (c : Compensated). column (take n a) (take m b) k j (end - (i + 1)) c) (sym (add-one i)) (sym more)
+      let more = e2 ∙ ap (plus sum) (e1 ∙ ap₂ times (get_d_any a i y zero_pair N) (get_d_any b (k - i) z zero_pair M)) in
+      ap₂ (λ (j : ℕ) (c : Compensated). column a b k j (end - (i + 1)) c) (add-one i) more
+      ∙ sym (ap (λ (count : ℕ). column a b k i count sum) e ∙ next_place a b k i (end - (i + 1)) sum)
 
-  pub column_end : end ≤ i → column (take n a) (take m b) k i (end - i) sum ≡ sum
+  pub column_end : end ≤ i → sum ≡ column a b k i (end - i) sum
   unfolding column
-  column_end g = let e : end - i ≡ 0 = omega arith in ap (λ (count : ℕ). column (take n a) (take m b) k i count sum) e
+  column_end g = let e : 0 ≡ end - i = omega arith in ap (λ (count : ℕ). column a b k i count sum) e
 
 -- ---- all of them
 next_coefficient : (a b : List Compensated) (k count : ℕ) → coefficients a b k (suc count) ≡ coefficient a b k ∷ coefficients a b (suc k) count
 unfolding coefficients
 next_coefficient a b k count = refl
 
-pub product_start : (a b : List Compensated) (n m : ℕ) → n ≤ length a → m ≤ length b
-    → multiply (take n a) (take m b) ≡ coefficients (take n a) (take m b) 0 (n + m - 1 - 0)
+pub product_start : (a b r : List Compensated) → r ≡ [] → r ++ coefficients a b 0 (length a + length b - 1 - 0) ≡ multiply a b
 unfolding multiply
-product_start a b n m h k =
-    let x = length-take-le n a h in
-    let y = length-take-le m b k in
-    let e : length (take n a) + length (take m b) - 1 ≡ n + m - 1 - 0 = omega arith in
-    ap (coefficients (take n a) (take m b) 0) e
+product_start a b r e =
+    let n : length a + length b - 1 - 0 ≡ length a + length b - 1 = omega arith in
+    ap₂ (λ t (count : ℕ). t ++ coefficients a b 0 count) e n
 
 module _ (a b r : List Compensated) (k count : ℕ) where
-  pub product_more : (v : Compensated) → k < count → count ≤ length r → v ≡ coefficient a b k
-      → take k r ++ coefficients a b k (count - k) ≡ take (k + 1) (set r k v) ++ coefficients a b (k + 1) (count - (k + 1))
-  product_more v K h e =
-      let s : count - k ≡ suc (count - (k + 1)) = omega arith in
-      ap (λ (t : List Compensated). take k r ++ t)
-      (ap (coefficients a b k) s
-      ∙ next_coefficient a b k (count - (k + 1))
-      ∙ ap₂ (λ (c : Compensated) (j : ℕ). c ∷ coefficients a b j (count - (k + 1))) (sym e) (sym (add-one k)))
-      ∙ store_more k r (coefficients a b (k + 1) (count - (k + 1))) v (omega arith)
+  pub product_more : (v : Compensated) (s : List Compensated) → k < count → s ≡ r ++ v ∷ [] → v ≡ coefficient a b k
+      → s ++ coefficients a b (k + 1) (count - (k + 1)) ≡ r ++ coefficients a b k (count - k)
+  product_more v s K e f =
+      let rest = coefficients a b (suc k) (count - (k + 1)) in
+      let n : count - k ≡ suc (count - (k + 1)) = omega arith in
+      ap₂ (λ t (j : ℕ). t ++ coefficients a b j (count - (k + 1))) e (add-one k)
+      ∙ append_assoc r (v ∷ []) rest
+      ∙ ap (λ c. r ++ c ∷ rest) f
+      ∙ sym (ap (λ (j : ℕ). r ++ coefficients a b k j) n ∙ ap (λ t. r ++ t) (next_coefficient a b k (count - (k + 1))))
 
-  pub product_end : count ≤ k → k ≤ count → take k r ++ coefficients a b k (count - k) ≡ take count r
+  pub product_end : count ≤ k → r ≡ r ++ coefficients a b k (count - k)
   unfolding coefficients
-  product_end g h =
-      let e : count - k ≡ 0 = omega arith in
-      let f : k ≡ count = omega arith in
-      ap (λ (j : ℕ). take k r ++ coefficients a b k j) e ∙ append-nil (take k r) ∙ ap (λ (j : ℕ). take j r) f
+  product_end g = let e : 0 ≡ count - k = omega arith in sym (append-nil r) ∙ ap (λ (j : ℕ). r ++ coefficients a b k j) e

@@ -1,33 +1,29 @@
--- A sum of polynomials: what is stored, and the sum of the coefficients from i on.
-use Prim.Native.Nat.{ℕ, ◌+◌, ◌≤◌, ◌<◌}
-use native.Mathlib.Numerals.{add-one}
-use native.Mathlib.Omega.{arith}
-use mathlib.Core.Path.{◌≡◌, sym, ap, ap₂, ◌∙◌}
-use mathlib.Core.List.{List, ◌∷◌, ◌++◌, append-nil}
-use lib.ListN.{length, get_or, set, take}
-use lib.Seq.{slice, slice-cons, slice_empty}
+-- A sum of polynomials: what is stored, and the sum of the coefficients that are left.
+use Rattle.std.proofs.Common.{◌≡◌, List, [], ◌∷◌, ◌++◌, length, sym, ap, ap₂, ◌∙◌, append_assoc}
+use mathlib.Core.List.{append-nil}
 use lib.Ieee.{Float}
 use Rattle.polynomial.specs.Compensated.{from, plus, times}
 use Rattle.polynomial.specs.Polynomial.{zero_pair, add}
-use Rattle.polynomial.specs.Laws.Lists.{store_more}
 use Rattle.polynomial.specs.declared.compensated.Compensated.{Compensated}
 
-module _ (a b r : List Compensated) (n i : ℕ) (scale : Float) where
-  module _ (y z factor start first product v : Compensated) (I : i < n) (h : n ≤ length a) (k : n ≤ length b) (l : n ≤ length r) where
-    pub add_more : factor ≡ from scale → start ≡ zero_pair → first ≡ plus start (get_or a i y) → product ≡ times (get_or b i z) factor → v ≡ plus first product
-        → take i r ++ add (slice i n a) (slice i n b) scale ≡ take (i + 1) (set r i v) ++ add (slice (i + 1) n a) (slice (i + 1) n b) scale
-    unfolding add
-    add_more ef es e1 e2 e3 =
-        let sum = e3 ∙ ap₂ plus (e1 ∙ ap (λ (s : Compensated). plus s (get_or a i y)) es) (e2 ∙ ap (times (get_or b i z)) ef) in
-        ap (λ (t : List Compensated). take i r ++ t)
-        (ap₂ (λ (s t : List Compensated). add s t scale) (slice-cons i n a y I h) (slice-cons i n b z I k)
-        ∙ ap₂ (λ (c : Compensated) (j : ℕ). c ∷ add (slice j n a) (slice j n b) scale) (sym sum) (sym (add-one i)))
-        ∙ store_more i r (add (slice (i + 1) n a) (slice (i + 1) n b) scale) v (omega arith)
-
-  pub add_end : n ≤ i → i ≤ n → take i r ++ add (slice i n a) (slice i n b) scale ≡ take n r
+module _ (scale : Float) (all a b d : List Compensated) (whole : d ++ add a b scale ≡ all) where
+  pub add_on : (x y factor start first product v : Compensated) (xs ys e : List Compensated) → a ≡ x ∷ xs → b ≡ y ∷ ys
+      → factor ≡ from scale → start ≡ zero_pair → first ≡ plus start x → product ≡ times y factor → v ≡ plus first product → e ≡ d ++ v ∷ []
+      → e ++ add xs ys scale ≡ all
   unfolding add
-  add_end g h =
-      let e : i ≡ n = omega arith in
-      ap (λ (j : ℕ). take j r ++ add (slice j n a) (slice j n b) scale) e
-      ∙ ap₂ (λ (s t : List Compensated). take n r ++ add s t scale) (slice_empty n a) (slice_empty n b)
-      ∙ append-nil (take n r)
+  add_on x y factor start first product v xs ys e ea eb ef es e1 e2 e3 stored =
+      let sum : v ≡ plus (plus zero_pair x) (times y (from scale)) =
+      e3 ∙ ap₂ plus (e1 ∙ ap (λ s. plus s x) es) (e2 ∙ ap (times y) ef) in
+      ap (λ t. t ++ add xs ys scale) stored ∙ append_assoc d (v ∷ []) (add xs ys scale)
+      ∙ ap (λ c. d ++ c ∷ add xs ys scale) sum
+      ∙ sym (ap₂ (λ s t. d ++ add s t scale) ea eb)
+      ∙ whole
+
+  pub add_end : length a ≡ 0 → length b ≡ 0 → d ≡ all
+  unfolding add
+  add_end x y = go a b x y whole
+    where
+      go : (a b : List Compensated) → length a ≡ 0 → length b ≡ 0 → d ++ add a b scale ≡ all → d ≡ all
+      go [] [] x y w = sym (append-nil d) ∙ w
+      go [] (c ∷ b) x y w = absurd (cc)
+      go (c ∷ a) b x y w = absurd (cc)

@@ -1,53 +1,33 @@
 -- The target of a squared norm: the denominator's square, and what is multiplied so far.
-use Prim.Native.Nat.{ℕ, suc, ◌+◌, ◌≤◌, ◌<◌}
-use native.Mathlib.Numerals.{add-one}
-use native.Mathlib.Omega.{arith}
-use mathlib.Core.Path.{◌≡◌, sym, ap, ap₂, ◌∙◌}
-use mathlib.Core.List.{List, [], ◌∷◌, ◌++◌, append-nil}
-use lib.ListN.{length, get_or, set, take, drop, replicate}
-use lib.Seq.{slice, slice-cons, slice_empty, take-set-lt, drop-set-lt}
-use lib.Ieee.{Float, binary64, of_bits}
+use Rattle.std.proofs.Common.{◌≡◌, ℕ, suc, ◌+◌, ◌≤◌, ◌<◌, List, [], ◌∷◌, ◌++◌, length, get_or, drop, sym, ap, ap₂, ◌∙◌, append_assoc, add-one}
+use mathlib.Core.List.{append-nil}
+use lib.Seq.{drop-cons}
+use lib.ListN.{drop_of_length-le}
+use lib.Ieee.{Float, of_bits, binary64}
+use Rattle.float.specs.Laws.Literals.{one_bits}
 use Rattle.float.specs.Laws.Zero.{zero_bits}
 use Rattle.polynomial.specs.Compensated.{from, times}
-use Rattle.polynomial.specs.Polynomial.{zero_pair, nine, multiply}
+use Rattle.polynomial.specs.Polynomial.{multiply}
 use Rattle.polynomial.specs.Curve.{times_each, target}
-use Rattle.polynomial.specs.Laws.Lists.{store_more}
-use Rattle.polynomial.specs.Laws.Nine.{multiply_front, multiply_behind}
-use Rattle.float.specs.Laws.Literals.{one_bits}
 use Rattle.polynomial.specs.declared.compensated.Compensated.{Compensated}
 
-module _ (norm : Float) (n squared first last : Compensated) (square : List Compensated) where
-  -- the denominator, as the code writes it
-  abbrev written : List Compensated
-  written = first ∷ record { high = of_bits binary64 0; low = of_bits binary64 0 } ∷ last ∷ []
+pub target_start : (norm : Float) (n squared one zero : Compensated) (square r : List Compensated) → n ≡ from norm → squared ≡ times n n
+    → one ≡ from (of_bits binary64 0x3ff0_0000_0000_0000) → zero ≡ from (of_bits binary64 0)
+    → square ≡ multiply (one ∷ zero ∷ one ∷ []) (one ∷ zero ∷ one ∷ []) → r ≡ [] → r ++ times_each square squared ≡ target norm
+unfolding target
+target_start norm n squared one zero square r e0 e1 e2 e3 e4 e5 = simp (e5, e4, e1, e0, e2, e3, one_bits, zero_bits)
 
-  pub target_start : n ≡ from norm
-      → squared ≡ times n n
-      → first ≡ from (of_bits binary64 0x3ff0_0000_0000_0000)
-      → last ≡ from (of_bits binary64 0x3ff0_0000_0000_0000)
-      → square ≡ nine (multiply written written)
-      → target norm ≡ times_each (take 5 square) squared
-  unfolding target
-  target_start e0 e1 e2 e3 e4 = sym (simp (multiply_front square written written 3 3 e4 (omega arith) (omega arith), e1, e0, e2, e3, one_bits, zero_bits))
-
-  pub target_behind : square ≡ nine (multiply written written) → drop 5 square ≡ replicate 4 zero_pair
-  target_behind e = multiply_behind square written written 3 3 e (omega arith) (omega arith)
-
-module _ (r : List Compensated) (n i : ℕ) (factor : Compensated) where
-  pub times_more : (z v : Compensated) → i < n → n ≤ length r → v ≡ times (get_or r i z) factor
-      → take i r ++ times_each (slice i n r) factor ≡ take (i + 1) (set r i v) ++ times_each (slice (i + 1) n (set r i v)) factor
+module _ (square r : List Compensated) (i : ℕ) (factor : Compensated) where
+  pub times_more : (z v : Compensated) (s : List Compensated) → i < length square → s ≡ r ++ v ∷ [] → v ≡ times (get_or square i z) factor
+      → s ++ times_each (drop (i + 1) square) factor ≡ r ++ times_each (drop i square) factor
   unfolding times_each
-  times_more z v I h e =
-      let rest : slice (suc i) n r ≡ slice (i + 1) n (set r i v) = ap (λ (j : ℕ). slice j n r) (sym (add-one i))
-      ∙ sym (ap (drop (i + 1)) (take-set-lt n r i v I) ∙ drop-set-lt (i + 1) (take n r) i v (omega arith)) in
-      ap (λ (t : List Compensated). take i r ++ t)
-      (ap (λ (t : List Compensated). times_each t factor) (slice-cons i n r z I h)
-      ∙ ap₂ (λ (c : Compensated) (t : List Compensated). c ∷ times_each t factor) (sym e) rest)
-      ∙ store_more i r (times_each (slice (i + 1) n (set r i v)) factor) v (omega arith)
+  times_more z v s I e f =
+      let rest = times_each (drop (suc i) square) factor in
+      ap₂ (λ t (j : ℕ). t ++ times_each (drop j square) factor) e (add-one i)
+      ∙ append_assoc r (v ∷ []) rest
+      ∙ ap (λ c. r ++ c ∷ rest) f
+      ∙ sym (ap (λ t. r ++ times_each t factor) (drop-cons square i z I))
 
-  pub times_end : n ≤ i → i ≤ n → take i r ++ times_each (slice i n r) factor ≡ take n r
+  pub times_end : length square ≤ i → r ≡ r ++ times_each (drop i square) factor
   unfolding times_each
-  times_end g h =
-      let e : i ≡ n = omega arith in
-      ap (λ (j : ℕ). take j r ++ times_each (slice j n r) factor) e ∙ ap (λ (t : List Compensated). take n r ++ times_each t factor) (slice_empty n r)
-      ∙ append-nil (take n r)
+  times_end h = sym (append-nil r) ∙ ap (λ t. r ++ times_each t factor) (sym (drop_of_length-le square h))

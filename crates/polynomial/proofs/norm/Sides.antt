@@ -19,7 +19,8 @@ use Rattle.polynomial.specs.Promises.Lists.{Fit}
 use Rattle.polynomial.specs.Laws.Cuts.{cuts_snoc, put_most, put_longer, fit_append}
 use Rattle.polynomial.specs.Laws.Norm.{inner_few, half_roots_few}
 use Rattle.polynomial.specs.Laws.Wrapped.{wrapped_fits}
-use Rattle.polynomial.proofs.roots.Kept.{Front, front_take, front_rest}
+use Rattle.polynomial.specs.Promises.Front.{Front}
+use Rattle.polynomial.proofs.roots.Kept.{front_take, front_rest}
 
 -- ---- values put one after the other
 

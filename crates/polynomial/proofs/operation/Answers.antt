@@ -1,15 +1,20 @@
 -- The operation's answer, by its tests.
-use Rattle.std.specs.Prelude.{Ok, Err}
-use Prim.Native.Nat.{ℕ, ◌%◌, ◌≤◌, ◌<◌}
+use Prim.Native.Nat.{ℕ, ◌*◌, ◌%◌, ◌^◌, ◌≤◌, ◌<◌}
+use native.Mathlib.Nat.{le_refl}
+use native.Mathlib.Omega.{arith}
 use mathlib.Core.Path.{◌≡◌, sym}
 use mathlib.Core.Bool.{true, false}
 use mathlib.Core.List.{List}
 use lib.ListN.{length}
+use lib.Pow.{pow_mono}
 use lib.Ieee.{Float}
-use borrow.Author.Tests.{lt-ltb, le-ltb, le-leb, lt-leb, eq-eqb, ne_eqb}
+use borrow.Author.Tests.{lt-ltb, le-ltb, le-leb, eq-eqb, ne_eqb}
 use Rattle.polynomial.specs.Roots.{roots}
+use Rattle.polynomial.specs.Laws.Enclosed.{all_most}
+use Rattle.polynomial.specs.declared.compensated.Compensated.{Compensated}
 use Rattle.polynomial.specs.Operation.{pairs, bounds_hold, parts_hold, fitted, answer}
-use Rattle.polynomial.specs.declared.refusals.Refusal.TheVariants.{BadLength, BadBounds, BadPart, ShortResult}
+use Rattle.std.specs.Prelude.{Ok, Err}
+use Rattle.polynomial.specs.declared.refusals.Refusal.TheVariants.{BadLength, BadBounds, BadPart}
 
 module _ (s : List Float) (lo hi : Float) (room bytes : ℕ) where
   pub odd_length : length s % 2 ≡ 1 → Err BadLength ≡ answer s lo hi room bytes
@@ -36,12 +41,13 @@ module _ (s : List Float) (lo hi : Float) (room bytes : ℕ) where
         unfolding answer
         fitting p l e = sym (simp (ne_eqb (length s % 2) 1 o, le-ltb 18 (length s) h, b, p, ← e))
 
+-- a slice with 2 ^ n places, by the code's test, has room for the roots of n coefficients
+pub enough_room : (p : List Compensated) (lo hi : Float) (k room : ℕ) → length p ≤ 9 → 1 * 2 ^ length p % 2 ^ 64 ≤ room → k ≡ length (roots p lo hi) → k ≤ room
+enough_room p lo hi k room h t e =
+    let w : 2 ^ length p ≤ 2 ^ 9 = pow_mono {i = length p} {j = 9} h in
+    let m = all_most lo hi (length p) p (le_refl (length p)) in
+    omega arith
+
 -- an answer for k roots, by the two tests
 pub counted : (k room bytes : ℕ) → k ≤ room → k ≤ bytes → Ok k ≡ fitted k room bytes
 counted k room bytes g h = sym (simp (le-leb k room g, le-leb k bytes h))
-
-pub short_result : (k room bytes : ℕ) → room < k → Err ShortResult ≡ fitted k room bytes
-short_result k room bytes g = sym (simp (lt-leb k room g))
-
-pub short_kinds : (k room bytes : ℕ) → k ≤ room → bytes < k → Err ShortResult ≡ fitted k room bytes
-short_kinds k room bytes g h = sym (simp (le-leb k room g, lt-leb k bytes h))

@@ -1,89 +1,114 @@
--- What the cycle of `roots` and `partitions` rests on beside the laws of its definitions: the lists that
--- stand at the front of the lent places, what stands behind them, and that there is room.
-use Prim.Native.Nat.{ℕ, zero, suc, ◌+◌, ◌-◌, ◌*◌, ◌^◌, ◌≤◌, ◌<◌, zero-le, suc-le-suc}
-use native.Mathlib.Nat.{le_refl, le_trans, le_of_suc-le-suc, pow-suc, not-suc-le-zero}
+-- What `curve_roots` rests on beside the laws of its definitions: the lists that stand at the front of the lent places, what
+-- stands behind them, and that there is room.
+use Prim.Native.Nat.{ℕ, suc, ◌+◌, ◌-◌, ◌*◌, ◌^◌, ◌≤◌, ◌<◌}
+use native.Mathlib.Nat.{le_refl, le_trans, le_of_eq, pow-suc}
 use native.Mathlib.Omega.{arith}
-use mathlib.Core.Path.{◌≡◌, ap, sym, ◌∙◌}
-use mathlib.Core.List.{List, [], ◌∷◌}
+use mathlib.Core.Path.{◌≡◌, refl, ap, sym, subst, ◌∙◌}
+use mathlib.Core.List.{List, ◌++◌}
 use lib.Pow.{pow_mono}
-use lib.ListN.{length, get_or, take}
-use lib.Seq.{length-take-le}
+use lib.ListN.{length, take, drop, length-take}
+use Rattle.std.proofs.lemmas.List.{take-append-le}
 use lib.Ieee.{Float}
 use Rattle.float.specs.Promises.Order.{Span}
 use Rattle.polynomial.specs.Cuts.{put}
-use Rattle.polynomial.specs.Polynomial.{zero_pair, nine, derivative}
-use Rattle.polynomial.specs.Roots.{partitions, quotient, roots_at}
+use Rattle.polynomial.specs.Polynomial.{derivative}
+use Rattle.polynomial.specs.Roots.{touches, roots}
 use Rattle.polynomial.specs.declared.compensated.Compensated.{Compensated}
+use Rattle.polynomial.specs.Promises.Front.{Front}
+use Rattle.polynomial.specs.Promises.Inside.{Ready, found, points_of}
 use Rattle.polynomial.specs.Laws.Cuts.{put_most}
 use Rattle.polynomial.specs.Laws.Degree.{derivative_length}
-use Rattle.polynomial.specs.Laws.Nine.{front}
-use Rattle.polynomial.specs.Laws.Enclosed.{roots_in, roots_strict, roots_most, points_put, points_short}
-use Rattle.polynomial.proofs.roots.Kept.{Front, front_of, front_take, front_rest, put_least}
-
-pub derivative_front : (r p : List Compensated) (n : ℕ) → n ≤ length p → r ≡ nine (derivative (take n p)) → take (n - 1) r ≡ derivative (take n p)
-derivative_front r p n h = front r (derivative (take n p)) (n - 1) (derivative_length (take n p) ∙ ap (λ (j : ℕ). j - 1) (length-take-le n p h))
-
--- a line's two coefficients, by the array that holds them
-pub line_of : (P : List Compensated) (m : ℕ) (d : Compensated) (lower upper : Float) → m ≡ 2 → 2 ≤ length P
-    → quotient (get_or (take m P) 0 zero_pair) (get_or (take m P) 1 zero_pair) lower upper ≡ quotient (get_or P 0 d) (get_or P 1 d) lower upper
-line_of [] m d lower upper e h = absurd (not-suc-le-zero h)
-line_of (a ∷ []) m d lower upper e h = absurd (not-suc-le-zero (le_of_suc-le-suc h))
-line_of (a ∷ (b ∷ l)) m d lower upper e h =
-    ap (λ (j : ℕ). quotient (get_or (take j (a ∷ (b ∷ l))) 0 zero_pair) (get_or (take j (a ∷ (b ∷ l))) 1 zero_pair) lower upper) e
-
--- ---- what `partitions` leaves: the derivative's roots stand at the front of A, where W was; with the lower bound, at that of B; with both, at that of D
-
-module _ (k : ℕ) (p : List Compensated) (lower upper : Float) (s : Span 2 lower upper) (A B D : List Float) (c b d : ℕ) where
-  abbrev R : List Float
-  R = roots_at k p lower upper
-
-  pub bounded : (W : List Float) → Front R W c A → Front (put lower (take c A)) A b B → Front (put upper (take b B)) B d D → c ≤ length A
-      → b ≤ length B → Front (partitions lower upper R) W d D
-  bounded W f g h C L =
-      let e : put upper (take b B) ≡ partitions lower upper R =
-      ap (put upper) (front_take (put lower (take c A)) A B b g ∙ ap (put lower) (front_take R W A c f))
-      ∙ points_put lower upper s R (roots_in lower upper s k p) (roots_strict lower upper k p) in
-      let m = put_least lower A c b C g.0 in
-      let n = put_least upper B b d L h.0 in
-      front_of (partitions lower upper R) W D d (h.0 ∙ ap length e) (front_take (put upper (take b B)) B D d h ∙ e)
-      (front_rest (put upper (take b B)) B D d h d (le_refl d) ∙ front_rest (put lower (take c A)) A B b g d n ∙ front_rest R W A c f d (le_trans m n))
-
--- ---- there is room
-
-pub take_short : {A : Type 0} (k : ℕ) (l : List A) → length (take k l) ≤ k
-take_short zero l = zero-le
-take_short (suc k) [] = zero-le
-take_short (suc k) (x ∷ l) = suc-le-suc (take_short k l)
+use Rattle.polynomial.specs.Laws.Enclosed.{all_in, all_most, roots_strict, found_short, points_put, points_short, points_some, points_ready}
+use Rattle.polynomial.proofs.roots.Kept.{front_of, front_take, front_rest, put_least}
 
 -- one more value
 pub put_room : (v : Float) (k : ℕ) (l : List Float) (r : ℕ) → r ≡ length (put v (take k l)) → r ≤ k + 1
-put_room v k l r e = let a = put_most v (take k l) in let b = take_short k l in omega arith
+put_room v k l r e = let a = put_most v (take k l) in let b = length-take k l in omega arith
 
 half : (n : ℕ) → 2 < n → (2 ^ n ≡ 2 ^ (n - 1) * 2) × (2 ^ 2 ≤ 2 ^ (n - 1))
 half n h =
     let e : suc (n - 1) ≡ n = omega arith in
     (ap (λ (j : ℕ). 2 ^ j) (sym e) ∙ pow-suc 2 (n - 1), pow_mono {i = 2} {j = n - 1} (omega arith))
 
-module _ (n : ℕ) (p : List Compensated) (lower upper : Float) (N : 2 < n) where
-  most : length (roots_at (n - 1) (derivative (take n p)) lower upper) ≤ 2 ^ (n - 1) - 3
-  most =
-      let d = derivative_length (take n p) in
-      let t = take_short n p in
-      roots_most lower upper (n - 1) (derivative (take n p)) (omega arith)
+module _ (p : List Compensated) (lower upper : Float) (N : 2 < length p) where
+  abbrev R : List Float
+  R = roots (derivative p) lower upper
 
-  -- the derivative's roots, and both bounds
-  pub inner_room : (len k : ℕ) → 2 ^ n ≤ len → k ≡ length (roots_at (n - 1) (derivative (take n p)) lower upper) → (2 ^ (n - 1) ≤ len) × (k + 2 ≤ len)
-  inner_room len k h e =
-      let r = most in
-      let a = half n N in
-      (omega arith, omega arith)
+  most : length R ≤ 2 ^ (length p - 1) - 3
+  most = all_most lower upper (length p - 1) (derivative p) (le_of_eq (derivative_length p))
+
+  -- d is the derivative, as the code has it
+  module _ (d : List Compensated) (e : d ≡ derivative p) where
+    pub shorter : (t : ℕ) → length p + length p ≡ t → length d + length d + 1 < t
+    shorter t h = let a = derivative_length p in let b = ap length e in omega arith
+
+    pub few : length p ≤ 9 → length d ≤ 9
+    few h = let a = derivative_length p in let b = ap length e in omega arith
+
+    -- its roots have room
+    pub inner_room : (len : ℕ) → 2 ^ length p ≤ len → 2 ^ length d ≤ len
+    inner_room len h = let a = half (length p) N in let b = ap (λ (n : ℕ). 2 ^ n) (ap length e ∙ derivative_length p) in omega arith
+
+    pub of_derivative : (W A : List Float) (c : ℕ) → Front (roots d lower upper) W c A → Front R W c A
+    of_derivative W A c = subst (λ (q : List Compensated). Front (roots q lower upper) W c A) e
+
+  -- both bounds have room behind them
+  pub bound_room : (len k : ℕ) → 2 ^ length p ≤ len → k ≡ length R → k + 2 ≤ len
+  bound_room len k h e = let r = most in let a = half (length p) N in omega arith
 
   -- twice as many places as there are points
-  pub points_room : (j len count : ℕ) → n ≤ j → 2 ^ j ≤ len → count ≡ length
-      (partitions lower upper (roots_at (n - 1) (derivative (take n p)) lower upper)) → count + count ≤ len
-  points_room j len count h g e =
+  pub points_room : (len count : ℕ) → 2 ^ length p ≤ len → count ≡ length (points_of p lower upper) → count + count ≤ len
+  points_room len count g e =
       let r = most in
-      let s = points_short lower upper (roots_at (n - 1) (derivative (take n p)) lower upper) in
-      let a = half n N in
-      let c : 2 ^ n ≤ 2 ^ j = pow_mono h in
+      let s = points_short lower upper R in
+      let a = half (length p) N in
       omega arith
+
+  pub found_room : length (found p (points_of p lower upper)) ≤ 2 ^ length p
+  found_room = let f = found_short p (points_of p lower upper) in let t = points_room (2 ^ length p) _ (le_refl (2 ^ length p)) refl in omega arith
+
+  -- the derivative's roots stand at the front of A, where W was; with the lower bound, at that of B; with both, at that of D
+  module _ (s : Span 2 lower upper) (W A B D : List Float) (c b d : ℕ) (f : Front R W c A) (g : Front (put lower (take c A)) A b B)
+      (room : 2 ^ length p ≤ length W) (la : length A ≡ length W) (lb : length B ≡ length A) where
+    pub second_room : b < length B
+    second_room = let r = bound_room (length W) c room f.0 in let m = put_room lower c A b g.0 in omega arith
+
+    module _ (h : Front (put upper (take b B)) B d D) (ld : length D ≡ length B) where
+      strict : put upper (put lower R) ≡ points_of p lower upper
+      unfolding roots
+      strict = points_put lower upper s R (all_in lower upper s (derivative p)) (roots_strict lower upper (length (derivative p)) (derivative p))
+
+      pub bounded : Front (points_of p lower upper) W d D
+      bounded =
+          let e : put upper (take b B) ≡ points_of p lower upper =
+          ap (put upper) (front_take (put lower (take c A)) A B b g ∙ ap (put lower) (front_take R W A c f)) ∙ strict in
+          let r = bound_room (length W) c room f.0 in
+          let y = put_room lower c A b g.0 in
+          let m = put_least lower A c b (omega arith) g.0 in
+          let n = put_least upper B b d (omega arith) h.0 in
+          front_of (points_of p lower upper) W D d (h.0 ∙ ap length e) (front_take (put upper (take b B)) B D d h ∙ e)
+          (front_rest (put upper (take b B)) B D d h d (le_refl d) ∙ front_rest (put lower (take c A)) A B b g d n ∙ front_rest R W A c f d (le_trans m n))
+
+  -- the points, at the front of D, can be gone through where they stand
+  module _ (s : Span 2 lower upper) (W D : List Float) (d : ℕ) (f : Front (points_of p lower upper) W d D) where
+    pub points_are : take d D ≡ points_of p lower upper
+    points_are = front_take (points_of p lower upper) W D d f
+
+    pub scannable : Ready (take d D)
+    scannable = subst Ready (sym points_are) (points_ready lower upper s R (all_in lower upper s (derivative p)))
+
+    pub some : 0 < length (take d D)
+    some = let z = points_some lower upper R in let e = ap length points_are in omega arith
+
+    pub twice : (len : ℕ) → 2 ^ length p ≤ len → length (take d D) + length (take d D) ≤ len
+    twice len k = points_room len (length (take d D)) k (ap length points_are)
+
+    -- those near zero are in front of what stood there
+    pub near_front : (near : ℕ) (after : List Float) → near ≤ length (take d D) → take near after ≡ touches p (take d D) → length after ≡ length (take d D)
+        → 2 ^ length p ≤ length W → (near ≤ length W) × (take near (after ++ drop d D) ≡ touches p (points_of p lower upper))
+    near_front near after h e l room =
+        let t = twice (length W) room in
+        (omega arith, take-append-le near after (drop d D) (omega arith) ∙ e ∙ ap (touches p) points_are)
+
+    pub found_front : (out last : List Float) (r : ℕ) → Front (found p (take d D)) out r last → Front (found p (points_of p lower upper)) out r last
+    found_front out last r = subst (λ (l : List Float). Front (found p l) out r last) points_are

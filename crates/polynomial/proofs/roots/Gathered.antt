@@ -9,10 +9,22 @@ use mathlib.Core.List.{List, [], ◌∷◌, ◌++◌, append-nil}
 use lib.ListN.{length, get_or, take, drop, set, length-set}
 use lib.Seq.{take-suc, take-set-le, take-suc-set, drop-set-lt, drop-drop, get_or-drop}
 use lib.Ieee.{Float}
+use mir.Val.{bool_byte}
 use Rattle.polynomial.specs.Polynomial.{near_zero}
 use Rattle.polynomial.specs.Roots.{touches}
-use Rattle.polynomial.specs.Promises.Inside.{one_if}
 use Rattle.polynomial.specs.declared.compensated.Compensated.{Compensated}
+
+-- how many of one thing there are, by a test
+abbrev pub one_if : Bool → ℕ
+one_if b = cond b 1 0
+
+-- as the code's number of a test, which was said of the point
+pub counts_one : (m : ℕ) (a b : Bool) → m ≡ bool_byte a → a ≡ b → m ≡ one_if b
+counts_one m a b e f = e ∙ go a ∙ ap one_if f
+  where
+    go : (b : Bool) → bool_byte b ≡ one_if b
+    go true = refl
+    go false = refl
 
 -- of the first i points `all`, those near zero stand in front of what is left
 pub record Gathered (p : List Compensated) (all points : List Float) (near i : ℕ) : Type 0 where

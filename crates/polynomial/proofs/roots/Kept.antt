@@ -15,14 +15,11 @@ use Rattle.float.specs.Number.{negative}
 use Rattle.polynomial.specs.Cuts.{put}
 use Rattle.polynomial.specs.Roots.{crosses, bisected}
 use Rattle.polynomial.specs.Promises.Inside.{crossed}
+use Rattle.polynomial.specs.Promises.Front.{Front}
 use Rattle.polynomial.specs.Promises.Insert.{grown, put_answer, put_room}
 use Rattle.polynomial.specs.Laws.Cuts.{put_most, put_longer}
 use Rattle.polynomial.specs.Laws.Held.{drop_past}
 use Rattle.polynomial.specs.declared.roots.Interval.{Interval}
-
--- r values of l, and behind them what stood there
-abbrev pub Front : List Float → List Float → ℕ → List Float → Type 0
-Front l w r after = (r ≡ length l) × (after ≡ l ++ drop r w)
 
 pub front_of : (l w after : List Float) (r : ℕ) → r ≡ length l → take r after ≡ l → drop r after ≡ drop r w → Front l w r after
 front_of l w after r n t d = (n, sym (take-append-drop r after) ∙ ap₂ ◌++◌ t d)

@@ -14,7 +14,8 @@ use Rattle.polynomial.specs.Polynomial.{evaluate}
 use Rattle.polynomial.specs.Promises.Inside.{Ready, Stands, touched, crossed, found}
 use Rattle.polynomial.specs.declared.compensated.Compensated.{Compensated}
 use Rattle.polynomial.specs.declared.roots.Interval.{Interval}
-use Rattle.polynomial.proofs.roots.Kept.{Front, front_of, front_take, front_rest, front_length}
+use Rattle.polynomial.specs.Promises.Front.{Front}
+use Rattle.polynomial.proofs.roots.Kept.{front_of, front_take, front_rest, front_length}
 use Rattle.polynomial.proofs.roots.Events.{between, run, scanned, touched_most, touched_least, crossed_most, crossed_least}
 
 -- a crossing sees the signs of the values alone, and whether one is zero

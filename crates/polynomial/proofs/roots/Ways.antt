@@ -1,142 +1,108 @@
--- The steps of `partitions` and `roots`, which call each other, over plain numbers and lists.
-use Prim.Native.Nat.{ℕ, ◌+◌, ◌-◌, ◌^◌, ◌<◌, ◌≤◌}
+-- The ways through the roots of p, by the coefficients q that count.
+use Prim.Native.Nat.{ℕ, ◌-◌, ◌^◌, ◌<◌, ◌≤◌}
 use native.Mathlib.Omega.{arith}
-use native.Mathlib.Nat.{le_of_eq}
-use mathlib.Core.Path.{◌≡◌, refl, sym, ap, ap₂, ◌∙◌, subst}
+use native.Mathlib.Nat.{le_refl, le_of_eq}
+use mathlib.Core.Path.{◌≡◌, refl, sym, ap, ◌∙◌, subst}
 use mathlib.Core.Bool.{Bool, true, false, cond}
-use mathlib.Core.List.{List, [], ◌++◌}
-use lib.ListN.{length, take, drop, get_or}
-use lib.Seq.{length-take-le}
+use mathlib.Core.List.{List, [], ◌∷◌, ◌++◌}
+use lib.ListN.{length, get_or}
+use lib.Pow.{pow_mono}
 use lib.Ieee.{Float}
-use Rattle.float.specs.Promises.Order.{Span}
-use Rattle.polynomial.specs.Operation.{pairs}
-use Rattle.polynomial.specs.Polynomial.{derivative, trim, all_finite, nine, zero_pair}
-use Rattle.polynomial.specs.Promises.Inside.{Ready, found, kinds_of}
+use Rattle.polynomial.specs.Polynomial.{zero_pair, derivative, trim, all_finite}
+use Rattle.polynomial.specs.Promises.Front.{Front}
+use Rattle.polynomial.specs.Promises.Inside.{found, kinds_of, points_of, counting_of}
 use Rattle.polynomial.specs.declared.compensated.Compensated.{Compensated}
-use Rattle.polynomial.specs.Laws.Degree.{counted, counted_short, none_left, two_left, more_left}
+use Rattle.polynomial.specs.Laws.Degree.{trim_short, derivative_length, counted, roots_enough, none_left, two_left, more_left}
 use Rattle.polynomial.specs.Laws.Kinds.{kinds_none, kinds_two, kinds_more}
-use Rattle.polynomial.specs.Laws.Enclosed.{roots_in, points_ready, points_some}
 use Rattle.polynomial.specs.Kinds.{kinds}
 use Rattle.polynomial.specs.Roots as Of
-use Rattle.polynomial.proofs.flat.Parts.{enough}
-use Rattle.polynomial.proofs.roots.Kept.{Front, front_same, front_take}
-use Rattle.polynomial.proofs.roots.Cycle.{derivative_front, line_of, inner_room, points_room}
 
--- ---- `partitions`: s holds the derivative of p's first n coefficients, and its roots come to the front of `after`
-module _ (n : ℕ) (p s : List Float) (d : List Compensated) (lower upper : Float) (N : 2 < n) (K : n + n ≤ length p)
-    (S : pairs s ≡ d) (D : d ≡ nine (derivative (take n (pairs p)))) where
-  abbrev inner : List Float
-  inner = Of.roots_at (n - 1) (derivative (take n (pairs p))) lower upper
+module _ (p q : List Compensated) (lower upper : Float) (e : q ≡ counting_of p) where
+  abbrev n : ℕ
+  n = length p
 
-  -- the coefficients that `roots` is given are the derivative's
-  pub given : take (n - 1) (pairs s) ≡ derivative (take n (pairs p))
-  given = ap (take (n - 1)) S ∙ derivative_front d (pairs p) n (enough n p K) D
+  abbrev t : List Compensated
+  t = trim p
 
-  module _ (points after : List Float) (k : ℕ) (R : 2 ^ n ≤ length points)
-      (f : Front (Of.roots_at (n - 1) (take (n - 1) (pairs s)) lower upper) points k after) where
-    pub called : Front inner points k after
-    called = front_same _ _ _ _ f inner (ap (λ (q : List Compensated). Of.roots_at (n - 1) q lower upper) (sym given))
+  at_n : Of.roots p lower upper ≡ Of.roots_at n p lower upper
+  at_n = sym (roots_enough lower upper n p (le_refl n))
 
-    -- both bounds have room behind them
-    pub room : length after ≡ length points → k + 2 ≤ length after
-    room l = let r = inner_room n (pairs p) lower upper N (length points) k R called.0 in omega arith
+  pub no_longer : length q ≤ n
+  no_longer = go (all_finite t) e
+    where
+      go : (b : Bool) → q ≡ cond b t [] → length q ≤ n
+      go true f = let s = trim_short p in let l = ap length f in omega arith
+      go false f = let l = ap length f in omega arith
 
--- ---- `roots`: m coefficients are left
-module _ (n m : ℕ) (p out : List Float) (lower upper : Float) (H : n + n ≤ length p)
-    (T : (m ≤ n) × (take m (pairs p) ≡ trim (take n (pairs p)))) where
-  abbrev P : List Compensated
-  P = take n (pairs p)
+  -- as much room as p needs is enough for q
+  pub fits : (len : ℕ) → 2 ^ n ≤ len → 2 ^ length q ≤ len
+  fits len h = let w : 2 ^ length q ≤ 2 ^ n = pow_mono no_longer in omega arith
 
-  abbrev Q : List Compensated
-  Q = take m (pairs p)
+  -- no coefficient counts, or one
+  module _ (h : length q < 2) where
+    few : counted t < 2
+    few = go (all_finite t) refl
+      where
+        go : (b : Bool) → all_finite t ≡ b → cond b (length t) 0 < 2
+        go true f = let l = ap length (e ∙ ap (λ (b : Bool). cond b t []) f) in omega arith
+        go false f = omega arith
 
-  size : (length Q ≡ m) × (length P ≤ n)
-  size =
-      let k = enough n p H in
-      let t = T.0 in
-      (length-take-le m (pairs p) (omega arith), le_of_eq (length-take-le n (pairs p) (omega arith)))
+    none_at : Of.roots_at n p lower upper ≡ []
+    none_at = none_left n (counted t) p t lower upper refl refl (le_refl n) few
 
-  -- no coefficient counts, or one: no root, and no kind
-  pub none : (arose : List ℕ) → counted Q < 2
-      → Front (Of.roots_at n P lower upper) out 0 out × (arose ≡ kinds P lower upper ++ arose)
-  none arose h =
-      let e = none_left n (counted Q) P Q lower upper T.1 refl size.1 h in (
-        front_same [] _ out 0 (refl, refl) _ e,
-        sym (ap (λ (l : List ℕ). l ++ arose) (kinds_none n P lower upper size.1 e)),
-      )
+    pub none : Of.roots p lower upper ≡ []
+    none = at_n ∙ none_at
 
-  pub few : m < 2 → counted Q < 2
-  few h = let k = counted_short Q in let l = size.0 in omega arith
+    pub none_front : (out : List Float) → Front (Of.roots p lower upper) out 0 out
+    none_front out = (sym (ap length none), sym (ap (λ (l : List Float). l ++ out) none))
 
-  -- a part that is not finite
-  pub bad : all_finite Q ≡ false → counted Q < 2
-  bad h = let e : counted Q ≡ 0 = ap (λ (b : Bool). cond b (length Q) 0) h in omega arith
+    pub no_kinds : kinds p lower upper ≡ []
+    no_kinds = kinds_none n p lower upper (le_refl n) none_at
 
-  -- all parts are finite: each coefficient counts
-  module _ (F : all_finite Q ≡ true) where
-    counts : counted Q ≡ m
-    counts = ap (λ (b : Bool). cond b (length Q) 0) F ∙ size.0
+  -- two coefficients or more: all parts are finite
+  module _ (h : 1 < length q) where
+    counts : (q ≡ t) × (counted q ≡ length q)
+    counts = go (all_finite t) refl
+      where
+        go : (b : Bool) → all_finite t ≡ b → (q ≡ t) × (counted q ≡ length q)
+        go true f =
+            let l : q ≡ t = e ∙ ap (λ (b : Bool). cond b t []) f in
+            (l, ap (λ (b : Bool). cond b (length q) 0) (ap all_finite l ∙ f))
+        go false f = absurd (let l = ap length (e ∙ ap (λ (b : Bool). cond b t []) f) in omega arith)
 
-    -- a line
-    module _ (two : m ≡ 2) (a b : Compensated) (r : ℕ) (after : List Float) (before arose : List ℕ) (A : a ≡ get_or (pairs p) 0 zero_pair)
-        (B : b ≡ get_or (pairs p) 1 zero_pair)
-        (f : Front (Of.quotient a b lower upper) out r after) (g : arose ≡ kinds_of [] (Of.quotient a b lower upper) ++ drop r before) where
-      line : Of.roots_at n P lower upper ≡ Of.quotient a b lower upper
-      line =
-          let k = enough n p H in
-          let t = T.0 in
-          two_left n m P Q lower upper T.1 counts size.1 two
-          ∙ line_of (pairs p) m zero_pair lower upper two (omega arith)
-          ∙ ap₂ (λ (x y : Compensated). Of.quotient x y lower upper) (sym A) (sym B)
+    module _ (two : length q ≡ 2) where
+      line_at : Of.roots_at n p lower upper ≡ Of.quotient (get_or q 0 zero_pair) (get_or q 1 zero_pair) lower upper
+      line_at = two_left n (length q) p q lower upper counts.0 counts.1 (le_refl n) two
 
-      pub of_line : Front (Of.roots_at n P lower upper) out r after × (arose ≡ kinds P lower upper ++ drop r before)
-      of_line = (
-        front_same _ _ _ _ f _ line,
-        g ∙ sym (ap (λ (l : List ℕ). l ++ drop r before) (kinds_two n P lower upper size.1 _ line m Q T.1 size.0 two)),
-      )
+      pub line : Of.roots p lower upper ≡ Of.quotient (get_or q 0 zero_pair) (get_or q 1 zero_pair) lower upper
+      line = at_n ∙ line_at
 
-    -- more coefficients: the partition points, that `roots_by` can go through them where they stand in the first places of A, and what it finds
-    module _ (three : 2 < m) where
-      abbrev inner_roots : List Float
-      inner_roots = Of.roots_at (m - 1) (derivative Q) lower upper
+      pub line_front : (d : Compensated) (out last : List Float) (r : ℕ) → Front (Of.quotient (get_or q 0 d) (get_or q 1 d) lower upper) out r last
+          → Front (Of.roots p lower upper) out r last
+      line_front d out last r = subst (λ (l : List Float). Front l out r last) (same q two ∙ sym line)
+        where
+          same : (q : List Compensated) → length q ≡ 2
+              → Of.quotient (get_or q 0 d) (get_or q 1 d) lower upper ≡ Of.quotient (get_or q 0 zero_pair) (get_or q 1 zero_pair) lower upper
+          same [] h = absurd (omega arith)
+          same (a ∷ []) h = absurd (omega arith)
+          same (a ∷ (b ∷ l)) h = refl
 
-      abbrev points : List Float
-      points = Of.partitions lower upper inner_roots
+      pub line_kinds : kinds p lower upper ≡ kinds_of [] (Of.roots p lower upper)
+      line_kinds = kinds_two n p lower upper (le_refl n) (Of.roots p lower upper) (sym at_n) (length q) q counts.0 refl two
 
-      module _ (count : ℕ) (W A : List Float) (f : Front points W count A) where
-        -- a slice has twice as many places as there are points
-        pub places : (j : ℕ) (len : ℕ) → m ≤ j → 2 ^ j ≤ len → count + count ≤ len
-        places j len h k = points_room m (pairs p) lower upper three j len count h k f.0
+    module _ (three : 2 < length q) where
+      inner : Of.roots_at (length q - 1) (derivative q) lower upper ≡ Of.roots (derivative q) lower upper
+      inner = roots_enough lower upper (length q - 1) (derivative q) (le_of_eq (derivative_length q))
 
-        -- A has room for the points of j coefficients
-        pub scannable : (S : Span 2 lower upper) (j : ℕ) (kinds_room : ℕ) → n ≤ 9 → 2 ^ n ≤ length out → 2 ^ n ≤ kinds_room → m ≤ j → 2 ^ j ≤ length A
-            → (m ≤ 9) × (0 < count) × (count ≤ length A) × (count + count ≤ length out) × Ready (take count A)
-            × (m + m ≤ length p) × (count + count ≤ kinds_room)
-        scannable S j kinds_room nine o q h k =
-            let z = points_some lower upper inner_roots in
-            let x = places j (length A) h k in
-            let t = T.0 in (
-              omega arith,
-              omega (arith, f.0),
-              omega arith,
-              places n (length out) T.0 o,
-              subst Ready (sym (front_take points _ _ _ f)) (points_ready lower upper S inner_roots (roots_in lower upper S (m - 1) (derivative Q))),
-              omega arith,
-              places n kinds_room T.0 q,
-            )
+      pub more : Of.roots p lower upper ≡ found q (points_of q lower upper)
+      more =
+          at_n ∙ more_left n (length q) p q lower upper counts.0 counts.1 (le_refl n) refl three
+          ∙ ap (λ (l : List Float). found q (Of.partitions lower upper l)) inner
 
-        all_found : Of.roots_at n P lower upper ≡ found Q (take count A)
-        all_found =
-            more_left n m P Q lower upper T.1 counts size.1 size.0 three
-            ∙ ap (λ (l : List Float). found Q l) (sym (front_take points W A count f))
+      pub more_front : (out last : List Float) (r : ℕ) → Front (found q (points_of q lower upper)) out r last → Front (Of.roots p lower upper) out r last
+      more_front out last r = subst (λ (l : List Float). Front l out r last) (sym more)
 
-        all_arose : kinds P lower upper ≡ kinds_of (Of.touches Q (take count A)) (found Q (take count A))
-        all_arose =
-            kinds_more n P lower upper size.1 _ all_found m Q T.1 size.0 three
-            ∙ ap (λ (l : List Float). kinds_of (Of.touches Q l) (found Q (take count A))) (sym (front_take points W A count f))
-
-        -- the two clauses of the result r, by those of `roots_by`
-        pub all_said : (r : ℕ) (last : List Float) (before arose : List ℕ) → Front (found Q (take count A)) out r last
-            → arose ≡ kinds_of (Of.touches Q (take count A)) (found Q (take count A)) ++ drop r before
-            → Front (Of.roots_at n P lower upper) out r last × (arose ≡ kinds P lower upper ++ drop r before)
-        all_said r last before arose h g = (front_same _ _ _ _ h _ all_found, g ∙ ap (λ (l : List ℕ). l ++ drop r before) (sym all_arose))
+      pub more_kinds : kinds p lower upper ≡ kinds_of (Of.touches q (points_of q lower upper)) (found q (points_of q lower upper))
+      more_kinds =
+          kinds_more n p lower upper (le_refl n) _ (sym at_n ∙ more) (length q) q counts.0 refl three
+          ∙ ap (λ (l : List Float). kinds_of (Of.touches q (Of.partitions lower upper l)) (found q (points_of q lower upper))) inner

@@ -18,7 +18,7 @@ behind : (r l : List Compensated) (k : ℕ) → length l ≡ k → r ≡ nine l 
 unfolding nine
 behind r l k h e = ap (drop k) e ∙ drop_at l (replicate (9 - length l) zero_pair) k h ∙ ap (λ (j : ℕ). replicate (9 - j) zero_pair) h
 
-length_add : (a b : List Compensated) (scale : Float) → length (add a b scale) ≡ max (length a) (length b)
+pub length_add : (a b : List Compensated) (scale : Float) → length (add a b scale) ≡ max (length a) (length b)
 unfolding add
 length_add [] [] scale = refl
 length_add [] (b ∷ bs) scale = let e = length_add [] bs scale in omega arith
@@ -30,11 +30,11 @@ unfolding coefficients
 length_coefficients a b k zero = refl
 length_coefficients a b k (suc count) = ap suc (length_coefficients a b (suc k) count)
 
-length_multiply : (a b : List Compensated) → length (multiply a b) ≡ length a + length b - 1
+pub length_multiply : (a b : List Compensated) → length (multiply a b) ≡ length a + length b - 1
 unfolding multiply
 length_multiply a b = length_coefficients a b 0 (length a + length b - 1)
 
-length_determinant : (a b c d : List Compensated) → length (determinant a b c d) ≡ max (length a + length b - 1) (length c + length d - 1)
+pub length_determinant : (a b c d : List Compensated) → length (determinant a b c d) ≡ max (length a + length b - 1) (length c + length d - 1)
 unfolding determinant
 length_determinant a b c d = length_add (multiply a b) (multiply c d) (neg one_float) ∙ ap₂ max (length_multiply a b) (length_multiply c d)
 
@@ -79,6 +79,10 @@ numerator_front r h origin = front r (numerator h origin) 3 refl
 pub target_front : (r : List Compensated) (norm : Float) → r ≡ nine (target norm) → take 5 r ≡ target norm
 unfolding coefficients multiply times_each target
 target_front r norm = front r (target norm) 5 refl
+
+pub length_target : (norm : Float) → length (target norm) ≡ 5
+unfolding coefficients multiply times_each target
+length_target norm = refl
 
 module _ (x y : Harmonic) (norm origin : Float) where
   pub length_norm : length (norm_polynomial x y norm origin) ≡ 5

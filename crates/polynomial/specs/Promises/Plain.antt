@@ -1,7 +1,7 @@
 -- What plain Horner arithmetic, on the high parts alone, says of a compensated value: where
 -- the plain value is far from zero beside the coefficients' magnitudes,
 -- both have one sign, and the compensated value is not near zero. Nothing that a public contract says.
-use Rattle.std.specs.Prelude.{◌≡◌, Bool, true, false, cond, List, [], ◌∷◌, T, pos, negsuc, Float}
+use Rattle.std.specs.Prelude.{◌≡◌, Bool, true, false, cond, List, [], ◌∷◌, T, pos, negsuc, Option, Some, None, Float}
 use Rattle.std.specs.Float.{fin, binary64}
 use Rattle.std.specs.Float.Ieee.{fits, neg, lt, le, eq}
 use Rattle.float.specs.Number.{◌⊕◌, ◌⊗◌, abs, negative, zero_float, one_float}
@@ -32,10 +32,6 @@ least = fin false 1 (negsuc 1009)
 abbrev pub margin : Float
 margin = fin false 1 (negsuc 42)
 
--- a coefficient by its parts
-abbrev pub both : Float → Float → Compensated
-both high low = record { high = high; low = low }
-
 -- a coefficient whose residual is small beside its rounded value, which is not large
 pub record Tidy (c : Compensated) : Type 0 where
   pub high_fits : T (fits binary64 c.high)
@@ -51,12 +47,13 @@ AllTidy (c ∷ cs) = Tidy c × AllTidy cs
 abbrev pub Signed : Bool → Float → Type 0
 Signed minus v = (negative v ≡ minus) × (eq v zero_float ≡ false)
 
--- The sign, 1 or -1, of the plain value v at a point of this size, where v is far from zero beside the scale, and 0 where it is not.
-unfoldable pub sign_if_sure : Float → Float → Float → Float
+-- The sign, 1 or -1, of the plain value v at a point of this size, where v is far from zero beside the scale.
+unfoldable pub sign_if_sure : Float → Float → Float → Option Float
 sign_if_sure size v scale =
-    cond (le size one_float) (cond (le least scale) (cond (lt (margin ⊗ scale) v) one_float
-    (cond (lt v (neg (margin ⊗ scale))) (neg one_float) zero_float)) zero_float) zero_float
+    cond (le size one_float) (cond (le least scale) (cond (lt (margin ⊗ scale) v) (Some one_float)
+    (cond (lt v (neg (margin ⊗ scale))) (Some (neg one_float)) None)) None) None
 
--- where r is not zero, the value at x has its sign, and is neither zero nor near zero
-abbrev pub Tells : Float → List Compensated → Float → Type 0
-Tells r p x = eq r zero_float ≡ false → Signed (negative r) (evaluate p x) × (near_zero p x ≡ false)
+-- a sign is not zero, and the value at x has it, and is neither zero nor near zero
+abbrev pub Tells : Option Float → List Compensated → Float → Type 0
+Tells (Some r) p x = (eq r zero_float ≡ false) × Signed (negative r) (evaluate p x) × (near_zero p x ≡ false)
+Tells None p x = Unit {0}

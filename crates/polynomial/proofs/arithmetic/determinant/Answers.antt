@@ -1,18 +1,17 @@
 -- `polynomial::arithmetic::determinant` meets its contract.
-use native.Mathlib.Omega.{arith}
-use Rattle.polynomial.specs.Polynomial.{determinant}
-use Rattle.polynomial.specs.Laws.Nine.{multiply_front}
-use Rattle.float.specs.Laws.Literals.{one_bits}
+use Rattle.std.proofs.Common.{arith, ap, ap₂, ◌∙◌, length}
+use lib.Ieee.{of_bits}
+use Rattle.polynomial.specs.Polynomial.{add, determinant}
+use Rattle.polynomial.specs.Laws.Nine.{length_multiply}
 use Rattle.polynomial.proofs.arithmetic.determinant.Goals as goal
 
+pub add-requires : goal.add-requires
+add-requires c =
+    let a = c.args in
+    let x = ap length (c.as_slice.ensures.value ∙ c.multiply.ensures) ∙ length_multiply a.a.now a.b.now in
+    let y = ap length (c.as_slice-2.ensures.value ∙ c.multiply-2.ensures) ∙ length_multiply a.c.now a.d.now in
+    (omega arith, omega arith)
+
 pub returns : goal.returns
-unfolding determinant
-returns c = let a = c.args in
-    -- the length of d, which omega does not reach by itself
-    let l = c.well_formed.1.1.1.0.1.0.1 in
-    simp (
-      c.add.ensures,
-      multiply_front c.multiply.result a.a a.b a.n a.m c.multiply.ensures (omega arith) (omega arith),
-      multiply_front c.multiply-2.result a.c a.d a.n a.m c.multiply-2.ensures (omega arith) (omega arith),
-      one_bits,
-    )
+unfolding determinant of_bits
+returns c = c.add.ensures ∙ ap₂ (λ s t. add s t _) (c.as_slice.ensures.value ∙ c.multiply.ensures) (c.as_slice-2.ensures.value ∙ c.multiply-2.ensures)

@@ -1,17 +1,15 @@
 use mathlib.Core.Path.{◌≡◌}
 use lib.Ieee.{binary64}
-use lib.ListN.{take}
-use Rattle.float.specs.Promises.Order.{width}
-use Rattle.float.specs.Promises.Order.{Span}
-use Rattle.polynomial.specs.Operation.{pairs}
+use Rattle.float.specs.Promises.Order.{width, Span}
 use Rattle.polynomial.specs.Polynomial.{evaluate}
 use Rattle.polynomial.specs.Roots.{bisected}
 use Rattle.polynomial.proofs.bisection.finely.Given as goal
 
 abbrev pub invariant-loop-x : goal.invariant-loop-x
-invariant-loop-x l =
-    Span 2 l.lo l.hi
-    × (bisected (evaluate (take l.n (pairs l.p))) l.positive l.lo l.hi ≡ bisected (evaluate (take l.n (pairs l.p))) l.positive l.from l.to)
+invariant-loop-x l = record {
+  span : Span 2 l.lo l.hi;
+  same : bisected (evaluate l.p) l.positive l.lo l.hi ≡ bisected (evaluate l.p) l.positive l.from l.to;
+}
 
 abbrev pub decreases-loop-x : goal.decreases-loop-x
 decreases-loop-x l = width binary64 l.lo l.hi

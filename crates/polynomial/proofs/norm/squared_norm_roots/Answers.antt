@@ -14,13 +14,6 @@ use Rattle.polynomial.specs.Promises.Norm.{put_all}
 use Rattle.polynomial.proofs.roots.Kept.{front_same}
 use Rattle.polynomial.proofs.norm.Sides.{left_room, both_halves}
 use Rattle.polynomial.proofs.norm.squared_norm_roots.Goals as goal
-use Rattle.polynomial.proofs.norm.squared_norm_roots.Lts as lts
-use Rattle.polynomial.proofs.norm.squared_norm_roots.Reads as reads
-use Rattle.polynomial.proofs.norm.squared_norm_roots.Tie as tie
-
--- the function's entry, from the first half
-abbrev start : lts.After-half_roots tie.the-claims reads.Pre reads.Post tie.handed_clauses → lts.Start tie.the-claims reads.Pre reads.Post tie.handed_clauses
-start h = h.before.before.before
 
 -- the halves by the code's numbers
 left : (x y : Harmonic) (norm : Float) → put_all (half_roots x y norm (neg P) zero_float) []
@@ -32,19 +25,15 @@ right : (x y : Harmonic) (norm : Float) (l : List Float) → put_all (half_roots
 right x y norm l = ap₂ (λ (z p : Float). put_all (half_roots x y norm z p) l) (sym zero_bits) (sym P-bits)
 
 pub half_roots-requires : goal.half_roots-requires
-half_roots-requires c = let h = c.before.before.before in let a = (start h).args in
-    let e = h.half_roots-k.ensures.value ∙ sym (ap length (left a.x a.y a.norm)) in
-    let k = left_room a.x a.y a.norm h.half_roots-k.result e in
-    let o = h.half_roots-k.auto.out in
-    omega (arith, (start h).requires)
+half_roots-requires c =
+    let a = c.args in
+    let k = left_room a.x a.y a.norm c.half_roots-k.result (c.half_roots-k.ensures.0 ∙ sym (ap length (left a.x a.y a.norm))) in
+    let o = c.half_roots-k.auto.out in
+    omega arith
 
 pub returns : goal.returns
 returns c =
-    let h = c.before.before.before.before.before.before.before in
-    let a = (start h).args in
-    let all = both_halves a.x a.y a.norm a.out.now _ _ h.half_roots-k.result c.half_roots.result
-    (front_same _ _ _ _ (h.half_roots-k.ensures.value, h.half_roots-k.ensures.out_after) _ (left a.x a.y a.norm))
-    (front_same _ _ _ _ (c.half_roots.ensures.value, c.half_roots.ensures.out_after) _ (right a.x a.y a.norm _)) in record {
-      value = all.0;
-      out_after = all.1;
-    }
+    let a = c.args in
+    let all = both_halves a.x a.y a.norm a.out.now _ _ c.half_roots-k.result c.half_roots.result
+    (front_same _ _ _ _ c.half_roots-k.ensures _ (left a.x a.y a.norm)) (front_same _ _ _ _ c.half_roots.ensures _ (right a.x a.y a.norm _)) in
+    record { value = all.0; out_after = all.1 }

@@ -1,11 +1,6 @@
-use Prim.Native.Nat.{◌≤◌}
-use lib.Seq.{slice}
+use lib.ListN.{drop}
 use Rattle.polynomial.specs.Promises.Plain.{AllTidy}
-use Rattle.polynomial.specs.Operation.{pairs}
 use Rattle.polynomial.proofs.plain.all_tidy.Given as goal
 
-abbrev pub invariant-loop-i : goal.invariant-loop-i
-invariant-loop-i l = (l.i ≤ l.n) × AllTidy (slice l.i l.n (pairs l.p))
-
-abbrev pub decreases-loop-i : goal.decreases-loop-i
-decreases-loop-i l = l.i
+abbrev pub invariant-loop-c : goal.invariant-loop-c
+invariant-loop-c l = AllTidy (drop l.c-index l.p) → AllTidy l.p

@@ -1,7 +1,5 @@
 -- `polynomial::plain::is_tidy` meets its contract.
-use mathlib.Core.Path.{sym, ap, ap₂, ◌∙◌, subst}
-use mathlib.Core.Bool.{false≢true}
-use lib.Dec.{T}
+use Rattle.std.proofs.Common.{rules, sym, ap, ap₂, ◌∙◌}
 use lib.Ieee.{of_bits, le}
 use Rattle.float.specs.Number.{◌⊗◌}
 use Rattle.polynomial.specs.Promises.Plain.{lift, largest}
@@ -12,11 +10,8 @@ unfolding of_bits
 returns-then-size c = λ h.
     let size = c.abs-size.ensures in
     record {
-      high_fits = subst T (sym c.well_formed.0.1) tt;
-      low_fits = subst T (sym c.well_formed.1.0.1) tt;
+      high_fits = search rules;
+      low_fits = search rules;
       small = ap (λ z. le z largest) (sym size) ∙ c.if-size.true;
       rest = ap₂ (λ z w. le (z ⊗ lift) w) (sym c.abs.ensures) (sym size) ∙ h;
     }
-
-pub returns : goal.returns
-returns c = λ h. absurd (false≢true h)

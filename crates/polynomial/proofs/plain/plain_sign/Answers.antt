@@ -1,41 +1,27 @@
--- `polynomial::plain::plain_sign` meets its contract. The loop's invariant: value and scale are those of the coefficients from i on.
-use native.Mathlib.Omega.{arith}
-use mathlib.Core.Path.{sym, ap, ◌∙◌, subst}
-use lib.Dec.{T}
-use borrow.Author.Rules.{rules}
-use Rattle.float.specs.Number.{abs, ◌⊕◌, ◌⊗◌}
+-- `polynomial::plain::plain_sign` meets its contract. The loop's invariant: value and scale are those of the coefficients seen so far.
+use Rattle.std.proofs.Common.{rules, ap, ap₂}
+use Rattle.float.specs.Number.{◌⊕◌, ◌⊗◌}
 use Rattle.float.specs.Laws.Zero.{zero_bits}
-use Rattle.polynomial.specs.Polynomial.{zero_pair}
-use Rattle.polynomial.specs.declared.compensated.Compensated.{Compensated}
-use Rattle.polynomial.specs.Operation.{pairs}
-use Rattle.polynomial.proofs.flat.Parts.{enough}
-use Rattle.polynomial.proofs.plain.Sums.{plain_none, plain_more, plain_all, scale_none, scale_more, scale_all}
+use Rattle.polynomial.specs.Promises.Plain.{plain, scale}
+use Rattle.polynomial.proofs.Down.{down_start, down_on, down_end}
 use Rattle.polynomial.proofs.plain.Sure.{tells}
 use Rattle.polynomial.proofs.plain.plain_sign.Goals as goal
 
-pub loop-i-init : goal.loop-i-init
-loop-i-init c = let a = c.args in
-    (search rules, zero_bits ∙ plain_none (pairs a.p.now) a.n a.x, zero_bits ∙ scale_none (pairs a.p.now) a.n a.x)
+pub loop-c-init : goal.loop-c-init
+unfolding plain scale
+loop-c-init c = down_start _ _ (search rules) (zero_bits, zero_bits)
 
-pub pair_at-c-requires : goal.pair_at-c-requires
-pair_at-c-requires c = omega arith
-
-pub loop-i-preserved : goal.loop-i-preserved
-loop-i-preserved c = let a = c.args in
-    let e = c.pair_at-c.ensures in
-    let k = enough a.n a.p.now c.requires.2 in (
-      search rules,
-      ap (λ (y : Compensated). c.loop-i.sum ⊗ a.x ⊕ y.high) e
-          ∙ plain_more (pairs a.p.now) a.n c.loop-i.i zero_pair (search rules) (search rules) k a.x c.loop-i.sum c.loop-i.invariant.1,
-      scale_more (pairs a.p.now) a.n c.loop-i.i zero_pair (search rules) (search rules) k a.x c.loop-i.scale c.abs-size.result
-          c.abs.result
-          c.loop-i.invariant.2 c.abs-size.ensures (c.abs.ensures ∙ ap (λ (y : Compensated). abs y.high) e),
+pub loop-c-preserved : goal.loop-c-preserved
+unfolding plain scale
+loop-c-preserved c =
+    let h = c.in-Some.c.now.high in
+    let d = c.loop-c.invariant.holds in
+    down_on c.loop-c.invariant c.in-Some.c.now _ c.in-Some.ensures.steps (
+      ap (λ s. s ⊗ c.args.x ⊕ h) d.0,
+      ap₂ ◌⊕◌ (ap₂ ◌⊗◌ d.1 c.abs-size.ensures) c.abs.ensures,
     )
 
 pub returns : goal.returns
-returns c = let a = c.args in
-    let none = c.loop-i-test.false in
-    tells (pairs a.p.now) a.n a.x (enough a.n a.p.now c.requires.2) c.requires.0 c.requires.1 (subst T (sym c.well_formed.1.1.0.1) tt)
-    c.abs-size.result c.loop-i.sum c.loop-i.scale c.abs-size.ensures
-    (c.loop-i.invariant.1 ∙ plain_all (pairs a.p.now) a.n c.loop-i.i none a.x)
-    (c.loop-i.invariant.2 ∙ scale_all (pairs a.p.now) a.n c.loop-i.i none a.x) _ c.sign_of.ensures
+returns c =
+    let d = down_end c.loop-c.invariant c.in-None.ensures.steps.0 in
+    tells c.args.p.now c.args.x c.requires.0 c.requires.1 (search rules) _ _ _ c.abs-size.ensures d.0 d.1 _ c.sign_of.ensures

@@ -1,54 +1,49 @@
--- `polynomial::polynomial::derivative` meets its contract. The loop's invariant: what is stored,
--- with zeros behind it, and then the coefficients from i on times their powers.
-use Prim.Native.Nat.{ℕ, ◌+◌, ◌-◌, ◌≤◌, ◌<◌, ◌^◌}
-use native.Mathlib.Omega.{arith}
-use mathlib.Core.Path.{◌≡◌, refl, sym, ap, subst, ◌∙◌}
-use mathlib.Core.List.{List}
-use lib.ListN.{take, drop, set, replicate, length-set}
+-- `polynomial::polynomial::derivative` meets its contract. The loop's invariant: what is stored, and then the coefficients
+-- from i on times their powers.
+use Rattle.std.proofs.Common.{◌≡◌, suc, ◌^◌, ap, sym, ◌∙◌, List, [], ◌∷◌, ◌++◌, drop, append_assoc, arith, ℕ, ◌+◌, ◌<◌, length, get_or, add-one, ap₂}
+use Rattle.std.proofs.Math.Seq.{drop-cons}
+use mathlib.Core.List.{append-nil}
+use lib.ListN.{drop_of_length-le}
 use lib.Dec.{le→leb}
-use lib.Ieee.{in_float}
-use borrow.Author.Rules.{rules}
-use Rattle.polynomial.specs.Compensated.{times}
-use Rattle.polynomial.specs.Polynomial.{zero_pair, derivative}
+use lib.Ieee.{binary64, of_int, in_float}
+use lib.IntN.{pos}
+use Rattle.polynomial.specs.Compensated.{from, times}
+use Rattle.polynomial.specs.Polynomial.{powered, derivative}
 use Rattle.polynomial.specs.declared.compensated.Compensated.{Compensated}
-use Rattle.polynomial.specs.Operation.{pairs}
-use Rattle.polynomial.proofs.flat.Parts.{enough}
-use Rattle.polynomial.proofs.arithmetic.Filled.{zeros_start, zeros_more, nine_of}
-use Rattle.polynomial.proofs.polynomial.Powers.{derivative_start, derivative_more, derivative_end}
 use Rattle.polynomial.proofs.polynomial.derivative.Goals as goal
 
-zeros_next : (d : List Compensated) (i : ℕ) (v : Compensated) → 0 < i → i ≤ 9 → drop (i - 1) d ≡ replicate (9 - (i - 1)) zero_pair
-    → drop (i + 1 - 1) (set d (i - 1) v) ≡ replicate (9 - (i + 1 - 1)) zero_pair
-zeros_next d i v h k e =
-    let b : i - 1 + 1 ≡ i + 1 - 1 = omega arith in
-    subst (λ (j : ℕ). drop j (set d (i - 1) v) ≡ replicate (9 - j) zero_pair) b (zeros_more d (i - 1) v (omega arith) e)
+start : (p d : List Compensated) → d ≡ [] → d ++ powered 1 (drop 1 p) ≡ derivative p
+unfolding powered derivative
+start [] d e = ap (λ l. l ++ []) e
+start (c ∷ cs) d e = ap (λ l. l ++ powered 1 cs) e
+
+-- one more coefficient is stored
+more : (p d e : List Compensated) (i : ℕ) (v z : Compensated) → i < length p → e ≡ d ++ v ∷ [] → v ≡ times (get_or p i z) (from (of_int binary64 (pos i)))
+    → d ++ powered i (drop i p) ≡ derivative p → e ++ powered (i + 1) (drop (i + 1) p) ≡ derivative p
+unfolding powered
+more p d e i v z h E V W =
+    ap₂ (λ l (j : ℕ). l ++ powered j (drop j p)) E (add-one i)
+    ∙ append_assoc d (v ∷ []) (powered (suc i) (drop (suc i) p))
+    ∙ ap (λ c. d ++ c ∷ powered (suc i) (drop (suc i) p)) V
+    ∙ ap (λ l. d ++ powered i l) (sym (drop-cons p i z h))
+    ∙ W
 
 pub loop-i-init : goal.loop-i-init
-loop-i-init c = let a = c.args in (search rules, search rules, refl, zeros_start 9, derivative_start (take a.n (pairs a.p.now)))
-
-pub pair_at-c-requires : goal.pair_at-c-requires
-pair_at-c-requires c = omega arith
+loop-i-init c = record { long = ap (λ l. length l + 1) c.new-d.ensures; whole = start c.args.p.now _ c.new-d.ensures }
 
 pub int_to_float-i : goal.int_to_float-i
 unfolding in_float
 int_to_float-i c = le→leb c.loop-i.i (2 ^ 53) (omega arith)
 
 pub loop-i-preserved : goal.loop-i-preserved
-loop-i-preserved c = let a = c.args in (
-  search rules,
-  search rules,
-  simp length-set c.loop-i.invariant.2,
-  zeros_next c.loop-i.d c.loop-i.i c.times.result (search rules) (omega arith) c.loop-i.invariant.3,
-  c.loop-i.invariant.4
-      ∙ derivative_more (pairs a.p.now) c.loop-i.d a.n c.loop-i.i zero_pair c.from.result c.times.result (search rules)
-      (search rules)
-      (enough a.n a.p.now c.requires.2) (omega arith) c.from.ensures
-      (c.times.ensures ∙ ap (λ (y : Compensated). times y c.from.result) c.pair_at-c.ensures),
-)
+loop-i-preserved c = record {
+  long = omega arith;
+  whole = more c.args.p.now c.loop-i.d.items _ c.loop-i.i c.times.result _ c.loop-i-test.true c.push.ensures.items
+      (c.times.ensures ∙ ap (times _) c.from.ensures) c.loop-i.invariant.whole;
+}
 
 pub returns : goal.returns
-returns c = let a = c.args in
-    let e : c.loop-i.i ≡ a.n = omega arith in
-    nine_of c.loop-i.d (derivative (take a.n (pairs a.p.now))) (a.n - 1) c.loop-i.invariant.2 (omega arith)
-    (sym (c.loop-i.invariant.4 ∙ derivative_end (pairs a.p.now) c.loop-i.d a.n c.loop-i.i (search rules) (search rules)))
-    (rw (sym e) c.loop-i.invariant.3)
+unfolding powered
+returns c =
+    let e = drop_of_length-le c.args.p.now {i = c.loop-i.i} c.loop-i-test.false in
+    sym (append-nil c.loop-i.d.items) ∙ ap (λ l. c.loop-i.d.items ++ powered c.loop-i.i l) (sym e) ∙ c.loop-i.invariant.whole

@@ -1,12 +1,7 @@
-use Prim.Native.Nat.{◌≤◌}
 use mathlib.Core.Path.{◌≡◌}
-use lib.Seq.{slice}
 use Rattle.polynomial.specs.Polynomial.{horner}
-use Rattle.polynomial.specs.Operation.{pairs}
+use Rattle.polynomial.proofs.Down.{Down}
 use Rattle.polynomial.proofs.polynomial.evaluate.Given as goal
 
-abbrev pub invariant-loop-i : goal.invariant-loop-i
-invariant-loop-i l = (l.i ≤ l.n) × (l.sum ≡ horner (slice l.i l.n (pairs l.p)) l.x)
-
-abbrev pub decreases-loop-i : goal.decreases-loop-i
-decreases-loop-i l = l.i
+abbrev pub invariant-loop-c : goal.invariant-loop-c
+invariant-loop-c l = Down (λ seen. l.sum ≡ horner seen l.x) l.p l.c-iterator.iter.rest.now

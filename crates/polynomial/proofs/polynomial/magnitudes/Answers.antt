@@ -1,32 +1,20 @@
--- `polynomial::polynomial::magnitudes` meets its contract. The loop's invariant: the sum is that of the coefficients from i on.
-use native.Mathlib.Omega.{arith}
-use mathlib.Core.Path.{ap, ◌∙◌}
-use borrow.Author.Rules.{rules}
-use Rattle.float.specs.Number.{abs}
+-- `polynomial::polynomial::magnitudes` meets its contract. The loop's invariant: the sum is that of the coefficients seen so far.
+use Rattle.std.proofs.Common.{rules, ap₂}
+use Rattle.float.specs.Number.{◌⊕◌, ◌⊗◌}
 use Rattle.float.specs.Laws.Zero.{zero_bits}
-use Rattle.polynomial.specs.Polynomial.{zero_pair}
-use Rattle.polynomial.specs.declared.compensated.Compensated.{Compensated}
-use Rattle.polynomial.specs.Operation.{pairs}
-use Rattle.polynomial.proofs.flat.Parts.{enough}
-use Rattle.polynomial.proofs.polynomial.Horner.{magnitudes_none, magnitudes_more, magnitudes_all}
+use Rattle.polynomial.specs.Polynomial.{magnitudes}
+use Rattle.polynomial.proofs.Down.{down_start, down_on, down_end}
 use Rattle.polynomial.proofs.polynomial.magnitudes.Goals as goal
 
-pub loop-i-init : goal.loop-i-init
-loop-i-init c = let a = c.args in
-    (search rules, zero_bits ∙ magnitudes_none (pairs a.p.now) a.n a.x)
+pub loop-c-init : goal.loop-c-init
+unfolding magnitudes
+loop-c-init c = down_start _ _ (search rules) zero_bits
 
-pub pair_at-c-requires : goal.pair_at-c-requires
-pair_at-c-requires c = omega arith
-
-pub loop-i-preserved : goal.loop-i-preserved
-loop-i-preserved c = let a = c.args in
-    let e = c.pair_at-c.ensures in (
-      search rules,
-      magnitudes_more (pairs a.p.now) a.n a.x c.loop-i.i zero_pair (search rules) (search rules) (enough a.n a.p.now c.requires.1)
-          c.loop-i.sum c.abs-size.result c.abs-high.result c.abs-low.result c.loop-i.invariant.1 c.abs-size.ensures
-          (c.abs-high.ensures ∙ ap (λ (y : Compensated). abs y.high) e) (c.abs-low.ensures ∙ ap (λ (y : Compensated). abs y.low) e),
-    )
+pub loop-c-preserved : goal.loop-c-preserved
+unfolding magnitudes
+loop-c-preserved c =
+    down_on c.loop-c.invariant c.in-Some.c.now _ c.in-Some.ensures.steps
+    (ap₂ ◌⊕◌ (ap₂ ◌⊕◌ (ap₂ ◌⊗◌ c.loop-c.invariant.holds c.abs-size.ensures) c.abs.ensures) c.abs-in-loop-c.ensures)
 
 pub returns : goal.returns
-returns c = let a = c.args in
-    c.loop-i.invariant.1 ∙ magnitudes_all (pairs a.p.now) a.n a.x c.loop-i.i c.loop-i-test.false
+returns c = down_end c.loop-c.invariant c.in-None.ensures.steps.0

@@ -1,33 +1,27 @@
--- `sampling::critical_slices::critical` meets its contract. The loop's invariant: what the first j curves give is in the cuts, and their polynomials are kept.
-use native.Mathlib.Omega.{arith}
-use mathlib.Core.Path.{refl, ◌∙◌}
-use Rattle.std.proofs.lemmas.List.{take_all}
-use borrow.Author.Rules.{rules}
+-- `sampling::critical_slices::critical` meets its contract. The invariant: what the first j curves give is in the cuts, and their polynomials are kept.
+use Rattle.std.proofs.Common.{arith, ap, ◌∙◌, length}
 use Rattle.sampling.proofs.Laws.CriticalSlices.{critical_nil}
 use Rattle.sampling.proofs.Grown.{none}
 use Rattle.sampling.proofs.CriticalSlices.{known_none, known_more, critical_grown}
 use Rattle.sampling.proofs.critical_slices.critical.Goals as goal
 
-pub loop-j-init : goal.loop-j-init
-loop-j-init c = (refl, search rules, known_none, rw (critical_nil c.args.c) none)
+pub loop-curve-init : goal.loop-curve-init
+loop-curve-init c = record {
+  long = ap length c.new-known.ensures;
+  kept = known_none _ c.new-known.ensures;
+  grown = rw (critical_nil c.args.c) none;
+}
 
-pub meetings-state-requires : goal.meetings-state-requires
-meetings-state-requires c = (omega arith, c.loop-j.invariant.2.long, c.requires.1)
-
-pub loop-j-preserved : goal.loop-j-preserved
-loop-j-preserved c = let a = c.args in
-    let k = c.polynomials-k.result in
-    let e = c.polynomials-k.ensures in
-    let f = c.tangency.ensures in
-    let r = c.chart_roots-alone.ensures in
-    let t = c.meetings-state.ensures in
-    let i = c.loop-j.invariant in
-    let j = c.loop-j.j in (
-      t.same ∙ r.same ∙ i.0,
-      search rules,
-      known_more a.c.origin c.loop-j.known a.curves.now j k _ (omega arith) (omega arith) e i.2,
-      critical_grown a.c a.curves.now c.loop-j.known j _ (omega arith) i.2 k e _ f i.3 r t,
-    )
-
-pub returns : goal.returns
-returns c = rw (← take_all c.loop-j.j c.args.curves.now (omega arith)) c.loop-j.invariant.3
+pub loop-curve-preserved : goal.loop-curve-preserved
+loop-curve-preserved c =
+    let a = c.args in
+    let j = c.loop-curve.curve-index in
+    let i = c.loop-curve.invariant in
+    record {
+      long = omega arith;
+      kept = known_more a.c.origin c.loop-curve.known.items _ a.curves.now j c.polynomials-k.result _ c.loop-curve-test.true c.polynomials-k.ensures
+          c.push.ensures.items i.kept;
+      grown = critical_grown a.c a.curves.now c.loop-curve.known.items j _ c.loop-curve-test.true i.kept c.polynomials-k.result c.polynomials-k.ensures _
+          (c.as_slice.ensures.value ∙ c.tangency-own.ensures) i.grown c.chart_roots-alone.ensures
+          (rw (← c.as_slice-in-loop-curve.ensures.value) c.meetings-state.ensures);
+    }

@@ -1,7 +1,7 @@
--- `sampling::critical_slices::tangency` meets its contract: at each return, what the calls and the tests on the way to it say.
+-- `sampling::critical_slices::tangency` meets its contract.
 use Rattle.sampling.specs.CriticalSlices.{tangency}
 use Rattle.sampling.proofs.critical_slices.tangency.Goals as goal
 
 pub returns : goal.returns
 unfolding tangency
-returns c = simp (← c.squares.ensures)
+returns c = c.squares.ensures

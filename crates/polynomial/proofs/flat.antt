@@ -1,2 +1,0 @@
--- Coefficients laid out as floats, for the functions that take them so.
-pub mod Parts
