@@ -1,11 +1,8 @@
 -- Lines stored one after the other are those of the definition; a text stored in the first bytes fills them.
-use Prim.Native.Nat.{ℕ, suc, ◌+◌, ◌*◌, ◌-◌, ◌≤◌, ◌<◌}
-use native.Mathlib.Omega.{arith}
-use mathlib.Core.Path.{◌≡◌, refl}
-use mathlib.Core.List.{List, [], ◌∷◌, ◌++◌}
-use lib.ListN.{length, set, take, drop, length-append}
-use lib.Seq.{sets, take_at}
-use borrow.Author.Tests.{le-leb, lt-leb}
+use Rattle.std.proofs.Common.{ℕ, suc, ◌+◌, ◌*◌, ◌-◌, ◌≤◌, ◌<◌, arith, ◌≡◌, refl, List, [], ◌∷◌, ◌++◌, length, set, take, drop, length-append, le-leb}
+use Rattle.std.proofs.lemmas.Bool.{lt-leb}
+use Rattle.std.proofs.lemmas.List.{take_at}
+use Rattle.std.proofs.lemmas.List.Edits.{sets}
 use Rattle.digits.specs.Hex.{spelled}
 use Rattle.digits.specs.Laws.Lengths.{length_spelled}
 use Rattle.digits.specs.Laws.Stores.{joined, stored}

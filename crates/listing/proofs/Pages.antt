@@ -1,11 +1,7 @@
 -- Pages stored one after the other, a form feed between, are those of the definition; what each way through `pages_text` gives is the definition's text.
-use Prim.Native.Nat.{ℕ, suc, ◌+◌, ◌*◌, ◌-◌, ◌≤◌, ◌<◌}
-use native.Mathlib.Omega.{arith}
-use mathlib.Core.Path.{◌≡◌, sym, ap, ◌∙◌}
-use mathlib.Core.List.{List, ◌∷◌, ◌++◌, append-nil}
-use lib.ListN.{length, set}
-use lib.Seq.{sets}
-use borrow.Author.Tests.{lt-ltb, le-ltb}
+use Rattle.std.proofs.Common.{ℕ, suc, ◌+◌, ◌*◌, ◌-◌, ◌≤◌, ◌<◌, arith, ◌≡◌, sym, ap, ◌∙◌, List, ◌∷◌, ◌++◌, length, set, lt-ltb, le-ltb}
+use Rattle.std.proofs.lemmas.List.{append-nil}
+use Rattle.std.proofs.lemmas.List.Edits.{sets}
 use Rattle.digits.specs.Laws.Stores.{joined}
 use Rattle.sheet.specs.Edition.{newest}
 use Rattle.sheet.specs.Refusals.{accepted, refused}

@@ -5,18 +5,19 @@ ghost use Rattle.digits.specs.Decimal as Decimal;
 ghost use Rattle.text.specs.Numbered as Numbered;
 
 use digits::runs::put;
+use itoa::Buffer;
 
 // The digits of n, written from `at` on; how many they are.
-pub(crate) fn put_decimal(out: &mut [u8], at: usize, n: u64) -> usize
+fn put_decimal(out: &mut [u8], at: usize, n: u64) -> usize
     requires { at + 20 ≤ length out.old }
     ensures value { result ≡ length (Decimal.whole n) }
     ensures out_after { out.new ≡ sets out.old at (Decimal.whole n) }
     ensures upper_bound { result ≤ 20 }
 {
-    let mut digits = [0u8; 20];
-    let k = io::decimal(n, &mut digits);
-    put(out, at, &digits[..k]);
-    k
+    let mut buffer = Buffer::new();
+    let digits = buffer.format(n).as_bytes();
+    put(out, at, digits);
+    digits.len()
 }
 
 // A line, written in the first bytes: a word, n and the line's end; how many bytes it has.

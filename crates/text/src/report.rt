@@ -33,7 +33,7 @@ pub fn number<W: Write>(to: &mut W, name: &[u8], n: u64) -> io::Result<()>
     ensures { OnOk result (Appends (W.contents to.old) (W.contents to.new) (Numbered.numbered (name.now ++ (32 ∷ [])) n)) }
 {
     to.write_all(name)?;
-    write!(to, " {n}\n")
+    writeln!(to, " {n}")
 }
 
 // A name, its samples and how many of them differ, in a line.
@@ -42,12 +42,12 @@ pub fn samples<W: Write>(to: &mut W, name: &[u8], t: Tally) -> io::Result<()>
         (Numbered.numbered (name.now ++ (32 ∷ []) ++ Decimal.whole t.samples ++ (32 ∷ [])) t.differing)) }
 {
     to.write_all(name)?;
-    write!(to, " {} {}\n", t.samples, t.differing)
+    writeln!(to, " {} {}", t.samples, t.differing)
 }
 
 // The bytes of the input that are no sample, in a line.
 pub fn unread<W: Write>(to: &mut W, n: usize) -> io::Result<()>
     ensures { OnOk result (Appends (W.contents to.old) (W.contents to.new) (Numbered.numbered (codes "unread ") n)) }
 {
-    write!(to, "unread {n}\n")
+    writeln!(to, "unread {n}")
 }

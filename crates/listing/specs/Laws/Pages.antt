@@ -1,7 +1,5 @@
 -- How long the pages of a checked sheet are, and that what `show_pages` prints has at most 540,672 bytes, which the program lends.
-use Prim.Native.Nat.{ℕ, zero, suc, ◌+◌, ◌*◌, ◌-◌, ◌≤◌, ◌<◌}
-use native.Mathlib.Omega.{arith}
-use Rattle.std.proofs.Common.{add-zero, sym, ap, ◌∙◌, lit≤, length-append, ltb-false}
+use Rattle.std.proofs.Common.{add-zero, sym, ap, ◌∙◌, lit≤, length-append, ltb-false, ℕ, zero, suc, ◌+◌, ◌*◌, ◌-◌, ◌≤◌, ◌<◌, arith}
 use Rattle.std.specs.Prelude.{◌≡◌, refl, Bool, true, false, cond, List, ltb, length}
 use Rattle.sheet.specs.Edition.{newest}
 use Rattle.sheet.specs.Refusals.{Answer, accepted, refused}

@@ -1,10 +1,5 @@
 -- `listing::check_text::check_text` meets its contract.
-use Prim.Native.Nat.{ℕ, ◌≤◌}
-use native.Mathlib.Omega.{arith}
-use mathlib.Core.Path.{◌≡◌, ap, ◌∙◌}
-use mathlib.Core.List.{List}
-use lib.ListN.{length, take}
-use lib.Seq.{length-take-le}
+use Rattle.std.proofs.Common.{ℕ, ◌≤◌, arith, ◌≡◌, ap, ◌∙◌, List, length, take, length-take-le}
 use Rattle.sheet.specs.Check.{answer_of}
 use Rattle.listing.specs.Listing.{head}
 use Rattle.listing.proofs.Ends.{long_is, report_is, count_fits}

@@ -1,8 +1,5 @@
 -- `listing::make_text::make_text` meets its contract.
-use Prim.Native.Nat.{◌≤◌}
-use native.Mathlib.Omega.{arith}
-use mathlib.Core.Path.{◌≡◌, sym, ap, ◌∙◌}
-use lib.ListN.{length}
+use Rattle.std.proofs.Common.{◌≤◌, arith, ◌≡◌, sym, ap, ◌∙◌, length}
 use Rattle.sheet.specs.Edition.{newest}
 use Rattle.sheet.specs.Sheet.{sheet_size}
 use Rattle.sheet.specs.Refusals.{accepted, refused}

@@ -1,5 +1,5 @@
 -- `listing::pages_text::pages_text` meets its contract: at each return, what the calls and the tests on the way to it say.
-use mathlib.Core.Path.{sym, ap, ◌∙◌}
+use Rattle.std.proofs.Common.{sym, ap, ◌∙◌}
 use Rattle.sheet.specs.Check.{answer_of}
 use Rattle.page.specs.Laws.Sheets.{paged}
 use Rattle.listing.specs.Listing.{places}

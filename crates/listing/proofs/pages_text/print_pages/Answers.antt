@@ -1,6 +1,5 @@
 -- `listing::pages_text::print_pages` meets its contract: the size is that of all pages.
-use Prim.Native.Nat.{ℕ, ◌+◌, ◌*◌, ◌-◌}
-use mathlib.Core.Path.{sym, ap, ◌∙◌}
+use Rattle.std.proofs.Common.{ℕ, ◌+◌, ◌*◌, ◌-◌, sym, ap, ◌∙◌}
 use Rattle.listing.specs.Pages.{all_pages}
 use Rattle.listing.specs.Laws.Pages.{length_all}
 use Rattle.listing.proofs.Lines.{fits, fails}

@@ -1,25 +1,11 @@
 -- `listing::pages_text::print_refusal` meets its contract: what is printed is the line, and no item.
-use Prim.Native.Nat.{ℕ}
-use native.Mathlib.Omega.{arith}
-use mathlib.Core.Path.{◌≡◌, sym, ap, ◌∙◌}
-use mathlib.Core.List.{List, []}
-use lib.ListN.{length, take, replicate}
-use lib.Seq.{length-take-le}
+use Rattle.std.proofs.Common.{ℕ, ◌≡◌, ap, ◌∙◌, List, [], length, take, replicate}
 use Rattle.sheet.specs.Refusals.{refused, fault_number}
 use Rattle.text.specs.Numbered.{numbered}
 use Rattle.listing.specs.Listing.{refused_word, head, printed, after}
 use Rattle.listing.proofs.Lines.{front}
 use Rattle.listing.proofs.Pages.{alone}
 use Rattle.listing.proofs.pages_text.print_refusal.Goals as goal
-
-pub slice_bounds-print-end : goal.slice_bounds-print-end
-slice_bounds-print-end c = let p = c.put_number-size in
-    sym (length-take-le p.result p.new.out (omega (arith, p.ensures.upper_bound, p.auto.out)))
-
-pub print-requires : goal.print-requires
-print-requires c = let p = c.put_number-size in
-    let l : length (take p.result p.new.out) ≡ p.result = length-take-le p.result p.new.out (omega (arith, p.ensures.upper_bound, p.auto.out)) in
-    (omega (arith, p.ensures.upper_bound), omega arith, omega arith)
 
 pub returns : goal.returns
 returns c = let p = c.put_number-size in

@@ -1,9 +1,5 @@
 -- `listing::printed::print` meets its contract.
-use Prim.Native.Nat.{ℕ, ◌+◌, ◌*◌}
-use native.Mathlib.Omega.{arith}
-use mathlib.Core.Path.{◌≡◌}
-use mathlib.Core.List.{List, ◌++◌}
-use lib.ListN.{length, length-append}
+use Rattle.std.proofs.Common.{ℕ, ◌+◌, ◌*◌, arith, ◌≡◌, List, ◌++◌, length, length-append}
 use Rattle.digits.specs.Laws.Stores.{joined}
 use Rattle.listing.specs.Listing.{lines}
 use Rattle.listing.specs.Laws.Room.{length_lines}

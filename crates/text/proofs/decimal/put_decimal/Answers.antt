@@ -1,16 +1,15 @@
--- The digits that `io` gives are the number's decimal.
-use Rattle.std.proofs.Common.{◌≡◌, ap, arith, length, take, ◌∙◌}
+-- The digits that `itoa` gives are the number's decimal.
+use Rattle.std.proofs.Common.{◌≡◌, ap, arith, length, sym, ◌∙◌}
 use Rattle.digits.specs.Decimal.{whole}
-use Rattle.text.proofs.decimal.Figures.{few, whole_is}
+use Rattle.text.proofs.Printed.{whole_is_decimal}
 use Rattle.text.proofs.decimal.put_decimal.Goals as goal
 
 pub returns : goal.returns
 returns c =
-    let d = c.decimal-k in
-    let n = c.args.n in
-    let e : take d.result d.new.out ≡ whole n = d.ensures.digits ∙ whole_is d.result n d.ensures.len in
+    let d = c.as_bytes-digits in
+    let e : d.result.now ≡ whole c.args.n = d.ensures.value ∙ c.format.ensures.text ∙ sym (whole_is_decimal c.args.n (omega arith)) in
     record {
-      value = d.ensures.in_bounds.1 ∙ ap length e;
+      value = ap length e;
       out_after = rw (c.put.ensures, e);
-      upper_bound = few d.result n (omega arith) d.ensures.len;
+      upper_bound = rw d.ensures.value c.format.ensures.fits;
     }

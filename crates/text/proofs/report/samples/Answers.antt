@@ -3,5 +3,5 @@ use Rattle.text.proofs.Printed.{whole_is_decimal, written}
 use Rattle.text.proofs.report.samples.Goals as goal
 
 pub returns : goal.returns
-returns g c = written _ _ _ c.write.result c.args.name.now _ _ c.in_ok-write_all.ensures.bytes
-    (rw (whole_is_decimal c.args.t.samples (omega arith), whole_is_decimal c.args.t.differing (omega arith)) (simp append_assoc)) c.write.ensures.bytes
+returns g c = written _ _ _ c.writeln.result c.args.name.now _ _ c.in_ok-write_all.ensures.bytes
+    (rw (whole_is_decimal c.args.t.samples (omega arith), whole_is_decimal c.args.t.differing (omega arith)) (simp append_assoc)) c.writeln.ensures.bytes
