@@ -1,5 +1,5 @@
 // An angle in radians with nine decimals, in 16 columns.
-ghost use Rattle.std.specs.Prelude.{◌≡◌, ◌+◌, ◌*◌, ◌^◌, ◌≤◌, ◌<◌, T, length};
+ghost use Rattle.std.specs.Prelude.{◌≡◌, ◌+◌, ◌*◌, ◌^◌, ◌≤◌, ◌<◌, T, length, replicate, MatchOption};
 ghost use Rattle.std.proofs.lemmas.List.Edits.{sets};
 ghost use Rattle.std.specs.Float.Ieee.Nearest.{closest};
 ghost use Rattle.std.specs.Float.Ieee.Scale.{finite};
@@ -61,9 +61,10 @@ fn limit(neg: bool) -> u64
     ensures { result ≡ Promise.limit neg }
 {
     if neg {
-        return 100000000000000;
+        100000000000000
+    } else {
+        1000000000000000
     }
-    1000000000000000
 }
 
 // n billionths in 16 columns: six for what stands before the point, the point, nine digits.
@@ -76,21 +77,29 @@ fn put_pointed(out: &mut [u8], at: usize, neg: bool, n: u64)
     put_digits(out, at + 7, 9, n % BILLION);
 }
 
+// The billionths that the columns of x show, if it is finite and not too long for them.
+fn shown(x: f64) -> Option<Fixed>
+    ensures { MatchOption result (Decimal.decimal x ≡ replicate 16 42) (λ b. Decimal.decimal x ≡ Promise.laid b.neg b.n) }
+{
+    if !is_finite(x) {
+        return None;
+    }
+    let b = billionths(x);
+    if b.n >= limit(b.neg) {
+        return None;
+    }
+    Some(b)
+}
+
 // The 16 columns of x.
 pub(crate) fn put_decimal(out: &mut [u8], at: usize, x: f64)
     requires { at + 16 ≤ length out.old }
     ensures { out.new ≡ sets out.old at (Decimal.decimal x) }
 {
-    if !is_finite(x) {
-        fill(out, at, 16, b'*');
-        return;
+    match shown(x) {
+        Some(b) => put_pointed(out, at, b.neg, b.n),
+        None => fill(out, at, 16, b'*'),
     }
-    let b = billionths(x);
-    if b.n >= limit(b.neg) {
-        fill(out, at, 16, b'*');
-        return;
-    }
-    put_pointed(out, at, b.neg, b.n);
 }
 
 // The 16 columns of x in the first bytes of what is lent; where these are fewer, they are left.

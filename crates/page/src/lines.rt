@@ -41,15 +41,13 @@ pub(crate) fn put_lines(
     ensures { out.new ≡ sets out.old at
         (Page.lines (suc first) (take n (drop first (Bytes.words count sheet.now)))) }
 {
-    let mut i = 0usize;
-    while i < n {
+    for i in 0..n {
         put_line(
             out,
             at + LINE * i,
             (first + i + 1) as u64,
             word(sheet, 8 * (first + i)),
         );
-        i += 1;
     }
 }
 
@@ -64,10 +62,8 @@ fn put_name(out: &mut [u8], at: usize, name: &[u8])
     requires { at + length name.now ≤ length out.old }
     ensures { out.new ≡ sets out.old at (map Page.letter name.now) }
 {
-    let mut i = 0usize;
-    while i < name.len() {
-        out[at + i] = letter(name[i]);
-        i += 1;
+    for (i, b) in name.iter().enumerate() {
+        out[at + i] = letter(*b);
     }
 }
 

@@ -20,10 +20,7 @@ pub fn pages(n: usize) -> usize
     requires { n < 1000000 }
     ensures { result ≡ Page.pages n }
 {
-    if n == 0 {
-        return 1;
-    }
-    (n - 1) / PER_PAGE + 1
+    n.div_ceil(PER_PAGE).max(1)
 }
 
 // How many of n angles stand on page k.
@@ -31,11 +28,7 @@ fn angles_on(n: usize, k: usize) -> usize
     requires { (1 ≤ k) × (k ≤ Page.pages n) × (n < 1000000) }
     ensures { result ≡ Sheets.angles_on n k }
 {
-    let left = n - PER_PAGE * (k - 1);
-    if left < PER_PAGE {
-        return left;
-    }
-    PER_PAGE
+    (n - PER_PAGE * (k - 1)).min(PER_PAGE)
 }
 
 // Page k of a checked sheet with n angles, written from `at` on.

@@ -2,27 +2,22 @@
 ghost use Rattle.std.specs.Prelude.{◌≡◌};
 ghost use Rattle.sheet.specs.Edition as Editions;
 
-// The editions, oldest first.
+// The editions, oldest first, each with its number.
 #[derive(Clone, Copy)]
 pub enum Edition {
-    One,
-    Two,
+    One = 1,
+    Two = 2,
 }
 
-pub(crate) fn edition_number(e: Edition) -> u16
-    ensures { result ≡ Editions.number e }
-{
-    match e {
-        Edition::One => 1,
-        Edition::Two => 2,
+impl Edition {
+    // The edition that Sampling writes.
+    pub(crate) const NEWEST: Edition = Edition::Two;
+
+    pub(crate) fn number(self) -> u16
+        ensures { result ≡ Editions.number self }
+    {
+        self as u16
     }
-}
-
-// The edition that Sampling writes.
-pub(crate) fn newest() -> Edition
-    ensures { result ≡ Editions.newest }
-{
-    Edition::Two
 }
 
 // The edition that has a number, of all up to the newest, or none that is known.

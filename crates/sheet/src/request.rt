@@ -92,6 +92,7 @@ pub(crate) fn shape_from(kind: u8, limits: u8, fixed: u8) -> Option<Shape>
 impl Shape {
     // Whether a field is read.
     #[tactic(auto, unfolding(crate::specs::Request::reads))]
+    #[inline(always)]
     fn reads(self, f: Field, j: usize) -> bool
         ensures { result ≡ Request.reads (Some self) f j }
     {
@@ -113,6 +114,7 @@ impl Shape {
 
 // Whether a field is read: none is under a wrong kind or flag.
 #[tactic(auto, unfolding(crate::specs::Request::reads))]
+#[inline(always)]
 pub(crate) fn field_read(s: Option<Shape>, f: Field, j: usize) -> bool
     ensures { result ≡ Request.reads s f j }
 {
@@ -121,6 +123,7 @@ pub(crate) fn field_read(s: Option<Shape>, f: Field, j: usize) -> bool
 
 // Whether a byte of the request is read.
 #[tactic(auto, unfolding(crate::specs::Request::byte_read))]
+#[inline(always)]
 pub(crate) fn byte_read(s: Option<Shape>, i: usize) -> bool
     ensures { result ≡ Request.byte_read s i }
 {

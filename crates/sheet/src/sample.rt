@@ -13,7 +13,7 @@ ghost use Rattle.sheet.specs.Promises.Plan as Promise;
 
 use crate::angles::put_lists;
 use crate::bytes::put_float;
-use crate::edition::newest;
+use crate::edition::Edition;
 use crate::plan::{is_short, plan_request};
 use crate::refusals::Refusal;
 use crate::request::{REQUEST, put_blank};
@@ -73,7 +73,7 @@ fn fill(output: &mut [u8], view: View, work: &[f64], plan: Plan, n: usize)
 {
     put_angles(output, work, plan);
     put_blank(output, 8 * n, view);
-    put_trailer(output, 8 * n + REQUEST, newest(), n);
+    put_trailer(output, 8 * n + REQUEST, Edition::NEWEST, n);
 }
 
 // Whether a sheet with n angles has room.
@@ -112,7 +112,7 @@ fn run(request: &[u8], work: &mut [f64], output: &mut [u8]) -> Result<usize, Ref
     ensures output_after { output.new ≡ Sampling.output_after (Sampling.answer_of result) request.now output.old }
     ensures work_after { work.new ≡ Promise.work_left newest request.now work.old }
 {
-    let q = validate(newest(), request)?;
+    let q = validate(Edition::NEWEST, request)?;
     let view = View { request };
     let plan = plan_request(work, view, q);
     finish(output, view, work, plan)

@@ -4,7 +4,7 @@ ghost use Rattle.std.proofs.lemmas.List.Edits.{sets};
 ghost use Rattle.sheet.specs.Sheet as Sheet;
 
 use crate::bytes::put;
-use crate::edition::{Edition, edition_number};
+use crate::edition::Edition;
 use crate::request::{CORE, REQUEST, request_size};
 
 pub const TRAILER: usize = 16;
@@ -35,6 +35,6 @@ pub(crate) fn put_trailer(out: &mut [u8], at: usize, e: Edition, n: usize)
     let n = n as u64;
     put(out, at, &n.to_le_bytes()[..4]);
     put(out, at + 4, &(8 * n).to_le_bytes()[..4]);
-    put(out, at + 8, &edition_number(e).to_le_bytes());
+    put(out, at + 8, &e.number().to_le_bytes());
     put(out, at + 10, &[0; 6]);
 }

@@ -11,6 +11,3 @@ invariant-loop-i l = (l.i ≤ l.n)
     × (length l.out ≡ length l.initial.out)
     × (sets l.out (l.at + 65 * l.i) (lines (suc (l.first + l.i)) (take (l.n - l.i) (drop (l.first + l.i) (words l.count l.sheet))))
     ≡ sets l.initial.out l.at (lines (suc l.first) (take l.n (drop l.first (words l.count l.sheet)))))
-
-abbrev pub decreases-loop-i : goal.decreases-loop-i
-decreases-loop-i l = l.n - l.i

@@ -1,6 +1,5 @@
 -- `page::page::lay` meets its contract: at each return, what the tests on the way to it say.
 use Prim.Native.Nat.{ℕ, ◌+◌, ◌*◌, ◌≤◌}
-use native.Mathlib.Omega.{arith}
 use mathlib.Core.Path.{◌≡◌, refl, sym, ap, ◌∙◌}
 use mathlib.Core.Bool.{Bool, true, ◌&&◌}
 use mathlib.Core.List.{List}
@@ -34,22 +33,12 @@ returns-then-not-is_page c =
     let s = told a.sheet.now a.n a.page _ c.requires c.is_page.ensures in
     record { result_value = laid_none a.sheet.now a.page (length a.text.now) (sym s ∙ not-true _ c.if-not-is_page.true-raw); text_after = refl }
 
-pub angles_on-requires : goal.angles_on-requires
-angles_on-requires c =
-    let p = passes c.args.n c.args.page (sym c.is_page.ensures ∙ not-false _ c.if-not-is_page.false-raw) in
-    (p.0, p.1, c.requires.few)
-
 pub returns-then-text-size : goal.returns-then-text-size
 returns-then-text-size c =
     let a = c.args in
     let e = sym (told a.sheet.now a.n a.page _ c.requires c.is_page.ensures) ∙ not-false _ c.if-not-is_page.false-raw in
     let z = ap (λ (m : ℕ). 65 + 65 * m) c.angles_on.ensures ∙ sym (length_text a.sheet.now a.n c.requires a.page) in
     record { result_value = laid_short a.sheet.now a.page (length a.text.now) e (rw z at c.if-text-size.true); text_after = refl }
-
-pub put_page-requires : goal.put_page-requires
-put_page-requires c =
-    let p = passes c.args.n c.args.page (sym c.is_page.ensures ∙ not-false _ c.if-not-is_page.false-raw) in
-    record { paged = c.requires; le_k = (p.0, p.1, omega (arith, c.angles_on.ensures)) }
 
 pub returns : goal.returns
 returns c =

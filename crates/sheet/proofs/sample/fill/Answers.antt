@@ -9,5 +9,5 @@ pub returns : goal.returns
 returns c = let a = c.args in
     let x = c.put_angles.ensures in
     let y = c.put_blank.ensures in
-    rw (c.put_trailer.ensures, c.newest.ensures, y, x)
+    rw (c.put_trailer.ensures, y, x)
     (lay_sheet newest a.view.request.now a.output.now (to_come a.plan a.work.now start) a.n c.requires.request_len c.requires.n_value)

@@ -15,21 +15,17 @@ use Rattle.sheet.specs.Laws.Plan.{passed_drawable, planned_for, left_passed, lef
 use Rattle.sheet.specs.Laws.Tested.{tested_passed, tested_unit}
 use Rattle.sheet.proofs.sample.run.Goals as goal
 
--- what the tests come to, for the edition that `newest` gives
-now_newest : {e : Edition} {t : Result Quaternion Refusal} (r : List ℕ) → e ≡ newest → t ≡ tested e r → tested newest r ≡ t
-now_newest r f h = sym (h ∙ ap (λ (e : Edition). tested e r) f)
-
 pub invariant_of-view : goal.invariant_of-view
-invariant_of-view c = let g = tested_passed newest _ _ (now_newest _ c.newest.ensures c.validate.ensures ∙ c.in_ok-q.was) in
+invariant_of-view c = let g = tested_passed newest _ _ (sym c.validate.ensures ∙ c.in_ok-q.was) in
     record { whole = omega (arith, g.whole) }
 
 pub plan_request-plan-requires : goal.plan_request-plan-requires
-plan_request-plan-requires c = let e = now_newest _ c.newest.ensures c.validate.ensures ∙ c.in_ok-q.was in
+plan_request-plan-requires c = let e = sym c.validate.ensures ∙ c.in_ok-q.was in
     let g = tested_passed newest _ _ e in
     record { request_value = tested_unit newest _ _ e; drawable = passed_drawable _ g }
 
 pub finish-requires : goal.finish-requires
-finish-requires c = let e = now_newest _ c.newest.ensures c.validate.ensures ∙ c.in_ok-q.was in
+finish-requires c = let e = sym c.validate.ensures ∙ c.in_ok-q.was in
     let p = c.plan_request-plan in
     let g = tested_passed newest _ _ e in
     let a = c.args in
@@ -37,8 +33,7 @@ finish-requires c = let e = now_newest _ c.newest.ensures c.validate.ensures ∙
 
 pub returns : goal.returns
 returns c = let a = c.args in
-    let e = now_newest _ c.newest.ensures c.validate.ensures
-    ∙ c.in_ok-q.was in
+    let e = sym c.validate.ensures ∙ c.in_ok-q.was in
     let p = c.plan_request-plan in
     record {
       result_value = c.finish.ensures.result_value
@@ -49,7 +44,7 @@ returns c = let a = c.args in
 
 pub returns-in_err-q : goal.returns-in_err-q
 returns-in_err-q c = let a = c.args in
-    let e = now_newest _ c.newest.ensures c.validate.ensures ∙ c.in_err-q.was in
+    let e = sym c.validate.ensures ∙ c.in_err-q.was in
     let p = err_from_is_err_and c.from_residual.result c.from_residual.ensures.1 in
     rw (p.1, p.2) (record {
       result_value = refused_answer a.request.now _ (length a.work.now) (length a.output.now) e;

@@ -19,5 +19,5 @@ returns c = let a = c.args in
     let y : c.put-2.new.out ≡ sets c.put.new.out (a.at + 4) (bytes 4 (8 * a.n)) =
     c.put-2.ensures ∙ ap (sets c.put.new.out (a.at + 4)) (four (8 * a.n) _ (c.to_le_bytes-2.ensures ∙ to_le 8 (8 * a.n))) in
     let z : c.put-3.new.out ≡ sets c.put-2.new.out (a.at + 8) (bytes 2 (number a.e)) =
-    c.put-3.ensures ∙ ap (sets c.put-2.new.out (a.at + 8)) (c.to_le_bytes-3.ensures ∙ to_le 2 c.edition_number.result ∙ ap (bytes 2) c.edition_number.ensures) in
+    c.put-3.ensures ∙ ap (sets c.put-2.new.out (a.at + 8)) (c.to_le_bytes-3.ensures ∙ to_le 2 c.number.result ∙ ap (bytes 2) c.number.ensures) in
     c.put-4.ensures ∙ rw (z, y, x) (lay_trailer a.e a.out.now a.at a.n)
