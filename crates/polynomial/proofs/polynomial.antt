@@ -1,4 +1,3 @@
 mod Horner
 mod Trim
 pub mod Every
-mod Powers

@@ -42,7 +42,7 @@ fn step_at(lo: f64, hi: f64, m: f64, v: f64, positive: bool) -> ControlFlow<f64,
 }
 
 // What a step at the middle m of lo and hi, where the value is v, leaves: the result, or the ends of
-// an interval to go on in.
+// an interval to go on in. They are no `Bounds`: that they can be bisected is known for the middle alone.
 fn narrowed_once(lo: f64, hi: f64, m: f64, v: f64, positive: bool) -> ControlFlow<f64, (f64, f64)>
     ensures { result ≡ Inside.narrowed_once lo hi m v positive }
 {

@@ -19,13 +19,7 @@ const LARGEST_PART: f64 = 2.5822498780869086e120;
 pub(crate) fn bounds_hold(lower: f64, upper: f64) -> bool
     ensures { result ≡ Operation.bounds_hold lower upper }
 {
-    if abs(lower) <= 4.0 {
-        if abs(upper) <= 4.0 {
-            return lower <= upper;
-        }
-        return false;
-    }
-    false
+    abs(lower) <= 4.0 && abs(upper) <= 4.0 && lower <= upper
 }
 
 // Whether a part is finite, and at most 2^400 in magnitude.

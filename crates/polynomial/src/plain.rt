@@ -37,7 +37,7 @@ pub(crate) fn all_tidy(p: &[Compensated]) -> bool
 }
 
 // The sign, 1.0 or -1.0, of the plain value v at a point of this size; none where v may have another
-// sign than the compensated value.
+// sign than the compensated value. A number, since it stands for the value where signs are compared.
 fn sign_of(size: f64, v: f64, scale: f64) -> Option<f64>
     ensures { result ≡ sign_if_sure size v scale }
 {

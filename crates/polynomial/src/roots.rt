@@ -38,7 +38,8 @@ fn crosses(u: f64, v: f64) -> bool
     is_sign_positive(u) != is_sign_positive(v)
 }
 
-// Puts v into the cuts in the first k places of out, which has a place more.
+// Puts v into the cuts in the first k places of out, which has a place more. The list stands in the
+// slice that C lends, so its length goes beside it.
 pub(crate) fn keep(out: &mut [f64], k: usize, v: f64) -> usize
     requires { k < length out.old }
     ensures value { result ≡ length (put v (take k out.old)) }
@@ -122,6 +123,7 @@ fn scan(p: &[Compensated], points: &mut [f64], out: &mut [f64]) -> Counts
     let mut u = first.v;
     let mut k = first.k;
     let mut near = usize::from(first.near);
+    // by index, since the points near zero are written to the slice that is read
     for i in 1..points.len() {
         let hi = points[i];
         let seen = look(p, tidy, hi, out, k);
@@ -182,7 +184,7 @@ pub fn roots(p: &[Compensated], bounds: Bounds, out: &mut [f64]) -> usize
     match left.len() {
         0 | 1 => 0,
         2 => line_root(left[0], left[1], bounds, out),
-        // fewer places have to be cleared than 512
+        // fewer places have to be cleared than 512; a function in a cycle of calls has no const parameter
         3..=5 => curve_roots(left, bounds, &mut [0.0; 32], out).roots,
         _ => curve_roots(left, bounds, &mut [0.0; 512], out).roots,
     }

@@ -19,14 +19,16 @@ module _ (f : Float → Float) (p : Bool) where
   inner lo hi x y h (Break z) e = e ∙ h.2
   inner lo hi x y h (Continue e) k = (lt_trans k.0 h.0, k.1, k.2 ∙ h.2)
 
-  step_leaves : (lo hi m : Float) → Span 2 lo hi → m ≡ middle lo hi → (above below : ControlFlow Float Ends) → (Narrower f p lo hi m hi → Leaves f p lo hi above)
+  step_leaves : (lo hi m : Float) → Span 2 lo hi → m ≡ middle lo hi → (above below : ControlFlow Float Ends) → (Narrower f p lo hi m hi
+      → Leaves f p lo hi above)
       → (Narrower f p lo hi lo m → Leaves f p lo hi below)
       → Leaves f p lo hi (goes_on (step_at lo hi m (f m) p) above below)
   unfolding step_at
   step_leaves lo hi m s e above below u l = go (eq m lo) (eq m hi) (eq (f m) zero_float) (beq (not (negative (f m))) p) refl refl refl refl
     where
       go : (a b z g : Bool) → eq m lo ≡ a → eq m hi ≡ b → eq (f m) zero_float ≡ z → beq (not (negative (f m))) p ≡ g
-          → Leaves f p lo hi (goes_on (cond a (Break m) (cond b (Break m) (cond z (Break (middle m m)) (cond g (Continue Upper) (Continue Lower))))) above below)
+          → Leaves f p lo hi (goes_on (cond a (Break m) (cond b (Break m) (cond z (Break (middle m m)) (cond g (Continue Upper) (Continue Lower)))))
+          above below)
       go true b z g A B Z G = at_lo f p lo hi m s e A
       go false true z g A B Z G = at_hi f p lo hi m s e A B
       go false false true g A B Z G = at_zero f p lo hi m s e A B (f m) refl Z
@@ -58,12 +60,17 @@ module _ (f : Float → Float) (p : Bool) where
       pub done : (x : Float) → u ≡ Break x → x ≡ bisected f p lo hi
       done x k = by_step (Break x) k (Continue (m, hi)) (Continue (lo, m)) (λ h. h) (λ h. h)
 
-  module _ (lo hi : Float) (s : Span 2 lo hi) (m : Float) (M : m ≡ middle lo hi) (v : Float) (at-m : v ≡ f m) (u : ControlFlow Float Half) (U : u ≡ step_at lo hi m v p) where
-    pub upper : u ≡ Continue Upper → (a : Float) → a ≡ middle m hi → (w : Float) → w ≡ f a → (l : ControlFlow Float Ends) → l ≡ narrowed_once m hi a w p → Leaves f p lo hi l
-    upper k a A w W l e = by_step lo hi s m M v at-m u U (Continue Upper) k l (Continue (lo, m)) (λ h. inner lo hi m hi h l (one m hi h.1 a A w W l e)) (λ h. h)
+  module _ (lo hi : Float) (s : Span 2 lo hi) (m : Float) (M : m ≡ middle lo hi) (v : Float) (at-m : v ≡ f m) (u : ControlFlow Float Half) (U : u ≡
+      step_at lo hi m v p) where
+    pub upper : u ≡ Continue Upper → (a : Float) → a ≡ middle m hi → (w : Float) → w ≡ f a → (l : ControlFlow Float Ends)
+        → l ≡ narrowed_once m hi a w p → Leaves f p lo hi l
+    upper k a A w W l e = by_step lo hi s m M v at-m u U (Continue Upper) k l (Continue (lo, m))
+        (λ h. inner lo hi m hi h l (one m hi h.1 a A w W l e)) (λ h. h)
 
-    pub lower : u ≡ Continue Lower → (a : Float) → a ≡ middle lo m → (w : Float) → w ≡ f a → (l : ControlFlow Float Ends) → l ≡ narrowed_once lo m a w p → Leaves f p lo hi l
-    lower k a A w W l e = by_step lo hi s m M v at-m u U (Continue Lower) k (Continue (m, hi)) l (λ h. h) (λ h. inner lo hi lo m h l (one lo m h.1 a A w W l e))
+    pub lower : u ≡ Continue Lower → (a : Float) → a ≡ middle lo m → (w : Float) → w ≡ f a → (l : ControlFlow Float Ends)
+        → l ≡ narrowed_once lo m a w p → Leaves f p lo hi l
+    lower k a A w W l e = by_step lo hi s m M v at-m u U (Continue Lower) k (Continue (m, hi)) l (λ h. h)
+        (λ h. inner lo hi lo m h l (one lo m h.1 a A w W l e))
 
   -- ---- one step by a number with the value's sign
   pub one_by_sign : (lo hi : Float) → Span 2 lo hi → (m : Float) → m ≡ middle lo hi → (v : Float) → eq v zero_float ≡ false

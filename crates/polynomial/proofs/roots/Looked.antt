@@ -1,16 +1,14 @@
--- What a look at a point gives, by the sign that plain arithmetic tells, or by the value.
+-- What a look at a point gives, by the value there.
 use Prim.Native.Nat.{ℕ, ◌≤◌}
 use mathlib.Core.Path.{◌≡◌, sym, ap, subst, ◌∙◌}
 use mathlib.Core.Bool.{Bool, true, false, cond}
 use mathlib.Core.List.{List}
 use lib.ListN.{length, take}
 use lib.Ieee.{Float, eq}
-use Rattle.std.specs.Prelude.{Some}
 use Rattle.float.specs.Number.{negative, zero_float}
 use Rattle.polynomial.specs.Cuts.{put}
 use Rattle.polynomial.specs.Polynomial.{evaluate, value_near, near_zero}
 use Rattle.polynomial.specs.Promises.Front.{Front}
-use Rattle.polynomial.specs.Promises.Plain.{Tells}
 use Rattle.polynomial.specs.Promises.Inside.{Stands, touched}
 use Rattle.polynomial.specs.declared.compensated.Compensated.{Compensated}
 use Rattle.polynomial.proofs.roots.Kept.{same}
@@ -29,10 +27,6 @@ module _ (p : List Compensated) (x : Float) (w : List Float) (k : ℕ) where
     stands = s;
     kept = subst (λ (t : Bool). Front (cond t (put x (take k w)) (take k w)) w r after) (sym n) f;
   }
-
-  -- by the sign that plain arithmetic tells
-  pub by_sign : (sign : Float) → k ≤ length w → Tells (Some sign) p x → Seen false sign k w
-  by_sign sign h t = seen false sign k w t.2 (t.0 ∙ sym t.1.1, sym t.1.0) (same w k h)
 
   -- by the value v, and whether it is near zero
   module _ (v : Float) (e : v ≡ evaluate p x) where

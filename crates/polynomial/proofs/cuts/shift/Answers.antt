@@ -1,5 +1,6 @@
 -- `polynomial::cuts::shift` meets its contract.
-use Rattle.std.proofs.Common.{◌≡◌, ℕ, zero, suc, ◌+◌, ◌-◌, ◌<◌, List, [], ◌∷◌, ◌++◌, length, take, drop, refl, sym, ap, ap₂, ◌∙◌, append_assoc, add-one, arith, length-take, length-append, le_of_suc-le-suc}
+use Rattle.std.proofs.Common.{◌≡◌, ℕ, zero, suc, ◌+◌, ◌-◌, ◌<◌, List, [], ◌∷◌, ◌++◌, length, take, drop, refl, sym, ap, ap₂, ◌∙◌}
+use Rattle.std.proofs.Common.{append_assoc, add-one, arith, length-take, length-append, le_of_suc-le-suc}
 use lib.ListN.{set}
 use lib.Seq.{paste, set-append_left}
 use lib.Ieee.{Float}

@@ -1,5 +1,6 @@
 -- `polynomial::flat::coefficients` meets its contract. The invariant: what is stored, and then the pairs of what is left.
-use Rattle.std.proofs.Common.{◌≡◌, ℕ, suc, ◌+◌, ◌-◌, ◌<◌, ◌≤◌, List, [], ◌∷◌, ◌++◌, length, get_or, take, drop, refl, sym, ap, ◌∙◌, append_assoc, arith, length-take, length-drop}
+use Rattle.std.proofs.Common.{◌≡◌, ℕ, suc, ◌+◌, ◌-◌, ◌<◌, ◌≤◌, List, [], ◌∷◌, ◌++◌, length, get_or, take, drop, refl, sym, ap, ◌∙◌}
+use Rattle.std.proofs.Common.{append_assoc, arith, length-take, length-drop}
 use lib.Seq.{take-length}
 use mathlib.Core.List.{append-nil}
 use lib.Ieee.{Float, nan}
@@ -25,7 +26,8 @@ more : (s l : List Float) (items new : List Compensated) → 2 ≤ length l → 
     → pairs s ≡ items ++ pairs l → pairs s ≡ new ++ pairs (take (length l - 2) (drop 2 l))
 more s l items new h e p =
     let rest = pairs (take (length l - 2) (drop 2 l)) in
-    p ∙ ap (λ t. items ++ t) (one_more l h) ∙ sym (ap (λ t. t ++ rest) e ∙ append_assoc items (record { high = get_or l 0 nan; low = get_or l 1 nan } ∷ []) rest)
+    p ∙ ap (λ t. items ++ t) (one_more l h) ∙ sym (ap (λ t. t ++ rest) e ∙ append_assoc items
+    (record { high = get_or l 0 nan; low = get_or l 1 nan } ∷ []) rest)
 
 none : (l : List Float) → length l < 2 → pairs l ≡ []
 unfolding pairs

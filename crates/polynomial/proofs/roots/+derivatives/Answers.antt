@@ -1,7 +1,8 @@
 -- `polynomial::roots`' `curve_roots` and `roots`, which call each other, meet their contracts.
 use Rattle.std.proofs.Common.{◌^◌, ◌≤◌, length, arith, ◌∙◌}
 use lib.Pow.{pow_mono}
-use Rattle.polynomial.proofs.roots.Cycle.{shorter, few, inner_room, of_derivative, bound_room, second_room, bounded, scannable, some, twice, near_front, found_front}
+use Rattle.polynomial.proofs.roots.Cycle.{shorter, few, inner_room, of_derivative, bound_room, second_room, bounded, scannable, some, twice}
+use Rattle.polynomial.proofs.roots.Cycle.{near_front, found_front}
 use Rattle.polynomial.proofs.roots.Ways.{no_longer, fits, none_front, line_front, more_front}
 use Rattle.polynomial.proofs.roots.+derivatives.Goals as goal
 
