@@ -1,54 +1,38 @@
--- A refusal's number is small, and so is its negative.
-use Prim.Native.Nat.{ℕ, zero, suc, ◌<◌}
-use native.Mathlib.Omega.{arith}
-use mathlib.Core.Path.{◌≡◌, ap, subst⁻¹, ◌∙◌}
-use lib.IntN.{ℤ, pos, neg_ℤ, ◌-ℤ◌, +ℤ_idl}
-use mir.Syntax.{w64}
-use mir.Val.{SFits, to_z, of_z}
-use mir.ValLaws.{to_z_pos, to_z-of_z}
+-- What C gets of a result is the number of the operation's answer, and small counts fit.
+use Rattle.std.proofs.Common.{ℕ, ◌<◌, ◌≤◌, ◌^◌, ◌≡◌, refl, arith, nat_abs, Result, Ok, Err, IfOk}
+use Rattle.polynomial.specs.Operation as Roots
+use Rattle.polynomial.specs.declared.refusals.Refusal as roots
 use Rattle.sheet.specs.Refusals.{number, fault_number}
+use Rattle.sheet.specs.Refusals as Refusals
+use Rattle.sheet.specs.Sampling as Sampling
+use Rattle.sheet.specs.Check as Check
 use Rattle.sheet.specs.declared.refusals.Refusal.{Refusal}
 use Rattle.sheet.specs.declared.refusals.Fault.{Fault}
-use Rattle.sheet.specs.declared.refusals.Refusal.TheVariants as refusal
-use Rattle.sheet.specs.declared.refusals.Fault.TheVariants as fault
+use Rattle.page.specs.Operation as Page
+use Rattle.page.specs.declared.refusals.Refusal as page
+use Rattle.lemongully.specs.Numbers.{signed}
 
-pub number_small : (k : Refusal) → number k < 64
-number_small refusal.Length = omega arith
-number_small refusal.Head = omega arith
-number_small refusal.Name = omega arith
-number_small refusal.Sign = omega arith
-number_small refusal.NotFinite = omega arith
-number_small refusal.Zero = omega arith
-number_small refusal.Arm = omega arith
-number_small refusal.Reference = omega arith
-number_small refusal.Offset = omega arith
-number_small refusal.Work = omega arith
-number_small refusal.Output = omega arith
+pub signed_sampled : (a : Result ℕ Refusal) → signed number a ≡ Refusals.signed (Sampling.answer_of a)
+signed_sampled (Ok n) = refl
+signed_sampled (Err k) = refl
 
-pub fault_small : (f : Fault) → fault_number f < 64
-fault_small fault.Length = omega arith
-fault_small fault.Trailer = omega arith
-fault_small fault.Request = omega arith
-fault_small fault.Unread = omega arith
-fault_small fault.Work = omega arith
-fault_small fault.Angles = omega arith
+pub signed_checked : (a : Result ℕ Fault) → signed fault_number a ≡ Refusals.signed (Check.answer_of a)
+signed_checked (Ok n) = refl
+signed_checked (Err f) = refl
 
-module _ (k : ℕ) (h : k < 64) where
-  pub fits_pos : SFits w64 (pos k)
-  fits_pos = record { sfits = omega arith }
+pub signed_page : (a : Result ℕ page.Refusal) → signed Page.number a ≡ Refusals.signed (Page.answer_of a)
+signed_page (Ok n) = refl
+signed_page (Err k) = refl
 
-  minus : (n : ℕ) → pos 0 -ℤ pos n ≡ neg_ℤ (pos n)
-  minus n = +ℤ_idl (neg_ℤ (pos n))
+pub signed_roots : (a : Result ℕ roots.Refusal) → signed Roots.refusal_number a ≡ Roots.number a
+signed_roots (Ok n) = refl
+signed_roots (Err k) = refl
 
-  is_negative : pos 0 -ℤ to_z w64 k ≡ neg_ℤ (pos k)
-  is_negative = ap (λ (z : ℤ). pos 0 -ℤ z) (to_z_pos w64 k fits_pos.sfits) ∙ minus k
+-- a count that is small wherever there is one
+pub small : {E : Type 0} (a : Result ℕ E) → ((n : ℕ) → a ≡ Ok n → n < 2 ^ 63) → IfOk a (λ n. n < 2 ^ 63)
+small (Ok n) h = h n refl
+small (Err k) h = tt
 
-  small : (n : ℕ) → n < 64 → SFits w64 (neg_ℤ (pos n))
-  small zero l = record { sfits = omega arith }
-  small (suc n) l = record { sfits = omega arith }
-
-  pub fits_negative : SFits w64 (pos 0 -ℤ to_z w64 k)
-  fits_negative = subst⁻¹ (SFits w64) is_negative (small k h)
-
-  pub reads_negative : to_z w64 (of_z w64 (pos 0 -ℤ to_z w64 k)) ≡ neg_ℤ (pos k)
-  reads_negative = to_z-of_z w64 (pos 0 -ℤ to_z w64 k) fits_negative ∙ is_negative
+pub small_roots : (a : Result ℕ roots.Refusal) → nat_abs (Roots.number a) ≤ 509 → IfOk a (λ n. n < 2 ^ 63)
+small_roots (Ok n) h = omega arith
+small_roots (Err k) h = tt

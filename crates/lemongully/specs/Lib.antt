@@ -1,2 +1,3 @@
--- Examples of all layers, computed. Nothing that a contract says.
+-- `Numbers`: what C gets of an answer. `Examples` of all layers, computed: nothing that a contract says.
+pub mod Numbers
 mod Examples

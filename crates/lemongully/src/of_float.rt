@@ -12,12 +12,6 @@ ghost use Rattle.float.specs.Trig as Trig;
 
 use float::number::{bits, of_bits};
 
-fn answer(yes: bool) -> u64
-    ensures { result ≡ cond yes 1 0 }
-{
-    if yes { 1 } else { 0 }
-}
-
 #[unsafe(no_mangle)]
 pub extern "C" fn float_bits(w: u64) -> u64
     ensures { result ≡ to_bits binary64 (of_bits binary64 w) }
@@ -29,14 +23,14 @@ pub extern "C" fn float_bits(w: u64) -> u64
 pub extern "C" fn float_is_finite(x: u64) -> u64
     ensures { result ≡ cond (finite (of_bits binary64 x)) 1 0 }
 {
-    answer(float::number::is_finite(of_bits(x)))
+    u64::from(float::number::is_finite(of_bits(x)))
 }
 
 #[unsafe(no_mangle)]
 pub extern "C" fn float_is_sign_positive(x: u64) -> u64
     ensures { result ≡ cond (not (Number.negative (of_bits binary64 x))) 1 0 }
 {
-    answer(float::number::is_sign_positive(of_bits(x)))
+    u64::from(float::number::is_sign_positive(of_bits(x)))
 }
 
 #[unsafe(no_mangle)]
@@ -50,7 +44,7 @@ pub extern "C" fn float_abs(x: u64) -> u64
 pub extern "C" fn float_total_le(x: u64, y: u64) -> u64
     ensures { result ≡ cond (Number.total_le (of_bits binary64 x) (of_bits binary64 y)) 1 0 }
 {
-    answer(float::number::total_le(of_bits(x), of_bits(y)))
+    u64::from(float::number::total_le(of_bits(x), of_bits(y)))
 }
 
 #[unsafe(no_mangle)]

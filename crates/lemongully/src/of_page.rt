@@ -1,5 +1,5 @@
 // The C interface: pages of angles, their answers by the papers' numbers.
-ghost use Rattle.std.specs.Prelude.{◌≡◌, ℕ, ◌<◌, ◌^◌, length};
+ghost use Rattle.std.specs.Prelude.{◌≡◌, length};
 ghost use Rattle.std.specs.Float.{binary64};
 ghost use Rattle.std.specs.Float.Ieee.{of_bits};
 ghost use Rattle.sheet.specs.Bytes as Bytes;
@@ -7,22 +7,8 @@ ghost use Rattle.sheet.specs.Refusals as Refusals;
 ghost use Rattle.page.specs.Decimal as Decimal;
 ghost use Rattle.page.specs.Operation as Operation;
 
+use crate::numbers::signed_number;
 use float::number::of_bits;
-use page::laid::Laid;
-use sheet::refusals::fault_number;
-
-// The text's length, or minus the refusal's number.
-fn laid_number(a: Laid) -> i64
-    requires { (n : ℕ) → Operation.answer_of a ≡ Refusals.accepted n → n < 2 ^ 63 }
-    ensures { result ≡ Refusals.signed (Operation.answer_of a) }
-{
-    match a {
-        Laid::Text(n) => n as i64,
-        Laid::Refused(f) => -(fault_number(f) as i64),
-        Laid::NoPage => -43,
-        Laid::Short => -42,
-    }
-}
 
 // Success fills the first bytes of the text with the page; its rest, and all of it on refusal, is
 // left. After every answer each work place is +0.0.
@@ -34,8 +20,7 @@ pub extern "C" fn page_text(sheet: &[u8], page: u64, work: &mut [f64], text: &mu
         (Operation.text sheet.now page) text.old }
     ensures work_after { work.new ≡ Bytes.zeros (length work.old) }
 {
-    let a = page::page::page_text(sheet, page, work, text);
-    laid_number(a)
+    signed_number(page::page::page_text(sheet, page, work, text))
 }
 
 // Columns 27 to 42 of the float of bits x in the first 16 bytes, and 16; or -42, and the text left, if
@@ -46,6 +31,5 @@ pub extern "C" fn page_decimal(x: u64, text: &mut [u8]) -> i64
     ensures text_after { text.new ≡
         Operation.text_after (Operation.decimal_answer (length text.old)) (Decimal.decimal (of_bits binary64 x)) text.old }
 {
-    let a = page::decimal::decimal_text(of_bits(x), text);
-    laid_number(a)
+    signed_number(page::decimal::decimal_text(of_bits(x), text))
 }

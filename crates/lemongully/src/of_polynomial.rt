@@ -1,24 +1,10 @@
 // The C interface: the operation Roots, its answer by 01's number.
-ghost use Rattle.std.specs.Prelude.{◌≡◌, ◌≤◌, nat_abs, length};
+ghost use Rattle.std.specs.Prelude.{◌≡◌, length};
 ghost use Rattle.polynomial.specs.Operation as Operation;
 ghost use Rattle.polynomial.specs.Roots as Roots;
 ghost use Rattle.polynomial.specs.Kinds as Kinds;
 
-use polynomial::operation::Answer;
-
-// The count, or minus the refusal's number. There are at most 2^9 - 3 roots.
-fn number(a: Answer) -> i64
-    requires { nat_abs (Operation.number a) ≤ 509 }
-    ensures { result ≡ Operation.number a }
-{
-    match a {
-        Answer::Count(n) => n as i64,
-        Answer::BadLength => -21,
-        Answer::BadBounds => -22,
-        Answer::BadPart => -23,
-        Answer::ShortResult => -24,
-    }
-}
+use crate::numbers::signed_number;
 
 // The result slice gets the roots in its first places, and kinds how each arose, 1 for a touch and 2
 // for a crossing; the rest of both, and all of it on refusal, is left.
@@ -39,5 +25,5 @@ pub extern "C" fn polynomial_roots(
         (Operation.answer coefficients.now lower upper (length res.old) (length kinds.old))
         (Kinds.kinds (Operation.pairs coefficients.now) lower upper) kinds.old }
 {
-    number(polynomial::operation::roots(coefficients, lower, upper, res, kinds))
+    signed_number(polynomial::operation::roots(coefficients, lower, upper, res, kinds))
 }

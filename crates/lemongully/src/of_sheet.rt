@@ -1,35 +1,14 @@
 // The C interface: the operations Sampling and Check, their answers by the papers' numbers.
-ghost use Rattle.std.specs.Prelude.{◌≡◌, ℕ, ◌<◌, ◌^◌, length};
+ghost use Rattle.std.specs.Prelude.{◌≡◌, length};
 ghost use Rattle.sheet.specs.Bytes as Bytes;
 ghost use Rattle.sheet.specs.Edition.{newest};
 ghost use Rattle.sheet.specs.Refusals as Refusals;
 ghost use Rattle.sheet.specs.Sampling as Sampling;
 ghost use Rattle.sheet.specs.Check as Check;
 
-use sheet::check::{Checked, check};
-use sheet::refusals::{fault_number, refusal_number};
-use sheet::sample::{Sampled, sample};
-
-// The count, or minus the refusal's number.
-fn sampled_number(a: Sampled) -> i64
-    requires { (n : ℕ) → Sampling.answer_of a ≡ Refusals.accepted n → n < 2 ^ 63 }
-    ensures { result ≡ Refusals.signed (Sampling.answer_of a) }
-{
-    match a {
-        Sampled::Angles(n) => n as i64,
-        Sampled::Refused(k) => -(refusal_number(k) as i64),
-    }
-}
-
-fn checked_number(a: Checked) -> i64
-    requires { (n : ℕ) → Check.answer_of a ≡ Refusals.accepted n → n < 2 ^ 63 }
-    ensures { result ≡ Refusals.signed (Check.answer_of a) }
-{
-    match a {
-        Checked::Accepted(n) => n as i64,
-        Checked::Refused(f) => -(fault_number(f) as i64),
-    }
-}
+use crate::numbers::signed_number;
+use sheet::check::check;
+use sheet::sample::sample;
 
 // Success fills the first bytes of the output with the sheet; a refusal leaves it. After every
 // answer each work place is +0.0.
@@ -41,8 +20,7 @@ pub extern "C" fn sheet_sample(request: &[u8], work: &mut [f64], output: &mut [u
         request.now output.old }
     ensures work_after { work.new ≡ Bytes.zeros (length work.old) }
 {
-    let a = sample(request, work, output);
-    sampled_number(a)
+    signed_number(sample(request, work, output))
 }
 
 // After every answer each work place is +0.0.
@@ -51,6 +29,5 @@ pub extern "C" fn sheet_check(sheet: &[u8], work: &mut [f64]) -> i64
     ensures value { result ≡ Refusals.signed (Check.answer newest sheet.now (length work.old)) }
     ensures work_after { work.new ≡ Bytes.zeros (length work.old) }
 {
-    let a = check(sheet, work);
-    checked_number(a)
+    signed_number(check(sheet, work))
 }

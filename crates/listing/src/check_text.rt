@@ -5,30 +5,31 @@ ghost use Rattle.sheet.specs.Check as Check;
 ghost use Rattle.listing.specs.Listing as Listing;
 
 use crate::printed::{Printed, print};
-use sheet::check::{Checked, check};
-use sheet::refusals::fault_number;
+use polynomial::refusals::Numbered;
+use sheet::check::check;
+use sheet::refusals::Fault;
 use text::decimal::put_number;
 
 // The first line, written in the first bytes; how many it has.
-fn put_head(line: &mut [u8], a: Checked) -> usize
+fn put_head(line: &mut [u8], a: Result<usize, Fault>) -> usize
     requires { 32 ≤ length line.old }
     ensures value { result ≡ length (Listing.head (Check.answer_of a)) }
     ensures line_after { line.new ≡ sets line.old 0 (Listing.head (Check.answer_of a)) }
     ensures upper_bound { result ≤ length line.old }
 {
     match a {
-        Checked::Accepted(n) => put_number(line, b"accepted ", n as u64),
-        Checked::Refused(f) => put_number(line, b"refused ", fault_number(f)),
+        Ok(n) => put_number(line, b"accepted ", n as u64),
+        Err(f) => put_number(line, b"refused ", u64::from(f.number())),
     }
 }
 
 // How many items are listed.
-fn count(a: Checked) -> usize
+fn count(a: Result<usize, Fault>) -> usize
     ensures { result ≡ Listing.count (Check.answer_of a) }
 {
     match a {
-        Checked::Accepted(n) => n,
-        Checked::Refused(_) => 0,
+        Ok(n) => n,
+        Err(_) => 0,
     }
 }
 

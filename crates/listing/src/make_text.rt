@@ -2,8 +2,8 @@
 ghost use Rattle.std.specs.Prelude.{◌≡◌, ◌≤◌, length};
 ghost use Rattle.listing.specs.Listing as Listing;
 
-use sheet::refusals::refusal_number;
-use sheet::sample::{Sampled, sample};
+use polynomial::refusals::Numbered;
+use sheet::sample::sample;
 use sheet::trailer::FRAME;
 use text::decimal::put_number;
 
@@ -26,13 +26,13 @@ pub fn make_text(request: &[u8], output: &mut [u8], error: &mut [u8]) -> Made
     let mut work = [0.0f64; 4096];
     let a = sample(request, &mut work, output);
     match a {
-        Sampled::Angles(n) => Made {
+        Ok(n) => Made {
             output: 8 * n + FRAME,
             error: 0,
         },
-        Sampled::Refused(k) => Made {
+        Err(k) => Made {
             output: 0,
-            error: put_number(error, b"refused ", refusal_number(k)),
+            error: put_number(error, b"refused ", u64::from(k.number())),
         },
     }
 }

@@ -10,8 +10,9 @@ ghost use Rattle.listing.specs.Pages as Pages;
 use crate::printed::{Printed, print};
 use page::lines::LINE;
 use page::page::{PER_PAGE, pages, put_page};
-use sheet::check::{Checked, check};
-use sheet::refusals::{Fault, fault_number};
+use polynomial::refusals::Numbered;
+use sheet::check::check;
+use sheet::refusals::Fault;
 use text::decimal::put_number;
 
 // A full page, and the same with the form feed behind it.
@@ -56,7 +57,7 @@ fn print_refusal(text: &mut [u8], f: Fault) -> Printed
     ensures text_after { text.new ≡ Listing.after (Listing.head (Refusals.refused (Refusals.fault_number f))) text.old }
 {
     let mut line = [0u8; 32];
-    let size = put_number(&mut line, b"refused ", fault_number(f));
+    let size = put_number(&mut line, b"refused ", u64::from(f.number()));
     print(text, &line[..size], b"", 0)
 }
 
@@ -71,7 +72,7 @@ pub fn pages_text(input: &[u8], text: &mut [u8]) -> Printed
     let mut work = [0.0f64; 4096];
     let checked = check(input, &mut work);
     match checked {
-        Checked::Accepted(n) => print_pages(text, input, n),
-        Checked::Refused(f) => print_refusal(text, f),
+        Ok(n) => print_pages(text, input, n),
+        Err(f) => print_refusal(text, f),
     }
 }

@@ -1,27 +1,30 @@
 -- The operation Page (02, change 4): the check's refusals, then 43, then 42, and what the page slice holds afterwards. Definitions only.
-use Rattle.std.specs.Prelude.{ℕ, Bool, ◌&&◌, List, [], ◌++◌, leb, length, drop}
+use Rattle.std.specs.Prelude.{ℕ, Bool, ◌&&◌, List, [], ◌++◌, leb, length, drop, Option, Some, None, Result, Ok, Err}
 use Rattle.sheet.specs.Edition.{newest, known}
 use Rattle.sheet.specs.Request.{name_at}
 use Rattle.sheet.specs.Refusals.{Answer, accepted, refused, need, fault_number}
 use Rattle.sheet.specs.Check.{edition_of, request_of, listed}
 use Rattle.sheet.specs.Check as Check
-use Rattle.sheet.specs.declared.edition.Said.{Said}
-use Rattle.sheet.specs.declared.edition.Said.TheVariants.{Known, Unknown}
+use Rattle.sheet.specs.declared.edition.Edition.{Edition}
 use Rattle.page.specs.Page.{page, pages}
-use Rattle.page.specs.declared.laid.Laid.{Laid}
-use Rattle.page.specs.declared.laid.Laid.TheVariants as laid-case
+use Rattle.page.specs.declared.refusals.Refusal.{Refusal}
+use Rattle.page.specs.declared.refusals.Refusal.TheVariants.{Sheet, NoPage, Short}
+
+-- the papers' number of each refusal
+abbrev pub number : Refusal → ℕ
+number (Sheet f) = fault_number f
+number NoPage = 43
+number Short = 42
 
 -- what the code answers
-abbrev pub answer_of : Laid → Answer
-answer_of (laid-case.Text n) = accepted n
-answer_of (laid-case.Refused f) = refused (fault_number f)
-answer_of laid-case.NoPage = refused 43
-answer_of laid-case.Short = refused 42
+abbrev pub answer_of : Result ℕ Refusal → Answer
+answer_of (Ok n) = accepted n
+answer_of (Err k) = refused (number k)
 
 -- the name on a sheet; in edition 1 a request ends before it
-abbrev pub name_by : Said → List ℕ → List ℕ
-name_by (Known e) s = drop name_at (request_of e s)
-name_by Unknown s = []
+abbrev pub name_by : Option Edition → List ℕ → List ℕ
+name_by (Some e) s = drop name_at (request_of e s)
+name_by None s = []
 
 abbrev pub name_of : List ℕ → List ℕ
 name_of s = name_by (known newest (edition_of s)) s

@@ -7,7 +7,7 @@ ghost use Rattle.page.specs.Decimal as Decimal;
 ghost use Rattle.page.specs.Operation as Operation;
 ghost use Rattle.page.specs.Promises.Decimal as Promise;
 
-use crate::laid::Laid;
+use crate::refusals::Refusal;
 use digits::decimal::{put_digits, put_signed};
 use digits::runs::fill;
 use float::mul_add::split;
@@ -95,13 +95,13 @@ pub(crate) fn put_decimal(out: &mut [u8], at: usize, x: f64)
 }
 
 // The 16 columns of x in the first bytes of what is lent; where these are fewer, they are left.
-pub fn decimal_text(x: f64, text: &mut [u8]) -> Laid
+pub fn decimal_text(x: f64, text: &mut [u8]) -> Result<usize, Refusal>
     ensures result_value { Operation.answer_of result ≡ Operation.decimal_answer (length text.old) }
     ensures text_after { text.new ≡ Operation.text_after (Operation.answer_of result) (Decimal.decimal x) text.old }
 {
     if text.len() < 16 {
-        return Laid::Short;
+        return Err(Refusal::Short);
     }
     put_decimal(text, 0, x);
-    Laid::Text(16)
+    Ok(16)
 }

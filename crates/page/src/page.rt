@@ -6,9 +6,9 @@ ghost use Rattle.page.specs.Page as Page;
 ghost use Rattle.page.specs.Operation as Operation;
 ghost use Rattle.page.specs.Promises.Sheets as Sheets;
 
-use crate::laid::Laid;
 use crate::lines::{LINE, put_head, put_lines};
-use sheet::check::{Checked, check};
+use crate::refusals::Refusal;
+use sheet::check::check;
 use sheet::request::NAME;
 use sheet::trailer::TRAILER;
 
@@ -66,32 +66,34 @@ fn is_page(n: usize, page: u64) -> bool
 }
 
 // 43, 42, and else the page.
-fn lay(text: &mut [u8], sheet: &[u8], n: usize, page: u64) -> Laid
+fn lay(text: &mut [u8], sheet: &[u8], n: usize, page: u64) -> Result<usize, Refusal>
     requires { Sheets.Paged sheet.now n }
     ensures result_value { Operation.answer_of result ≡ Operation.laid sheet.now page (length text.old) }
     ensures text_after { text.new ≡ Operation.text_after (Operation.answer_of result) (Operation.text sheet.now page) text.old }
 {
     if !is_page(n, page) {
-        return Laid::NoPage;
+        return Err(Refusal::NoPage);
     }
     let k = page as usize;
     let size = LINE + LINE * angles_on(n, k);
     if text.len() < size {
-        return Laid::Short;
+        return Err(Refusal::Short);
     }
     put_page(text, 0, sheet, n, k);
-    Laid::Text(size)
+    Ok(size)
 }
 
-// The operation Page. After every answer each work place is +0.0.
-pub fn page_text(sheet: &[u8], page: u64, work: &mut [f64], text: &mut [u8]) -> Laid
+// The operation Page: how many bytes the text has, or the first refusal. After every answer each work place is +0.0.
+pub fn page_text(
+    sheet: &[u8],
+    page: u64,
+    work: &mut [f64],
+    text: &mut [u8],
+) -> Result<usize, Refusal>
     ensures result_value { Operation.answer_of result ≡ Operation.answer sheet.now page (length work.old) (length text.old) }
     ensures text_after { text.new ≡ Operation.text_after (Operation.answer_of result) (Operation.text sheet.now page) text.old }
     ensures work_after { work.new ≡ Bytes.zeros (length work.old) }
 {
-    let checked = check(sheet, work);
-    match checked {
-        Checked::Accepted(n) => lay(text, sheet, n, page),
-        Checked::Refused(f) => Laid::Refused(f),
-    }
+    let n = check(sheet, work)?;
+    lay(text, sheet, n, page)
 }

@@ -1,6 +1,6 @@
 -- Inner calls of the root finder: what 01's refusal 9 asked of each, until 02's change 5 took it out, and what is proved of each. No function promises any
 -- of it. Definitions only.
-use Rattle.std.specs.Prelude.{◌≤◌, Bool, true, false, ◌&&◌, List, [], ◌∷◌, T, length, Float}
+use Rattle.std.specs.Prelude.{◌≤◌, Bool, true, false, ◌&&◌, List, [], ◌∷◌, T, length, Float, ℕ, Result, Ok, Err}
 use Rattle.std.specs.Float.Ieee.{neg, lt, le}
 use Rattle.float.specs.Number.{abs, middle, zero_float, one_float}
 use Rattle.float.specs.Trig.{P, four_float}
@@ -10,8 +10,7 @@ use Rattle.polynomial.specs.Curve.{norm_polynomial}
 use Rattle.polynomial.specs.Promises.Lists.{All}
 use Rattle.polynomial.specs.declared.compensated.Compensated.{Compensated}
 use Rattle.polynomial.specs.declared.curve.Harmonic.{Harmonic}
-use Rattle.polynomial.specs.declared.operation.Answer.{Answer}
-use Rattle.polynomial.specs.declared.operation.Answer.TheVariants.{Count, BadLength, BadBounds, BadPart, ShortResult}
+use Rattle.polynomial.specs.declared.refusals.Refusal.{Refusal}
 
 pub record Call : Type 0 where
   pub coefficients : List Compensated
@@ -24,12 +23,9 @@ parts [] = []
 parts (c ∷ cs) = c.high ∷ c.low ∷ parts cs
 
 -- 9: Roots, lent 509 places of each slice, answers no count
-abbrev pub counts : Answer → Bool
-counts (Count n) = true
-counts BadLength = false
-counts BadBounds = false
-counts BadPart = false
-counts ShortResult = false
+abbrev pub counts : Result ℕ Refusal → Bool
+counts (Ok n) = true
+counts (Err k) = false
 
 unfoldable pub taken : Call → Bool
 taken c = counts (answer (parts c.coefficients) c.lower c.upper 509 509)

@@ -1,13 +1,13 @@
 -- The operation Roots (01; 02, change 1): its refusals in order, its answer, and both lent slices afterwards. Definitions only.
-use Rattle.std.specs.Prelude.{ℕ, ◌%◌, Bool, true, false, ◌&&◌, ◌||◌, cond, List, [], ◌∷◌, ◌++◌, ℤ, pos, neg_ℤ, ltb, leb, eqb, length, drop, Float}
+use Rattle.std.specs.Prelude.{ℕ, ◌%◌, Bool, true, false, ◌&&◌, ◌||◌, cond, List, [], ◌∷◌, ◌++◌, ℤ, pos, neg_ℤ, ltb, leb, eqb, length, drop, Float, Result, Ok, Err}
 use Rattle.std.specs.Float.{fin}
 use Rattle.std.specs.Float.Ieee.{le}
 use Rattle.float.specs.Number.{abs}
 use Rattle.float.specs.Trig.{four_float}
 use Rattle.polynomial.specs.Roots.{roots}
 use Rattle.polynomial.specs.declared.compensated.Compensated.{Compensated}
-use Rattle.polynomial.specs.declared.operation.Answer.{Answer}
-use Rattle.polynomial.specs.declared.operation.Answer.TheVariants.{Count, BadLength, BadBounds, BadPart, ShortResult}
+use Rattle.polynomial.specs.declared.refusals.Refusal.{Refusal}
+use Rattle.polynomial.specs.declared.refusals.Refusal.TheVariants.{BadLength, BadBounds, BadPart, ShortResult}
 
 -- coefficients as f64 pairs (high, low), constant first
 unfoldable pub pairs : List Float → List Compensated
@@ -36,29 +36,30 @@ parts_hold [] = true
 parts_hold (x ∷ xs) = part_holds x && parts_hold xs
 
 -- 24, the result slice, or that of the kinds, is shorter than the list
-abbrev pub fitted : ℕ → ℕ → ℕ → Answer
-fitted count room bytes = cond (leb count room && leb count bytes) (Count count) ShortResult
+abbrev pub fitted : ℕ → ℕ → ℕ → Result ℕ Refusal
+fitted count room bytes = cond (leb count room && leb count bytes) (Ok count) (Err ShortResult)
 
 -- the answer for a result slice of `room` places and a slice of `bytes` for the kinds
-unfoldable pub answer : List Float → Float → Float → ℕ → ℕ → Answer
+unfoldable pub answer : List Float → Float → Float → ℕ → ℕ → Result ℕ Refusal
 answer s lower upper room bytes =
-    cond (bad_length s) BadLength
+    cond (bad_length s) (Err BadLength)
     (cond (bounds_hold lower upper)
-    (cond (parts_hold s) (fitted (length (roots (pairs s) lower upper)) room bytes) BadPart)
-    BadBounds)
+    (cond (parts_hold s) (fitted (length (roots (pairs s) lower upper)) room bytes) (Err BadPart))
+    (Err BadBounds))
+
+-- the papers' number of each refusal
+abbrev pub refusal_number : Refusal → ℕ
+refusal_number BadLength = 21
+refusal_number BadBounds = 22
+refusal_number BadPart = 23
+refusal_number ShortResult = 24
 
 -- this paper's number for each case: the count, or minus the refusal's number
-abbrev pub number : Answer → ℤ
-number (Count n) = pos n
-number BadLength = neg_ℤ (pos 21)
-number BadBounds = neg_ℤ (pos 22)
-number BadPart = neg_ℤ (pos 23)
-number ShortResult = neg_ℤ (pos 24)
+abbrev pub number : Result ℕ Refusal → ℤ
+number (Ok n) = pos n
+number (Err k) = neg_ℤ (pos (refusal_number k))
 
 -- success fills that many first places of a slice with what was found; its rest, and all of it on refusal, is left
-abbrev pub filled : {A : Type 0} → Answer → List A → List A → List A
-filled (Count n) found before = found ++ drop n before
-filled BadLength found before = before
-filled BadBounds found before = before
-filled BadPart found before = before
-filled ShortResult found before = before
+abbrev pub filled : {A : Type 0} → Result ℕ Refusal → List A → List A → List A
+filled (Ok n) found before = found ++ drop n before
+filled (Err k) found before = before

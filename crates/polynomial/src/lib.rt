@@ -14,4 +14,5 @@ pub mod norm;
 pub mod operation;
 pub mod plain;
 pub mod polynomial;
+pub mod refusals;
 pub mod roots;

@@ -5,20 +5,11 @@ ghost use Rattle.polynomial.specs.Operation as Operation;
 ghost use Rattle.polynomial.specs.Roots as Roots;
 ghost use Rattle.polynomial.specs.Kinds as Kinds;
 
+use crate::refusals::Refusal;
 use float::number::abs;
 
 // 2^400.
 const LARGEST_PART: f64 = 2.5822498780869086e120;
-
-// The number of roots, or why there is none. `number` of specs/Operation.antt gives 01's number.
-#[derive(Clone, Copy)]
-pub enum Answer {
-    Count(usize),
-    BadLength,
-    BadBounds,
-    BadPart,
-    ShortResult,
-}
 
 // Whether the bounds are numbers within ±4, in order.
 pub(crate) fn bounds_hold(lower: f64, upper: f64) -> bool
@@ -87,7 +78,7 @@ fn roots_apart(
     upper: f64,
     res: &mut [f64],
     kinds: &mut [u8],
-) -> Answer
+) -> Result<usize, Refusal>
     requires { (n ≤ 9) × Span 2 lower upper × (n + n ≤ length coefficients.now) }
     ensures value { result ≡ Operation.fitted (length (Roots.roots_at n (take n (Operation.pairs coefficients.now)) lower upper))
         (length res.old) (length kinds.old) }
@@ -100,46 +91,46 @@ fn roots_apart(
     let mut arose = [0; 512];
     let count = crate::roots::roots(coefficients, n, lower, upper, &mut found, &mut arose);
     if res.len() < count {
-        return Answer::ShortResult;
+        return Err(Refusal::ShortResult);
     }
     if kinds.len() < count {
-        return Answer::ShortResult;
+        return Err(Refusal::ShortResult);
     }
     copy(&found, count, res);
     copy_bytes(&arose, count, kinds);
-    Answer::Count(count)
+    Ok(count)
 }
 
-// The operation: coefficients as pairs, constant first. The result slice gets the roots in its first
-// places, and kinds how each arose; the rest of both, and all of it on refusal, is left.
+// The operation: the number of roots, or the first refusal. Coefficients come as pairs, constant first.
+// The result slice gets the roots in its first places, and kinds how each arose; the rest of both, and all of it on refusal, is left.
 pub fn roots(
     coefficients: &[f64],
     lower: f64,
     upper: f64,
     res: &mut [f64],
     kinds: &mut [u8],
-) -> Answer
+) -> Result<usize, Refusal>
     ensures value { result ≡ Operation.answer coefficients.now lower upper (length res.old) (length kinds.old) }
     ensures res_after { res.new ≡ Operation.filled result (Roots.roots (Operation.pairs coefficients.now) lower upper) res.old }
     ensures kinds_after { kinds.new ≡ Operation.filled result (Kinds.kinds (Operation.pairs coefficients.now) lower upper) kinds.old }
 {
     let len = coefficients.len();
     if len % 2 == 1 {
-        return Answer::BadLength;
+        return Err(Refusal::BadLength);
     }
     if 18 < len {
-        return Answer::BadLength;
+        return Err(Refusal::BadLength);
     }
     if !bounds_hold(lower, upper) {
-        return Answer::BadBounds;
+        return Err(Refusal::BadBounds);
     }
     if !parts_hold(coefficients) {
-        return Answer::BadPart;
+        return Err(Refusal::BadPart);
     }
     let n = len / 2;
     if 1 << n <= res.len() {
         if 1 << n <= kinds.len() {
-            return Answer::Count(crate::roots::roots(coefficients, n, lower, upper, res, kinds));
+            return Ok(crate::roots::roots(coefficients, n, lower, upper, res, kinds));
         }
     }
     roots_apart(coefficients, n, lower, upper, res, kinds)

@@ -1,7 +1,7 @@
 -- For every request that meets none of refusals 1 to 8 and 41, every inner call of the root finder is fair: bounds, coefficients and list are as 02's change 5
 -- says. So refusal 9 never came, and every answer is what it was with it. Of refusals 2 to 8 the arm angles (6) and the offsets (8) are used; a sign byte is
 -- 1 or -1 whatever it is, the matrix lies within 17 in all cases, and a reference need only be a float.
-use Rattle.std.specs.Prelude.{ℕ, ◌≤◌, ◌≡◌, refl, Bool, true, false, cond, List, T}
+use Rattle.std.specs.Prelude.{ℕ, ◌≤◌, ◌≡◌, refl, Bool, true, false, cond, List, T, Option, Some, None}
 use Rattle.std.proofs.Common.{arith, sym, subst, eqb-true}
 use Rattle.std.proofs.lemmas.Bool.{false≢true}
 use Rattle.std.specs.Float.Ieee.{binary64}
@@ -29,10 +29,7 @@ use Rattle.sampling.specs.declared.pose.Quaternion.{Quaternion}
 use Rattle.sampling.specs.declared.pose.Normalized.{Normalized}
 use Rattle.sampling.specs.declared.pose.Normalized.TheVariants.{Unit, NotFinite, Zero}
 use Rattle.sheet.specs.declared.edition.Edition.{Edition}
-use Rattle.sheet.specs.declared.edition.Said.{Said}
-use Rattle.sheet.specs.declared.edition.Said.TheVariants.{Known, Unknown}
 use Rattle.sheet.specs.declared.request.Shape.{Shape}
-use Rattle.sheet.specs.declared.request.Shape.TheVariants.{Bad, Right}
 use Rattle.sheet.specs.declared.request.Field.TheVariants.{Arm, Offset}
 use Rattle.sheet.specs.Edition.{known}
 use Rattle.sheet.specs.Request.{shape_of, reads}
@@ -74,15 +71,15 @@ rotation_fits r = record { x = of_bits-fits binary64 _; y = of_bits-fits binary6
 
 -- ---- what each kind reads
 
-arm_reads : (s : Shape) (k : Kind) (q : ℕ) → right s ≡ true → kind_of s ≡ k → T (arm_read k q) → T (reads s Arm q)
+arm_reads : (s : Option Shape) (k : Kind) (q : ℕ) → right s ≡ true → kind_of s ≡ k → T (arm_read k q) → T (reads s Arm q)
 unfolding right kind_of reads
-arm_reads Bad k q h e t = absurd (false≢true h)
-arm_reads (Right j l f) k q h e t = subst (λ (x : Kind). T (arm_read x q)) (sym e) t
+arm_reads None k q h e t = absurd (false≢true h)
+arm_reads (Some s) k q h e t = subst (λ (x : Kind). T (arm_read x q)) (sym e) t
 
-offset_reads : (s : Shape) (k : Kind) (j : ℕ) → right s ≡ true → kind_of s ≡ k → T (joint_read k (limited_of s) (fixed_of s) j) → T (reads s Offset j)
+offset_reads : (s : Option Shape) (k : Kind) (j : ℕ) → right s ≡ true → kind_of s ≡ k → T (joint_read k (limited_of s) (fixed_of s) j) → T (reads s Offset j)
 unfolding right kind_of limited_of fixed_of reads
-offset_reads Bad k j h e t = absurd (false≢true h)
-offset_reads (Right i l f) k j h e t = subst (λ (x : Kind). T (joint_read x l f j)) (sym e) t
+offset_reads None k j h e t = absurd (false≢true h)
+offset_reads (Some s) k j h e t = subst (λ (x : Kind). T (joint_read x s.limits s.fixed j)) (sym e) t
 
 -- kind 3 with limits reads joints 4, 5 and, unless fixed, 6
 fourth_read : (l f : Bool) → T l → T (joint_read J1j2free l f 4)
@@ -195,10 +192,10 @@ edition_same : (e : Edition) (s : List ℕ) (places : ℕ) → WithNine.check_ed
 unfolding WithNine.check_edition by_edition meets_none
 edition_same e s places = rw (by_request_same e (request_of e s) (accepted 0))
 
-said_same : (k : Said) (s : List ℕ) (places : ℕ) → WithNine.check_said k s places ≡ by_said k s places
+said_same : (k : Option Edition) (s : List ℕ) (places : ℕ) → WithNine.check_said k s places ≡ by_said k s places
 unfolding WithNine.check_said by_said
-said_same (Known e) s places = edition_same e s places
-said_same Unknown s places = refl
+said_same (Some e) s places = edition_same e s places
+said_same None s places = refl
 
 check_same : (upto : Edition) (s : List ℕ) (places : ℕ) → WithNine.check upto s places ≡ Check.answer upto s places
 unfolding WithNine.check Check.answer

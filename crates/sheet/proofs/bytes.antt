@@ -1,3 +1,3 @@
--- What the proofs of `same_at` and `same_float` use.
+-- What the proofs of reads, writes and comparisons of bytes use.
 
-mod Same
+pub mod Same

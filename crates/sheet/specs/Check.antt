@@ -1,5 +1,5 @@
 -- The operation Check (01; 02, changes 2 and 5): refusals 31 to 36 in their order, for a sheet of any edition that is known. Definitions only.
-use Rattle.std.specs.Prelude.{ℕ, ◌+◌, ◌-◌, List, Bool, true, false, ◌&&◌, length, take, eqb, leb, ltb}
+use Rattle.std.specs.Prelude.{ℕ, ◌+◌, ◌-◌, List, Bool, true, false, ◌&&◌, length, take, eqb, leb, ltb, Option, Some, None, Result, Ok, Err}
 use Rattle.sheet.specs.Bytes.{little_endian, part, words_bytes, words, same_bytes}
 use Rattle.sheet.specs.Edition.{known}
 use Rattle.sheet.specs.Request.{core_size, request_size, blank}
@@ -8,15 +8,12 @@ use Rattle.sheet.specs.Validate.{validate}
 use Rattle.sheet.specs.Sheet.{trailer, trailer_size, frame_size, items_bound, sheet_size}
 use Rattle.sheet.specs.Sampling.{items, cut_count}
 use Rattle.sheet.specs.declared.edition.Edition.{Edition}
-use Rattle.sheet.specs.declared.edition.Said.{Said}
-use Rattle.sheet.specs.declared.edition.Said.TheVariants.{Known, Unknown}
-use Rattle.sheet.specs.declared.check.Checked.{Checked}
-use Rattle.sheet.specs.declared.check.Checked.TheVariants as checked
+use Rattle.sheet.specs.declared.refusals.Fault.{Fault}
 
 -- what the code answers
-abbrev pub answer_of : Checked → Answer
-answer_of (checked.Accepted n) = accepted n
-answer_of (checked.Refused f) = refused (fault_number f)
+abbrev pub answer_of : Result ℕ Fault → Answer
+answer_of (Ok n) = accepted n
+answer_of (Err f) = refused (fault_number f)
 
 -- the trailer, the n and the edition that it says
 abbrev pub trailer_of : List ℕ → List ℕ
@@ -66,9 +63,9 @@ by_edition e s places =
     (accepted (count_of s))))))
 
 -- an edition that is not known is 32
-unfoldable pub by_said : Said → List ℕ → ℕ → Answer
-by_said (Known e) s places = by_edition e s places
-by_said Unknown s places = refused 32
+unfoldable pub by_said : Option Edition → List ℕ → ℕ → Answer
+by_said (Some e) s places = by_edition e s places
+by_said None s places = refused 32
 
 -- 31 to 36, for a check that knows the editions up to one; 31 goes by the shortest sheet of all
 unfoldable pub answer : Edition → List ℕ → ℕ → Answer

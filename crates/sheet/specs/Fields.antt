@@ -1,5 +1,5 @@
 -- The job that a request's fields say, every field as given, none blanked. Definitions only.
-use Rattle.std.specs.Prelude.{ℕ, ◌+◌, List, Bool, false, cond, get_or, eqb, Float}
+use Rattle.std.specs.Prelude.{ℕ, ◌+◌, List, Bool, false, cond, get_or, eqb, Float, Option, Some, None}
 use Rattle.std.specs.Float.Ieee.{neg}
 use Rattle.float.specs.Number.{zero_float, one_float}
 use Rattle.sampling.specs.Pose.{try_normalize, from_quat, vector}
@@ -12,7 +12,6 @@ use Rattle.sampling.specs.declared.job.Kind.TheVariants.{J1free}
 use Rattle.sampling.specs.declared.job.Joint.{Joint}
 use Rattle.sampling.specs.declared.job.Job.{Job}
 use Rattle.sheet.specs.declared.request.Shape.{Shape}
-use Rattle.sheet.specs.declared.request.Shape.TheVariants.{Bad, Right}
 use Rattle.sheet.specs.declared.request.Field.{Field}
 use Rattle.sheet.specs.declared.request.Field.TheVariants.{Sign, Arm, Reference, Offset, From, To}
 use Rattle.sheet.specs.Bytes.{float_at}
@@ -67,17 +66,17 @@ unfoldable pub matrix : Quaternion → Matrix
 matrix q = matrix_by (try_normalize q)
 
 -- kind and flags; a wrong one is refused, whatever stands for it here
-unfoldable pub kind_of : Shape → Kind
-kind_of Bad = J1free
-kind_of (Right kind limits fixed) = kind
+unfoldable pub kind_of : Option Shape → Kind
+kind_of None = J1free
+kind_of (Some s) = s.kind
 
-unfoldable pub limited_of : Shape → Bool
-limited_of Bad = false
-limited_of (Right kind limits fixed) = limits
+unfoldable pub limited_of : Option Shape → Bool
+limited_of None = false
+limited_of (Some s) = s.limits
 
-unfoldable pub fixed_of : Shape → Bool
-fixed_of Bad = false
-fixed_of (Right kind limits fixed) = fixed
+unfoldable pub fixed_of : Option Shape → Bool
+fixed_of None = false
+fixed_of (Some s) = s.fixed
 
 unfoldable pub job_of : List ℕ → Job
 job_of r =

@@ -1,12 +1,12 @@
 -- The request (01, "Request and sheet"): where its fields stand, which of them are read, and the request with every unread field zero. Definitions only.
-use Rattle.std.specs.Prelude.{ℕ, suc, ◌+◌, ◌-◌, ◌*◌, ◌/◌, ◌≤◌, ◌≡◌, List, [], ◌∷◌, Bool, true, false, cond, ◌&&◌, length, get_or, T, eqb, ltb}
+use Rattle.std.specs.Prelude.{ℕ, suc, ◌+◌, ◌-◌, ◌*◌, ◌/◌, ◌≤◌, ◌≡◌, List, [], ◌∷◌, Bool, true, false, cond, ◌&&◌, length, get_or, T, eqb, ltb, Option, Some, None}
 use Rattle.sampling.specs.Reads.{joint_read, reference_read, arm_read}
+use Rattle.sampling.specs.declared.job.Kind.{Kind}
 use Rattle.sampling.specs.declared.job.Kind.TheVariants.{J1free, J2free, J1j2free}
 use Rattle.sheet.specs.Bytes.{part}
 use Rattle.sheet.specs.declared.edition.Edition.{Edition}
 use Rattle.sheet.specs.declared.edition.Edition.TheVariants.{One, Two}
 use Rattle.sheet.specs.declared.request.Shape.{Shape}
-use Rattle.sheet.specs.declared.request.Shape.TheVariants.{Bad, Right}
 use Rattle.sheet.specs.declared.request.Field.{Field}
 use Rattle.sheet.specs.declared.request.Field.TheVariants.{Sign, Arm, Reference, Offset, From, To}
 
@@ -66,38 +66,41 @@ width To = 8
 abbrev pub place : Field → ℕ → ℕ
 place f j = start f + width f * (j - 1)
 
--- ---- kind, limits present and sixth joint fixed; `Bad` where one of the three is wrong
+-- ---- kind, limits present and sixth joint fixed; `None` where one of the three is wrong
 
-unfoldable pub shape_by : ℕ → Bool → Bool → Shape
+abbrev pub right_shape : Kind → Bool → Bool → Option Shape
+right_shape kind limits fixed = Some (record { kind = kind; limits = limits; fixed = fixed })
+
+unfoldable pub shape_by : ℕ → Bool → Bool → Option Shape
 shape_by kind limits fixed =
-    cond (eqb kind 1) (Right J1free limits fixed)
-    (cond (eqb kind 2) (Right J2free limits fixed)
-    (cond (eqb kind 3) (Right J1j2free limits fixed)
-    Bad))
+    cond (eqb kind 1) (right_shape J1free limits fixed)
+    (cond (eqb kind 2) (right_shape J2free limits fixed)
+    (cond (eqb kind 3) (right_shape J1j2free limits fixed)
+    None))
 
-unfoldable pub shape_fixed : ℕ → Bool → ℕ → Shape
-shape_fixed kind limits fixed = cond (eqb fixed 0) (shape_by kind limits false) (cond (eqb fixed 1) (shape_by kind limits true) Bad)
+unfoldable pub shape_fixed : ℕ → Bool → ℕ → Option Shape
+shape_fixed kind limits fixed = cond (eqb fixed 0) (shape_by kind limits false) (cond (eqb fixed 1) (shape_by kind limits true) None)
 
-unfoldable pub shape_from : ℕ → ℕ → ℕ → Shape
-shape_from kind limits fixed = cond (eqb limits 0) (shape_fixed kind false fixed) (cond (eqb limits 1) (shape_fixed kind true fixed) Bad)
+unfoldable pub shape_from : ℕ → ℕ → ℕ → Option Shape
+shape_from kind limits fixed = cond (eqb limits 0) (shape_fixed kind false fixed) (cond (eqb limits 1) (shape_fixed kind true fixed) None)
 
-unfoldable pub shape_of : List ℕ → Shape
+unfoldable pub shape_of : List ℕ → Option Shape
 shape_of r = shape_from (get_or r 0 0) (get_or r 1 0) (get_or r 2 0)
 
 -- ---- which fields are read: by kind and flags what sampling's `Reads` says, and limits, if present, for the joints whose signs are; under a wrong kind or
 -- flag none
 
-unfoldable pub reads : Shape → Field → ℕ → Bool
-reads Bad f j = false
-reads (Right kind limits fixed) Sign j = joint_read kind limits fixed j
-reads (Right kind limits fixed) Arm j = arm_read kind j
-reads (Right kind limits fixed) Reference j = reference_read kind limits fixed j
-reads (Right kind limits fixed) Offset j = joint_read kind limits fixed j
-reads (Right kind limits fixed) From j = limits && joint_read kind limits fixed j
-reads (Right kind limits fixed) To j = limits && joint_read kind limits fixed j
+unfoldable pub reads : Option Shape → Field → ℕ → Bool
+reads None f j = false
+reads (Some s) Sign j = joint_read s.kind s.limits s.fixed j
+reads (Some s) Arm j = arm_read s.kind j
+reads (Some s) Reference j = reference_read s.kind s.limits s.fixed j
+reads (Some s) Offset j = joint_read s.kind s.limits s.fixed j
+reads (Some s) From j = s.limits && joint_read s.kind s.limits s.fixed j
+reads (Some s) To j = s.limits && joint_read s.kind s.limits s.fixed j
 
 -- a byte of the request: bytes 0 to 3 and 10 to 15, the rotation and the name are read always, any other as its field is
-unfoldable pub byte_read : Shape → ℕ → Bool
+unfoldable pub byte_read : Option Shape → ℕ → Bool
 byte_read s i =
     cond (ltb i (start Sign)) true
     (cond (ltb i reserved_at) (reads s Sign (i - start Sign + 1))
@@ -129,7 +132,7 @@ pub record AgreeFields (e : Edition) (r s : List ℕ) : Type 0 where
 
 -- ---- the request with every unread field zero
 
-unfoldable pub blank_from : Shape → ℕ → List ℕ → List ℕ
+unfoldable pub blank_from : Option Shape → ℕ → List ℕ → List ℕ
 blank_from s i [] = []
 blank_from s i (b ∷ bs) = cond (byte_read s i) b 0 ∷ blank_from s (suc i) bs
 

@@ -1,6 +1,6 @@
 -- Sampling and Check as they were before 02's change 3, with the pairs of curves in the Rust's order: to compare with. Each definition is that of `Sampling`
 -- or `Check` by the angles and the cuts of sampling's `RustOrder`; 9, which never came, is left out. No function promises any of it. Definitions only.
-use Rattle.std.specs.Prelude.{ℕ, ◌+◌, List, map, ◌++◌, length, drop, leb}
+use Rattle.std.specs.Prelude.{ℕ, ◌+◌, List, map, ◌++◌, length, drop, leb, Option, Some, None}
 use Rattle.std.specs.Float.{binary64}
 use Rattle.std.specs.Float.Ieee.{to_bits}
 use Rattle.sheet.specs.Bytes.{words_bytes, same_bytes}
@@ -12,8 +12,6 @@ use Rattle.sheet.specs.Validate.{validate}
 use Rattle.sheet.specs.Sheet.{trailer, trailer_size, sheet_size}
 use Rattle.sheet.specs.Check.{count_of, edition_of, request_of, items_of, formed, meets_none, clean}
 use Rattle.sheet.specs.declared.edition.Edition.{Edition}
-use Rattle.sheet.specs.declared.edition.Said.{Said}
-use Rattle.sheet.specs.declared.edition.Said.TheVariants.{Known, Unknown}
 use Rattle.sampling.specs.RustOrder as RustOrder
 
 -- ---- Sampling
@@ -46,9 +44,9 @@ check_edition e s places =
     (need (same_bytes (items_of e s) (words_bytes (items (request_of e s)))) 36
     (accepted (count_of s))))))
 
-unfoldable pub check_said : Said → List ℕ → ℕ → Answer
-check_said (Known e) s places = check_edition e s places
-check_said Unknown s places = refused 32
+unfoldable pub check_said : Option Edition → List ℕ → ℕ → Answer
+check_said (Some e) s places = check_edition e s places
+check_said None s places = refused 32
 
 unfoldable pub check : Edition → List ℕ → ℕ → Answer
 check upto s places = need (leb (core_size + trailer_size) (length s)) 31 (check_said (known upto (edition_of s)) s places)

@@ -1,7 +1,7 @@
 -- The operation Sampling (01; 02, changes 2 and 5): refusals 1 to 8, 41, 10 and 11 in their order, the sheet of each edition, and what the output holds
 -- afterwards.
 -- Definitions only.
-use Rattle.std.specs.Prelude.{ℕ, List, map, ◌++◌, length, drop, leb, Float}
+use Rattle.std.specs.Prelude.{ℕ, List, map, ◌++◌, length, drop, leb, Float, Result, Ok, Err}
 use Rattle.std.specs.Float.{binary64}
 use Rattle.std.specs.Float.Ieee.{to_bits}
 use Rattle.sheet.specs.Bytes.{words_bytes}
@@ -12,14 +12,13 @@ use Rattle.sheet.specs.Refusals.{Answer, accepted, refused, need, number}
 use Rattle.sheet.specs.Validate.{validate}
 use Rattle.sheet.specs.Sheet.{trailer, sheet_size}
 use Rattle.sheet.specs.declared.edition.Edition.{Edition}
-use Rattle.sheet.specs.declared.sample.Sampled.{Sampled}
+use Rattle.sheet.specs.declared.refusals.Refusal.{Refusal}
 use Rattle.sampling.specs.Angles as Angles
-use Rattle.sheet.specs.declared.sample.Sampled.TheVariants as sampled
 
 -- what the code answers
-abbrev pub answer_of : Sampled → Answer
-answer_of (sampled.Angles n) = accepted n
-answer_of (sampled.Refused k) = refused (number k)
+abbrev pub answer_of : Result ℕ Refusal → Answer
+answer_of (Ok n) = accepted n
+answer_of (Err k) = refused (number k)
 
 -- The angles of a request: every field as given, none blanked first.
 unfoldable pub angles : List ℕ → List Float

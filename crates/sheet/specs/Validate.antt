@@ -1,6 +1,6 @@
 -- The tests that a request must pass: refusals 1 to 8 (01, Sampling) and 41 (02, change 2). An unread field passes every test, and NaN is within no range.
 -- Definitions only.
-use Rattle.std.specs.Prelude.{ℕ, zero, suc, List, [], ◌∷◌, Bool, true, false, cond, ◌&&◌, ◌||◌, length, get_or, drop, eqb, leb, pos, Float}
+use Rattle.std.specs.Prelude.{ℕ, zero, suc, List, [], ◌∷◌, Bool, true, false, cond, ◌&&◌, ◌||◌, length, get_or, drop, eqb, leb, pos, Float, Option, Some, None}
 use Rattle.std.specs.Float.{fin}
 use Rattle.std.specs.Float.Ieee.{le, neg}
 use Rattle.std.specs.Float.Ieee.Scale.{finite}
@@ -10,7 +10,6 @@ use Rattle.sampling.specs.declared.pose.Normalized.{Normalized}
 use Rattle.sampling.specs.declared.pose.Normalized.TheVariants.{Unit, NotFinite, Zero}
 use Rattle.sheet.specs.declared.edition.Edition.{Edition}
 use Rattle.sheet.specs.declared.request.Shape.{Shape}
-use Rattle.sheet.specs.declared.request.Shape.TheVariants.{Bad, Right}
 use Rattle.sheet.specs.declared.request.Field.{Field}
 use Rattle.sheet.specs.declared.request.Field.TheVariants.{Sign, Arm, Reference, Offset, From, To}
 use Rattle.sheet.specs.Refusals.{Answer, need}
@@ -24,9 +23,9 @@ all_from (suc n) j p = p j && all_from n (suc j) p
 
 -- ---- 2: kind, flags and reserved bytes
 
-unfoldable pub right : Shape → Bool
-right Bad = false
-right (Right kind limits fixed) = true
+unfoldable pub right : Option Shape → Bool
+right None = false
+right (Some s) = true
 
 abbrev pub zero_at : List ℕ → ℕ → Bool
 zero_at r i = eqb (get_or r i 0) 0
@@ -52,7 +51,7 @@ name_right r = is_name (drop name_at r)
 
 -- ---- 3: a read sign is 1 or 255
 
-unfoldable pub sign_right : Shape → List ℕ → ℕ → Bool
+unfoldable pub sign_right : Option Shape → List ℕ → ℕ → Bool
 sign_right s r j = cond (reads s Sign j) (eqb (get_or r (place Sign j) 0) 1 || eqb (get_or r (place Sign j) 0) 255) true
 
 unfoldable pub signs_right : List ℕ → Bool
@@ -86,7 +85,7 @@ passes Offset x = within two_pi x
 passes From x = true
 passes To x = true
 
-unfoldable pub field_right : Shape → Field → List ℕ → ℕ → Bool
+unfoldable pub field_right : Option Shape → Field → List ℕ → ℕ → Bool
 field_right s f r j = cond (reads s f j) (passes f (field r f j)) true
 
 abbrev pub fields_right : Field → List ℕ → Bool

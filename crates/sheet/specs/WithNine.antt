@@ -1,7 +1,7 @@
 -- Sampling and Check as they were before 02's change 5, with refusal 9: an inner call of the root finder is refused. To compare with: each definition is that
 -- of `Sampling` or `Check` with 9 in its place. No function promises any of it. Definitions only.
 -- The list of a refused call was empty then. It is the Rust's here, as its answer is 9 whatever its list.
-use Rattle.std.specs.Prelude.{ℕ, ◌+◌, List, length, leb}
+use Rattle.std.specs.Prelude.{ℕ, ◌+◌, List, length, leb, Option, Some, None}
 use Rattle.polynomial.specs.InnerCalls.{all_taken}
 use Rattle.sampling.specs.InnerCalls.{inner_calls}
 use Rattle.sheet.specs.Bytes.{words_bytes, same_bytes}
@@ -14,8 +14,6 @@ use Rattle.sheet.specs.Sheet.{trailer_size, sheet_size}
 use Rattle.sheet.specs.Sampling.{items, cut_count}
 use Rattle.sheet.specs.Check.{count_of, edition_of, request_of, items_of, formed, is_accepted, clean}
 use Rattle.sheet.specs.declared.edition.Edition.{Edition}
-use Rattle.sheet.specs.declared.edition.Said.{Said}
-use Rattle.sheet.specs.declared.edition.Said.TheVariants.{Known, Unknown}
 
 -- 1 to 9 and 41, which the request alone decides, and then v
 unfoldable pub by_request : Edition → List ℕ → Answer → Answer
@@ -41,9 +39,9 @@ check_edition e s places =
     (need (same_bytes (items_of e s) (words_bytes (items (request_of e s)))) 36
     (accepted (count_of s))))))
 
-unfoldable pub check_said : Said → List ℕ → ℕ → Answer
-check_said (Known e) s places = check_edition e s places
-check_said Unknown s places = refused 32
+unfoldable pub check_said : Option Edition → List ℕ → ℕ → Answer
+check_said (Some e) s places = check_edition e s places
+check_said None s places = refused 32
 
 unfoldable pub check : Edition → List ℕ → ℕ → Answer
 check upto s places = need (leb (core_size + trailer_size) (length s)) 31 (check_said (known upto (edition_of s)) s places)

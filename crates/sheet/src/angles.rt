@@ -14,10 +14,8 @@ fn put_list(output: &mut [u8], at: usize, list: &[f64])
     requires { at + 8 * length list.now ≤ length output.old }
     ensures { output.new ≡ sets output.old at (Floats.floats_bytes list.now) }
 {
-    let mut i = 0usize;
-    while i < list.len() {
-        put_float(output, at + 8 * i, list[i]);
-        i += 1;
+    for (i, x) in list.iter().enumerate() {
+        put_float(output, at + 8 * i, *x);
     }
 }
 
@@ -37,10 +35,8 @@ fn put_between(output: &mut [u8], at: usize, list: &[f64])
     requires { at + 24 * (length list.now - 1) ≤ length output.old }
     ensures { output.new ≡ sets output.old at (Floats.floats_bytes (Samples.all_between list.now)) }
 {
-    let mut i = 0usize;
-    while i + 1 < list.len() {
+    for i in 0..list.len().saturating_sub(1) {
         put_three(output, at + 24 * i, list[i], list[i + 1]);
-        i += 1;
     }
 }
 

@@ -11,24 +11,18 @@ ghost use Rattle.sheet.specs.Sheet as Sheet;
 ghost use Rattle.sheet.specs.Check as Check;
 ghost use Rattle.sheet.specs.Promises.Plan as Promise;
 
-use crate::bytes::{half, pair, same_at, same_float};
-use crate::edition::{Edition, Said, known};
+use crate::bytes::{bytes_at, same_at, same_float};
+use crate::edition::{Edition, known};
 use crate::plan::{is_short, plan_request};
 use crate::refusals::Fault;
 use crate::request::unread_zero;
 use crate::trailer::{ITEMS_BOUND, LEAST, TRAILER, frame_size, put_trailer};
-use crate::validate::{Tested, validate};
+use crate::validate::validate;
+use crate::view::View;
 use sampling::lists::Plan;
 use sampling::plan::{next, start};
 use sampling::stream::Step;
 use sampling::work::clear;
-
-// The number of angles, or a refusal.
-#[derive(Clone, Copy)]
-pub enum Checked {
-    Accepted(usize),
-    Refused(Fault),
-}
 
 // Whether the bytes are those of the angles, no more and no less.
 fn same_angles(s: &[u8], work: &[f64], plan: Plan) -> bool
@@ -64,16 +58,16 @@ fn count_of(sheet: &[u8]) -> usize
     ensures upper_bound { result < 2 ^ 32 }
 {
     let at = sheet.len() - TRAILER;
-    half(sheet, at) as usize
+    u32::from_le_bytes(bytes_at(sheet, at)) as usize
 }
 
 // The edition that the trailer says.
-fn edition_of(sheet: &[u8]) -> Said
+fn edition_of(sheet: &[u8]) -> Option<Edition>
     requires { Request.core_size + Sheet.trailer_size ≤ length sheet.now }
     ensures { result ≡ known newest (Check.edition_of sheet.now) }
 {
     let at = sheet.len() - TRAILER;
-    known(pair(sheet, at + 8))
+    known(u16::from_le_bytes(bytes_at(sheet, at + 8)))
 }
 
 // 32: the length is that of n angles, 8n is a u32, and the trailer is theirs.
@@ -95,47 +89,51 @@ fn formed(e: Edition, sheet: &[u8], n: usize) -> bool
 }
 
 // 34 to 36.
-fn compare(s: &[u8], request: &[u8], work: &[f64], plan: Plan, n: usize) -> Checked
-    requires in_bounds { Request.core_size ≤ length request.now }
-    requires planned_for { Promise.PlannedFor request.now plan work.now }
-    ensures { Check.answer_of result ≡ Promise.compared request.now s.now n (length work.now) }
+#[tactic(auto, unfolding(crate::specs::Promises::Plan::compared, crate::specs::Refusals::need))]
+fn compare(s: &[u8], view: View, work: &[f64], plan: Plan, n: usize) -> Result<usize, Fault>
+    requires { Promise.PlannedFor view.request.now plan work.now }
+    ensures { Check.answer_of result ≡ Promise.compared view.entry.request.now s.now n (length work.now) }
 {
-    if !unread_zero(request) {
-        return Checked::Refused(Fault::Unread);
+    if !unread_zero(view) {
+        return Err(Fault::Unread);
     }
     if is_short(plan) {
-        return Checked::Refused(Fault::Work);
+        return Err(Fault::Work);
     }
     if !same_angles(s, work, plan) {
-        return Checked::Refused(Fault::Angles);
+        return Err(Fault::Angles);
     }
-    Checked::Accepted(n)
+    Ok(n)
 }
 
 // 33 to 36, for the angles' bytes s and n angles.
-fn check_request(e: Edition, s: &[u8], request: &[u8], work: &mut [f64], n: usize) -> Checked
+fn check_request(
+    e: Edition,
+    s: &[u8],
+    request: &[u8],
+    work: &mut [f64],
+    n: usize,
+) -> Result<usize, Fault>
     ensures result_value { Check.answer_of result ≡ Promise.checked e request.now s.now n (length work.old) }
     ensures work_after { work.new ≡ Promise.work_left e request.now work.old }
 {
-    let t = validate(e, request);
-    match t {
-        Tested::Passed(q) => {
-            let plan = plan_request(work, request, q);
-            compare(s, request, work, plan, n)
-        }
-        Tested::Refused(_) => Checked::Refused(Fault::Request),
-    }
+    let Ok(q) = validate(e, request) else {
+        return Err(Fault::Request);
+    };
+    let view = View { request };
+    let plan = plan_request(work, view, q);
+    compare(s, view, work, plan, n)
 }
 
 // 32 to 36 of a sheet that says this edition.
-fn inspect_edition(e: Edition, sheet: &[u8], work: &mut [f64]) -> Checked
+fn inspect_edition(e: Edition, sheet: &[u8], work: &mut [f64]) -> Result<usize, Fault>
     requires { Request.core_size + Sheet.trailer_size ≤ length sheet.now }
     ensures result_value { Check.answer_of result ≡ Check.by_edition e sheet.now (length work.old) }
     ensures work_after { work.new ≡ Promise.work_by e sheet.now work.old }
 {
     let n = count_of(sheet);
     if !formed(e, sheet, n) {
-        return Checked::Refused(Fault::Trailer);
+        return Err(Fault::Trailer);
     }
     let at = sheet.len() - frame_size(e);
     let end = sheet.len() - TRAILER;
@@ -143,22 +141,19 @@ fn inspect_edition(e: Edition, sheet: &[u8], work: &mut [f64]) -> Checked
 }
 
 // 31, and then by the edition that the trailer says; one that is not known is 32.
-fn inspect(sheet: &[u8], work: &mut [f64]) -> Checked
+fn inspect(sheet: &[u8], work: &mut [f64]) -> Result<usize, Fault>
     ensures result_value { Check.answer_of result ≡ Check.answer newest sheet.now (length work.old) }
     ensures work_after { work.new ≡ Promise.work_checked sheet.now work.old }
 {
     if sheet.len() < LEAST {
-        return Checked::Refused(Fault::Length);
+        return Err(Fault::Length);
     }
-    let said = edition_of(sheet);
-    match said {
-        Said::Known(e) => inspect_edition(e, sheet, work),
-        Said::Unknown => Checked::Refused(Fault::Trailer),
-    }
+    let e = edition_of(sheet).ok_or(Fault::Trailer)?;
+    inspect_edition(e, sheet, work)
 }
 
-// Check. After every answer each work place is +0.0.
-pub fn check(sheet: &[u8], work: &mut [f64]) -> Checked
+// Check: the number of angles, or the first refusal. After every answer each work place is +0.0.
+pub fn check(sheet: &[u8], work: &mut [f64]) -> Result<usize, Fault>
     ensures result_value { Check.answer_of result ≡ Check.answer newest sheet.now (length work.old) }
     ensures work_after { work.new ≡ Bytes.zeros (length work.old) }
 {

@@ -9,14 +9,7 @@ pub enum Edition {
     Two,
 }
 
-// What a number stands for: an edition, or none that is known.
-#[derive(Clone, Copy)]
-pub enum Said {
-    Known(Edition),
-    Unknown,
-}
-
-pub(crate) fn edition_number(e: Edition) -> u64
+pub(crate) fn edition_number(e: Edition) -> u16
     ensures { result ≡ Editions.number e }
 {
     match e {
@@ -32,13 +25,14 @@ pub(crate) fn newest() -> Edition
     Edition::Two
 }
 
-// The edition that has a number, of all up to the newest.
-pub(crate) fn known(k: u16) -> Said
+// The edition that has a number, of all up to the newest, or none that is known.
+#[tactic(auto, unfolding(crate::specs::Edition::known, crate::specs::Edition::numbered))]
+pub(crate) fn known(k: u16) -> Option<Edition>
     ensures { result ≡ Editions.known Editions.newest k }
 {
     match k {
-        1 => Said::Known(Edition::One),
-        2 => Said::Known(Edition::Two),
-        _ => Said::Unknown,
+        1 => Some(Edition::One),
+        2 => Some(Edition::Two),
+        _ => None,
     }
 }

@@ -1,13 +1,12 @@
 // The plan of a request: its cuts in work, or that there are too few places.
-ghost use Rattle.std.specs.Prelude.{◌≡◌, ◌≤◌, length};
+ghost use Rattle.std.specs.Prelude.{◌≡◌, length};
 ghost use Rattle.sampling.specs.Pose.{try_normalize};
 ghost use Rattle.sampling.specs.declared.pose.Normalized.TheVariants.{Unit};
 ghost use Rattle.sampling.specs.Promises.Plan as Plans;
-ghost use Rattle.sheet.specs.Request as Request;
 ghost use Rattle.sheet.specs.Fields as Fields;
 ghost use Rattle.sheet.specs.Promises.Plan as Promise;
 
-use crate::view::read_job;
+use crate::view::View;
 use sampling::lists::Plan;
 use sampling::plan::plan_of;
 use sampling::pose::{Quaternion, from_quat};
@@ -24,14 +23,12 @@ pub(crate) fn is_short(plan: Plan) -> bool
 }
 
 // Puts the cuts of a request, whose rotation is normalized to q, into work.
-pub(crate) fn plan_request(work: &mut [f64], request: &[u8], q: Quaternion) -> Plan
-    requires in_bounds { Request.core_size ≤ length request.now }
-    requires request_value { try_normalize (Fields.rotation_of request.now) ≡ Unit q }
-    requires drawable { Plans.Drawable (Fields.job_of request.now) }
-    ensures value { result ≡ Plans.plan (Fields.job_of request.now) (length work.old) }
-    ensures work_after { work.new ≡ Plans.work_after (Fields.job_of request.now) work.old }
+#[tactic(auto, unfolding(crate::specs::Fields::matrix, crate::specs::Fields::matrix_by))]
+pub(crate) fn plan_request(work: &mut [f64], view: View, q: Quaternion) -> Plan
+    requires request_value { try_normalize (Fields.rotation_of view.request.now) ≡ Unit q }
+    requires drawable { Plans.Drawable (Fields.job_of view.request.now) }
+    ensures value { result ≡ Plans.plan (Fields.job_of view.entry.request.now) (length work.old) }
+    ensures work_after { work.new ≡ Plans.work_after (Fields.job_of view.entry.request.now) work.old }
 {
-    let m = from_quat(q);
-    let job = read_job(request, m);
-    plan_of(work, job)
+    plan_of(work, view.job(from_quat(q)))
 }

@@ -1,6 +1,5 @@
 // What Sampling refuses and what is wrong with a sheet, and the papers' number of each.
-ghost use Rattle.std.specs.Prelude.{◌≡◌};
-ghost use Rattle.sheet.specs.Refusals as Refusals;
+use polynomial::refusals::Numbered;
 
 // The refusals of Sampling, in their order.
 #[derive(Clone, Copy)]
@@ -18,21 +17,25 @@ pub enum Refusal {
     Output,
 }
 
-pub fn refusal_number(r: Refusal) -> u64
-    ensures { result ≡ Refusals.number r }
-{
-    match r {
-        Refusal::Length => 1,
-        Refusal::Head => 2,
-        Refusal::Name => 41,
-        Refusal::Sign => 3,
-        Refusal::NotFinite => 4,
-        Refusal::Zero => 5,
-        Refusal::Arm => 6,
-        Refusal::Reference => 7,
-        Refusal::Offset => 8,
-        Refusal::Work => 10,
-        Refusal::Output => 11,
+impl Numbered for Refusal {
+    ghost use Rattle.sheet.specs.Refusals as Refusals;
+
+    ghost number = { Refusals.number };
+
+    fn number(self) -> u8 {
+        match self {
+            Refusal::Length => 1,
+            Refusal::Head => 2,
+            Refusal::Name => 41,
+            Refusal::Sign => 3,
+            Refusal::NotFinite => 4,
+            Refusal::Zero => 5,
+            Refusal::Arm => 6,
+            Refusal::Reference => 7,
+            Refusal::Offset => 8,
+            Refusal::Work => 10,
+            Refusal::Output => 11,
+        }
     }
 }
 
@@ -47,15 +50,19 @@ pub enum Fault {
     Angles,
 }
 
-pub fn fault_number(f: Fault) -> u64
-    ensures { result ≡ Refusals.fault_number f }
-{
-    match f {
-        Fault::Length => 31,
-        Fault::Trailer => 32,
-        Fault::Request => 33,
-        Fault::Unread => 34,
-        Fault::Work => 35,
-        Fault::Angles => 36,
+impl Numbered for Fault {
+    ghost use Rattle.sheet.specs.Refusals as Refusals;
+
+    ghost number = { Refusals.fault_number };
+
+    fn number(self) -> u8 {
+        match self {
+            Fault::Length => 31,
+            Fault::Trailer => 32,
+            Fault::Request => 33,
+            Fault::Unread => 34,
+            Fault::Work => 35,
+            Fault::Angles => 36,
+        }
     }
 }

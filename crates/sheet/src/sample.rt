@@ -18,18 +18,12 @@ use crate::plan::{is_short, plan_request};
 use crate::refusals::Refusal;
 use crate::request::{REQUEST, put_blank};
 use crate::trailer::{FRAME, put_trailer};
-use crate::validate::{Tested, validate};
+use crate::validate::validate;
+use crate::view::View;
 use sampling::lists::Plan;
 use sampling::plan::{count, next, start};
 use sampling::stream::Step;
 use sampling::work::clear;
-
-// The number of angles, or a refusal.
-#[derive(Clone, Copy)]
-pub enum Sampled {
-    Angles(usize),
-    Refused(Refusal),
-}
 
 // The angles as `next` gives them, from the start of the output on.
 fn put_stream(output: &mut [u8], work: &[f64], plan: Plan)
@@ -68,17 +62,17 @@ fn put_angles(output: &mut [u8], work: &[f64], plan: Plan)
 }
 
 // The sheet: the n angles, the blanked request, the trailer.
-fn fill(output: &mut [u8], request: &[u8], work: &[f64], plan: Plan, n: usize)
-    requires request_len { length request.now ≡ Request.request_size newest }
+fn fill(output: &mut [u8], view: View, work: &[f64], plan: Plan, n: usize)
+    requires request_len { length view.request.now ≡ Request.request_size newest }
     requires ready { Ready plan work.now }
     requires n_value { n ≡ length (to_come plan work.now start) }
     requires n_in_bounds { Sheet.sheet_size newest n ≤ length output.old }
     ensures { output.new ≡
         sets output.old 0 (Floats.floats_bytes (to_come plan work.now start)
-        ++ (Request.blank request.now ++ Sheet.trailer newest n)) }
+        ++ (Request.blank view.entry.request.now ++ Sheet.trailer newest n)) }
 {
     put_angles(output, work, plan);
-    put_blank(output, 8 * n, request);
+    put_blank(output, 8 * n, view);
     put_trailer(output, 8 * n + REQUEST, newest(), n);
 }
 
@@ -96,41 +90,37 @@ fn has_room(n: usize, room: usize) -> bool
 }
 
 // 10 and 11, and else the sheet.
-fn finish(output: &mut [u8], request: &[u8], work: &[f64], plan: Plan) -> Sampled
-    requires request_len { length request.now ≡ Request.request_size newest }
-    requires planned_for { Promise.PlannedFor request.now plan work.now }
-    ensures result_value { Sampling.answer_of result ≡ Promise.planned_answer request.now (length work.now) (length output.old) }
-    ensures output_after { output.new ≡ Sampling.output_after (Sampling.answer_of result) request.now output.old }
+fn finish(output: &mut [u8], view: View, work: &[f64], plan: Plan) -> Result<usize, Refusal>
+    requires request_len { length view.request.now ≡ Request.request_size newest }
+    requires planned_for { Promise.PlannedFor view.request.now plan work.now }
+    ensures result_value { Sampling.answer_of result ≡ Promise.planned_answer view.entry.request.now (length work.now) (length output.old) }
+    ensures output_after { output.new ≡ Sampling.output_after (Sampling.answer_of result) view.entry.request.now output.old }
 {
     if is_short(plan) {
-        return Sampled::Refused(Refusal::Work);
+        return Err(Refusal::Work);
     }
     let n = count(work, plan);
     if has_room(n, output.len()) {
-        fill(output, request, work, plan, n);
-        return Sampled::Angles(n);
+        fill(output, view, work, plan, n);
+        return Ok(n);
     }
-    Sampled::Refused(Refusal::Output)
+    Err(Refusal::Output)
 }
 
-fn run(request: &[u8], work: &mut [f64], output: &mut [u8]) -> Sampled
+fn run(request: &[u8], work: &mut [f64], output: &mut [u8]) -> Result<usize, Refusal>
     ensures result_value { Sampling.answer_of result ≡ Sampling.answer request.now (length work.old) (length output.old) }
     ensures output_after { output.new ≡ Sampling.output_after (Sampling.answer_of result) request.now output.old }
     ensures work_after { work.new ≡ Promise.work_left newest request.now work.old }
 {
-    let t = validate(newest(), request);
-    match t {
-        Tested::Passed(q) => {
-            let plan = plan_request(work, request, q);
-            finish(output, request, work, plan)
-        }
-        Tested::Refused(k) => Sampled::Refused(k),
-    }
+    let q = validate(newest(), request)?;
+    let view = View { request };
+    let plan = plan_request(work, view, q);
+    finish(output, view, work, plan)
 }
 
-// Sampling. Success fills the first bytes of the output with the sheet; a refusal leaves it. After
+// Sampling: the number of angles, or the first refusal. Success fills the first bytes of the output with the sheet; a refusal leaves it. After
 // every answer each work place is +0.0.
-pub fn sample(request: &[u8], work: &mut [f64], output: &mut [u8]) -> Sampled
+pub fn sample(request: &[u8], work: &mut [f64], output: &mut [u8]) -> Result<usize, Refusal>
     ensures result_value { Sampling.answer_of result ≡ Sampling.answer request.now (length work.old) (length output.old) }
     ensures output_after { output.new ≡ Sampling.output_after (Sampling.answer_of result) request.now output.old }
     ensures work_after { work.new ≡ Bytes.zeros (length work.old) }

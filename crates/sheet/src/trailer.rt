@@ -32,8 +32,9 @@ pub(crate) fn put_trailer(out: &mut [u8], at: usize, e: Edition, n: usize)
     requires { (at + Sheet.trailer_size ≤ length out.old) × (n < 2 ^ 60) }
     ensures { out.new ≡ sets out.old at (Sheet.trailer e n) }
 {
-    put(out, at, 4, n as u64);
-    put(out, at + 4, 4, 8 * (n as u64));
-    put(out, at + 8, 2, edition_number(e));
-    put(out, at + 10, 6, 0);
+    let n = n as u64;
+    put(out, at, &n.to_le_bytes()[..4]);
+    put(out, at + 4, &(8 * n).to_le_bytes()[..4]);
+    put(out, at + 8, &edition_number(e).to_le_bytes());
+    put(out, at + 10, &[0; 6]);
 }

@@ -4,13 +4,18 @@ ghost use Rattle.sheet.specs.Bytes as Bytes;
 ghost use Rattle.sheet.specs.Sampling as Sampling;
 ghost use Rattle.sheet.specs.Demands.{Together};
 
-use crate::sample::{Sampled, sample};
-
-#[derive(Clone, Copy)]
-pub struct Both(pub Sampled, pub Sampled);
+use crate::refusals::Refusal;
+use crate::sample::sample;
 
 // Two requests, r and s, with work v and w and outputs x and y, one after the other.
-pub fn twice(r: &[u8], s: &[u8], v: &mut [f64], w: &mut [f64], x: &mut [u8], y: &mut [u8]) -> Both
+pub fn twice(
+    r: &[u8],
+    s: &[u8],
+    v: &mut [f64],
+    w: &mut [f64],
+    x: &mut [u8],
+    y: &mut [u8],
+) -> (Result<usize, Refusal>, Result<usize, Refusal>)
     ensures result_value { Sampling.answer_of result.0 ≡ Sampling.answer r.now (length v.old) (length x.old) }
     ensures result_value_2 { Sampling.answer_of result.1 ≡ Sampling.answer s.now (length w.old) (length y.old) }
     ensures x_after { x.new ≡ Sampling.output_after (Sampling.answer_of result.0) r.now x.old }
@@ -22,5 +27,5 @@ pub fn twice(r: &[u8], s: &[u8], v: &mut [f64], w: &mut [f64], x: &mut [u8], y: 
 {
     let first = sample(r, v, x);
     let second = sample(s, w, y);
-    Both(first, second)
+    (first, second)
 }

@@ -1,114 +1,90 @@
 // The tests that a request must pass: refusals 1 to 8 and 41.
-ghost use Rattle.std.specs.Prelude.{◌≡◌, ◌+◌, ◌≤◌, length};
+ghost use Rattle.std.specs.Prelude.{◌≡◌, ◌≤◌};
 ghost use Rattle.sampling.specs.Pose as Pose;
 ghost use Rattle.sheet.specs.Request as Request;
 ghost use Rattle.sheet.specs.Fields as Fields;
 ghost use Rattle.sheet.specs.Validate as Validate;
 ghost use Rattle.sheet.specs.Promises.Tested as Promise;
 
-use crate::bytes::byte_at;
 use crate::edition::Edition;
-use crate::fields::{field_at, rotation_of};
 use crate::refusals::Refusal;
-use crate::request::{Field, NAME, RESERVED, Shape, field_read, place, request_size, shape_of};
+use crate::request::{Field, NAME, RESERVED, Shape, field_read, place, request_size};
+use crate::view::View;
 use float::number::is_finite;
 use float::trig::TWO_PI;
 use sampling::pose::{Normalized, Quaternion, try_normalize};
 
-// The rotation, normalized, of a request that meets none of refusals 1 to 8 and 41; or the first
-// that it meets.
-#[derive(Clone, Copy)]
-pub enum Tested {
-    Passed(Quaternion),
-    Refused(Refusal),
-}
-
-// Whether kind and flags are right.
-fn right(s: Shape) -> bool
-    ensures { result ≡ Validate.right s }
+// Whether the bytes are zero.
+fn all_zero(bytes: &[u8]) -> bool
+    ensures { result ≡ Validate.all_zero bytes.now }
 {
-    match s {
-        Shape::Bad => false,
-        Shape::Right(_, _, _) => true,
-    }
-}
-
-// Whether the n bytes from `at` are zero.
-fn zeros_from(request: &[u8], at: usize, n: usize) -> bool
-    requires { at + n ≤ length request.now }
-    ensures { result ≡ Validate.all_from n at (Validate.zero_at request.now) }
-{
-    let mut i = 0usize;
-    while i < n {
-        if byte_at(request, at + i) != 0 {
-            return false;
-        }
-        i += 1;
-    }
-    true
+    bytes.iter().all(|b| *b == 0)
 }
 
 // 2: kind, flags and reserved bytes.
-fn head_right(request: &[u8]) -> bool
-    requires { Request.core_size ≤ length request.now }
-    ensures { result ≡ Validate.head_right request.now }
+#[tactic(auto, using(crate::proofs::validate::Names::reserved_zero), unfolding(crate::specs::Validate::head_right, crate::specs::Validate::right))]
+fn head_right(view: View) -> bool
+    ensures { result ≡ Validate.head_right view.entry.request.now }
 {
-    if right(shape_of(request)) {
-        return (byte_at(request, 3) == 0) & zeros_from(request, RESERVED, 6);
-    }
-    false
+    let request = view.request;
+    view.shape().is_some() & (request[3] == 0) & all_zero(&request[RESERVED..RESERVED + 6])
 }
 
 // The characters of names: 32 to 126.
 fn is_character(b: u8) -> bool
     ensures { result ≡ Validate.is_character b }
 {
-    (32 <= b) & (b <= 126)
+    (32..=126).contains(&b)
 }
 
-// 41: the name is characters, then zeros to the end. A request of edition 1 ends before it.
-fn name_right(request: &[u8]) -> bool
-    ensures { result ≡ Validate.name_right request.now }
+// Whether a name is characters, then zeros to the end.
+fn is_name(name: &[u8]) -> bool
+    ensures { result ≡ Validate.is_name name.now }
 {
-    let mut i = NAME;
-    while i < request.len() {
-        if !is_character(request[i]) {
-            return zeros_from(request, i, request.len() - i);
+    for (i, b) in name.iter().enumerate() {
+        if !is_character(*b) {
+            return all_zero(&name[i..]);
         }
-        i += 1;
     }
     true
 }
 
-fn sign_right(s: Shape, request: &[u8], j: usize) -> bool
-    requires { (Request.core_size ≤ length request.now) × (1 ≤ j) × (j ≤ 6) }
-    ensures { result ≡ Validate.sign_right s request.now j }
+// 41: the name. A request of edition 1 ends before it.
+#[tactic(auto, unfolding(crate::specs::Validate::name_right))]
+fn name_right(view: View) -> bool
+    ensures { result ≡ Validate.name_right view.entry.request.now }
+{
+    is_name(&view.request[NAME..])
+}
+
+#[tactic(auto, unfolding(crate::specs::Validate::sign_right))]
+fn sign_right(s: Option<Shape>, view: View, j: usize) -> bool
+    requires { (1 ≤ j) × (j ≤ 6) }
+    ensures { result ≡ Validate.sign_right s view.entry.request.now j }
 {
     if field_read(s, Field::Sign, j) {
         let at = place(Field::Sign, j);
-        let b = byte_at(request, at);
-        return (b == 1) | (b == 255);
+        let b = view.request[at];
+        return b == 1 || b == 255;
     }
     true
 }
 
 // 3: a read sign is 1 or 255.
-fn signs_right(request: &[u8]) -> bool
-    requires { Request.core_size ≤ length request.now }
-    ensures { result ≡ Validate.signs_right request.now }
+fn signs_right(view: View) -> bool
+    ensures { result ≡ Validate.signs_right view.entry.request.now }
 {
-    let s = shape_of(request);
-    let mut j = 1usize;
-    while j <= 6 {
-        if !sign_right(s, request, j) {
+    let s = view.shape();
+    for j in 1..7 {
+        if !sign_right(s, view, j) {
             return false;
         }
-        j += 1;
     }
     true
 }
 
 // Whether x lies between minus the bound and the bound; a NaN does not.
+#[tactic(auto, unfolding(crate::specs::Validate::within))]
 fn within(bound: f64, x: f64) -> bool
     ensures { result ≡ Validate.within bound x }
 {
@@ -116,6 +92,7 @@ fn within(bound: f64, x: f64) -> bool
 }
 
 // What a class of fields asks of a float.
+#[tactic(auto, unfolding(crate::specs::Validate::passes))]
 fn passes(f: Field, x: f64) -> bool
     ensures { result ≡ Validate.passes f x }
 {
@@ -129,78 +106,78 @@ fn passes(f: Field, x: f64) -> bool
     }
 }
 
-fn field_right(s: Shape, f: Field, request: &[u8], j: usize) -> bool
-    requires { (Request.core_size ≤ length request.now) × (1 ≤ j) × (j ≤ 6) }
-    ensures { result ≡ Validate.field_right s f request.now j }
+#[tactic(auto, unfolding(crate::specs::Validate::field_right))]
+fn field_right(s: Option<Shape>, f: Field, view: View, j: usize) -> bool
+    requires { (1 ≤ j) × (j ≤ 6) }
+    ensures { result ≡ Validate.field_right s f view.entry.request.now j }
 {
     if field_read(s, f, j) {
-        return passes(f, field_at(request, f, j));
+        return passes(f, view.field(f, j));
     }
     true
 }
 
 // Whether the read fields of a class, of which there are n, pass.
-fn fields_right(f: Field, request: &[u8], n: usize) -> bool
-    requires { (Request.core_size ≤ length request.now) × (n ≤ 6) }
-    ensures { result ≡ Validate.all_from n 1 (Validate.field_right (Request.shape_of request.now) f request.now) }
+fn fields_right(f: Field, view: View, n: usize) -> bool
+    requires { n ≤ 6 }
+    ensures { result ≡ Validate.all_from n 1 (Validate.field_right (Request.shape_of view.entry.request.now) f view.entry.request.now) }
 {
-    let s = shape_of(request);
-    let mut j = 1usize;
-    while j <= n {
-        if !field_right(s, f, request, j) {
+    let s = view.shape();
+    for j in 1..n + 1 {
+        if !field_right(s, f, view, j) {
             return false;
         }
-        j += 1;
     }
     true
 }
 
 // 6 to 8: arm angles, references, offsets; for a rotation that is normalized to q.
-fn validate_fields(request: &[u8], q: Quaternion) -> Tested
-    requires { Request.core_size ≤ length request.now }
-    ensures { result ≡ Promise.tested_fields request.now q }
+#[tactic(auto, unfolding(crate::specs::Validate::arm_within, crate::specs::Validate::references_finite, crate::specs::Validate::offsets_within))]
+fn validate_fields(view: View, q: Quaternion) -> Result<Quaternion, Refusal>
+    ensures { result ≡ Promise.tested_fields view.entry.request.now q }
 {
-    if !fields_right(Field::Arm, request, 3) {
-        return Tested::Refused(Refusal::Arm);
+    if !fields_right(Field::Arm, view, 3) {
+        return Err(Refusal::Arm);
     }
-    if !fields_right(Field::Reference, request, 6) {
-        return Tested::Refused(Refusal::Reference);
+    if !fields_right(Field::Reference, view, 6) {
+        return Err(Refusal::Reference);
     }
-    if !fields_right(Field::Offset, request, 6) {
-        return Tested::Refused(Refusal::Offset);
+    if !fields_right(Field::Offset, view, 6) {
+        return Err(Refusal::Offset);
     }
-    Tested::Passed(q)
+    Ok(q)
 }
 
 // Refusals 4 and 5, of the rotation, and then 6 to 8; where none is met, the normalized rotation.
-fn validate_rotation(request: &[u8]) -> Tested
-    requires { Request.core_size ≤ length request.now }
-    ensures { result ≡ Promise.tested_rotation request.now (Pose.try_normalize (Fields.rotation_of request.now)) }
+#[tactic(auto, unfolding(crate::specs::Promises::Tested::tested_rotation))]
+fn validate_rotation(view: View) -> Result<Quaternion, Refusal>
+    ensures { result ≡ Promise.tested_rotation view.entry.request.now (Pose.try_normalize (Fields.rotation_of view.entry.request.now)) }
 {
-    let n = try_normalize(rotation_of(request));
-    match n {
-        Normalized::Unit(q) => validate_fields(request, q),
-        Normalized::NotFinite => Tested::Refused(Refusal::NotFinite),
-        Normalized::Zero => Tested::Refused(Refusal::Zero),
+    match try_normalize(view.rotation()) {
+        Normalized::Unit(q) => validate_fields(view, q),
+        Normalized::NotFinite => Err(Refusal::NotFinite),
+        Normalized::Zero => Err(Refusal::Zero),
     }
 }
 
-// Refusals 1 to 8 of a request of an edition, in order, 41 after 2; where none is met, the
-// normalized rotation.
-pub(crate) fn validate(e: Edition, request: &[u8]) -> Tested
+// The first of refusals 1 to 8 that a request of an edition meets, in order, 41 after 2; where none
+// is met, the normalized rotation.
+#[tactic(auto, unfolding(crate::specs::Promises::Tested::tested))]
+pub(crate) fn validate(e: Edition, request: &[u8]) -> Result<Quaternion, Refusal>
     ensures { result ≡ Promise.tested e request.now }
 {
     if request.len() != request_size(e) {
-        return Tested::Refused(Refusal::Length);
+        return Err(Refusal::Length);
     }
-    if !head_right(request) {
-        return Tested::Refused(Refusal::Head);
+    let view = View { request };
+    if !head_right(view) {
+        return Err(Refusal::Head);
     }
-    if !name_right(request) {
-        return Tested::Refused(Refusal::Name);
+    if !name_right(view) {
+        return Err(Refusal::Name);
     }
-    if !signs_right(request) {
-        return Tested::Refused(Refusal::Sign);
+    if !signs_right(view) {
+        return Err(Refusal::Sign);
     }
-    validate_rotation(request)
+    validate_rotation(view)
 }

@@ -1,38 +1,23 @@
-// A view that holds a request's bytes. The checker covers no function over such a struct: each is
-// proved by hand, takes the view apart and calls a covered function on the slice. `read_job`, whose
-// parameter is plain, makes the view and the job.
+// A request's bytes, and what kind and flags they say.
 ghost use Rattle.std.specs.Prelude.{◌≡◌, ◌≤◌, length};
 ghost use Rattle.sheet.specs.Request as Request;
-ghost use Rattle.sheet.specs.Fields as Fields;
 
-use crate::fields::job_of;
-use sampling::job::Job;
-use sampling::pose::Matrix;
+use crate::request::{Shape, shape_from};
 
+// The bytes of a request of any edition: what every request has is there. `View { request }` is a view
+// of any bytes that are that many.
 #[derive(Clone, Copy)]
 pub struct View<'a> {
     pub request: &'a [u8],
+    ghost whole: { Request.core_size ≤ length request.now },
 }
 
-pub fn new<'a>(request: &'a [u8]) -> View<'a>
-    requires { Request.core_size ≤ length request.now }
-    ensures { result.request ≡ request.entry }
-{
-    View { request }
-}
-
-// The job that the request's fields say, with its rotation's matrix m.
-pub(crate) fn job<'a>(v: View<'a>, m: Matrix) -> Job
-    requires { (Request.core_size ≤ length v.request.now) × (m ≡ Fields.matrix (Fields.rotation_of v.request.now)) }
-    ensures { result ≡ Fields.job_of v.entry.request.now }
-{
-    job_of(v.request, m)
-}
-
-// The job of a request, read through a view of it.
-pub(crate) fn read_job(request: &[u8], m: Matrix) -> Job
-    requires { (Request.core_size ≤ length request.now) × (m ≡ Fields.matrix (Fields.rotation_of request.now)) }
-    ensures { result ≡ Fields.job_of request.now }
-{
-    job(new(request), m)
+impl View<'_> {
+    // The shape of a request: its kind and flags, if they are right, on which it depends what is read.
+    #[tactic(auto, unfolding(crate::specs::Request::shape_of))]
+    pub(crate) fn shape(self) -> Option<Shape>
+        ensures { result ≡ Request.shape_of self.entry.request.now }
+    {
+        shape_from(self.request[0], self.request[1], self.request[2])
+    }
 }

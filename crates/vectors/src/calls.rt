@@ -4,9 +4,9 @@ ghost use Rattle.std.specs.Prelude.{◌+◌, ◌*◌, ◌<◌, ◌≤◌, length
 use crate::digest::digest;
 use digits::hex::word;
 use float::number::bits;
-use sheet::check::{Checked, check};
-use sheet::refusals::{fault_number, refusal_number};
-use sheet::sample::{Sampled, sample};
+use polynomial::refusals::Numbered;
+use sheet::check::check;
+use sheet::sample::sample;
 use std::num::wrapping_sub_u64;
 use text::lines::{bytes, held};
 
@@ -41,19 +41,11 @@ pub(crate) fn words(s: &[u8], at: usize) -> usize
     k + (n + 7) / 8
 }
 
-// The count, or minus 01's number of the refusal, in two's complement.
-fn sampled_number(a: Sampled) -> u64 {
-    match a {
-        Sampled::Angles(n) => n as u64,
-        Sampled::Refused(k) => wrapping_sub_u64(0, refusal_number(k)),
-    }
-}
-
-// The number of Check's answer, as it is stored.
-fn checked_number(a: Checked) -> u64 {
-    match a {
-        Checked::Accepted(n) => n as u64,
-        Checked::Refused(f) => wrapping_sub_u64(0, fault_number(f)),
+// An answer as it is stored: the count, or minus the number of the refusal, in two's complement.
+pub(crate) fn number<E: Numbered>(answer: Result<usize, E>) -> u64 {
+    match answer {
+        Ok(n) => n as u64,
+        Err(k) => wrapping_sub_u64(0, u64::from(k.number())),
     }
 }
 
@@ -84,7 +76,7 @@ fn run_sample(
 ) -> u64
     requires { (places ≤ length work.old) × (room ≤ length output.old) }
 {
-    sampled_number(sample(request, &mut work[..places], &mut output[..room]))
+    number(sample(request, &mut work[..places], &mut output[..room]))
 }
 
 // Whether Sampling answers so, with this digest of the output, and leaves the work as it is to be.
@@ -101,7 +93,7 @@ fn sample_answers(request: &[u8], places: usize, room: usize, answer: u64, sum: 
 fn run_check(sheet: &[u8], work: &mut [f64], places: usize) -> u64
     requires { places ≤ length work.old }
 {
-    checked_number(check(sheet, &mut work[..places]))
+    number(check(sheet, &mut work[..places]))
 }
 
 // Whether Check answers so, and leaves the work as it is to be.

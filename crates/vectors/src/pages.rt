@@ -1,26 +1,13 @@
 // A stored call of Page, or a stored decimal, made anew.
 ghost use Rattle.std.specs.Prelude.{◌+◌, ◌*◌, ◌≤◌, length};
 
-use crate::calls::is_cleared;
+use crate::calls::{is_cleared, number};
 use crate::digest::digest;
 use digits::hex::word;
 use float::number::of_bits;
 use page::decimal::decimal_text;
-use page::laid::Laid;
 use page::page::page_text;
-use sheet::refusals::fault_number;
-use std::num::wrapping_sub_u64;
 use text::lines::{bytes, held};
-
-// The text's length, or minus 02's number of the refusal, in two's complement.
-fn laid_number(a: Laid) -> u64 {
-    match a {
-        Laid::Text(n) => n as u64,
-        Laid::Refused(f) => wrapping_sub_u64(0, fault_number(f)),
-        Laid::NoPage => wrapping_sub_u64(0, 43),
-        Laid::Short => wrapping_sub_u64(0, 42),
-    }
-}
 
 // Whether the float of the line at `at` shows the 16 bytes of its two other words.
 pub(crate) fn decimal_agrees(s: &[u8], at: usize, k: usize) -> bool
@@ -32,7 +19,7 @@ pub(crate) fn decimal_agrees(s: &[u8], at: usize, k: usize) -> bool
     let mut stored = [0u8; 16];
     bytes(s, at + 19, 2, 16, &mut stored);
     let mut text = [165u8; 16];
-    let found = laid_number(decimal_text(of_bits(word(s, at + 2)), &mut text));
+    let found = number(decimal_text(of_bits(word(s, at + 2)), &mut text));
     (found == 16) & (digest(&text) == digest(&stored))
 }
 
@@ -57,7 +44,7 @@ fn run_page(
 ) -> u64
     requires { (places ≤ length work.old) × (room ≤ length text.old) }
 {
-    laid_number(page_text(sheet, page, &mut work[..places], &mut text[..room]))
+    number(page_text(sheet, page, &mut work[..places], &mut text[..room]))
 }
 
 // Whether Page answers so, with this digest of the text, and leaves the work as it is to be.

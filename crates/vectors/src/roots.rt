@@ -1,9 +1,9 @@
 // A stored call of the operation Roots, made anew.
 ghost use Rattle.std.specs.Prelude.{◌+◌, ◌*◌, ◌<◌, ◌≤◌, length};
 
+use crate::calls::number;
 use digits::hex::word;
 use float::number::{bits, of_bits};
-use polynomial::operation::Answer;
 use text::lines::held;
 
 // The number of roots in an expected answer: none where it is below 0.
@@ -67,17 +67,6 @@ fn floats(s: &[u8], at: usize, n: usize) -> [f64; 64]
         i += 1;
     }
     c
-}
-
-// The count, or minus 01's number of the refusal, in two's complement.
-fn number(a: Answer) -> u64 {
-    match a {
-        Answer::Count(n) => n as u64,
-        Answer::BadLength => 0xffff_ffff_ffff_ffeb,
-        Answer::BadBounds => 0xffff_ffff_ffff_ffea,
-        Answer::BadPart => 0xffff_ffff_ffff_ffe9,
-        Answer::ShortResult => 0xffff_ffff_ffff_ffe8,
-    }
 }
 
 // The call on the first n floats of c, and on slices of so many places and bytes.

@@ -8,8 +8,9 @@ use borrow.Author.Tests.{ltb-false}
 use Rattle.polynomial.specs.Roots.{roots}
 use Rattle.polynomial.specs.Operation.{pairs, bad_length, bounds_hold, parts_hold, number, answer}
 use Rattle.polynomial.specs.Laws.Enclosed.{all_most}
-use Rattle.polynomial.specs.declared.operation.Answer.{Answer}
-use Rattle.polynomial.specs.declared.operation.Answer.TheVariants.{Count, BadLength, BadBounds, BadPart, ShortResult}
+use Rattle.std.specs.Prelude.{Result, Ok, Err}
+use Rattle.polynomial.specs.declared.refusals.Refusal.{Refusal}
+use Rattle.polynomial.specs.declared.refusals.Refusal.TheVariants.{BadLength, BadBounds, BadPart, ShortResult}
 
 or_right : (a b : Bool) → a || b ≡ false → b ≡ false
 or_right true b e = absurd (false≢true (sym e))
@@ -21,10 +22,10 @@ pairs_short [] = zero-le
 pairs_short (h ∷ []) = zero-le
 pairs_short (h ∷ (l ∷ r)) = let k = pairs_short r in omega arith
 
-abbrev Few : Answer → Type 0
+abbrev Few : Result ℕ Refusal → Type 0
 Few a = nat_abs (number a) ≤ 509
 
-cond_few : (b : Bool) (x y : Answer) → (b ≡ true → Few x) → (b ≡ false → Few y) → Few (cond b x y)
+cond_few : (b : Bool) (x y : Result ℕ Refusal) → (b ≡ true → Few x) → (b ≡ false → Few y) → Few (cond b x y)
 cond_few true x y f g = f refl
 cond_few false x y f g = g refl
 
@@ -38,11 +39,11 @@ module _ (s : List Float) (lower upper : Float) (room bytes : ℕ) where
   pub answer_few : Few (answer s lower upper room bytes)
   unfolding answer
   answer_few =
-      cond_few (bad_length s) BadLength _ (λ _. lit≤ tt) (λ h.
-      cond_few (bounds_hold lower upper) _ BadBounds (λ _.
-      cond_few (parts_hold s) _ BadPart (λ _.
+      cond_few (bad_length s) (Err BadLength) _ (λ _. lit≤ tt) (λ h.
+      cond_few (bounds_hold lower upper) _ (Err BadBounds) (λ _.
+      cond_few (parts_hold s) _ (Err BadPart) (λ _.
       cond_few (leb (length (roots (pairs s) lower upper)) room && leb (length (roots (pairs s) lower upper)) bytes)
-      (Count (length (roots (pairs s) lower upper))) ShortResult
+      (Ok (length (roots (pairs s) lower upper))) (Err ShortResult)
       (λ _. few_roots h) (λ _. lit≤ tt))
       (λ _. lit≤ tt))
       (λ _. lit≤ tt))

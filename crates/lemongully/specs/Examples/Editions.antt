@@ -1,11 +1,10 @@
 -- Names and editions (02, change 2), computed.
-use Rattle.std.specs.Prelude.{ℕ, ◌≡◌, refl, List, [], ◌∷◌, ◌++◌, true, false, replicate}
+use Rattle.std.specs.Prelude.{ℕ, ◌≡◌, refl, List, [], ◌∷◌, ◌++◌, true, false, replicate, Some, None}
 use Rattle.sheet.specs.Edition.{newest, numbered, known}
 use Rattle.sheet.specs.Request.{request_size}
 use Rattle.sheet.specs.Sheet.{sheet_size}
 use Rattle.sheet.specs.Validate.{all_zero, is_name}
 use Rattle.sheet.specs.declared.edition.Edition.TheVariants.{One, Two}
-use Rattle.sheet.specs.declared.edition.Said.TheVariants.{Known, Unknown}
 
 -- a name of so many times one byte, and zeros
 abbrev named : ℕ → ℕ → ℕ → List ℕ
@@ -43,19 +42,19 @@ unfolding is_name all_zero
 at_the_end = refl
 
 -- an edition is known by its number, to a check that is not older
-later : known One 2 ≡ Unknown
+later : known One 2 ≡ None
 unfolding known numbered
 later = refl
 
-older : known Two 1 ≡ Known One
+older : known Two 1 ≡ Some One
 unfolding known numbered
 older = refl
 
-own : known Two 2 ≡ Known Two
+own : known Two 2 ≡ Some Two
 unfolding known numbered
 own = refl
 
-neither : known Two 258 ≡ Unknown
+neither : known Two 258 ≡ None
 unfolding known numbered
 neither = refl
 

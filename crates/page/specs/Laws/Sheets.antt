@@ -1,6 +1,6 @@
 -- What is known of a checked sheet: its n and where its name stands; how long its pages are, that they are lines of 64 characters, and that every angle on
 -- them shows its digits.
-use Rattle.std.specs.Prelude.{ℕ, suc, ◌+◌, ◌*◌, ◌-◌, ◌≤◌, ◌≡◌, refl, Bool, true, false, cond, List, [], ◌∷◌, map, eqb, leb, pos, length, take, drop, Float}
+use Rattle.std.specs.Prelude.{ℕ, suc, ◌+◌, ◌*◌, ◌-◌, ◌≤◌, ◌≡◌, refl, Bool, true, false, cond, List, [], ◌∷◌, map, eqb, leb, pos, length, take, drop, Float, Option}
 use Rattle.std.proofs.Common.{arith, sym, ◌∙◌, length-take, length-drop, drop_at, drop-drop, take-add, length-take-le, leb-true}
 use Rattle.std.proofs.Math.Path.{ap}
 use Rattle.std.specs.Float.{fin, binary64}
@@ -17,7 +17,6 @@ use Rattle.sheet.specs.Validate.{is_character, all_zero, is_name, name_right}
 use Rattle.sheet.specs.Check.{request_of, listed, count_of}
 use Rattle.sheet.specs.Demands.{Written}
 use Rattle.sheet.specs.declared.edition.Edition.{Edition}
-use Rattle.sheet.specs.declared.edition.Said.{Said}
 use Rattle.sheet.specs.Laws.Bounds.{passed_small}
 use Rattle.sheet.specs.Laws.Demands.{sound}
 use Rattle.sheet.specs.Laws.Listed.{length_words, written_passed, written_size, written_count, written_few, written_known, written_listed}
@@ -48,7 +47,7 @@ module _ (s : List ℕ) (places n : ℕ) (p : Written newest s places n) where
   inside = request_of own s
 
   named : name_of s ≡ drop name_at inside
-  named = ap (λ (t : Said). name_by t s) (written_known newest s places n p)
+  named = ap (λ (t : Option Edition). name_by t s) (written_known newest s places n p)
 
   -- what is left between the request's core and the trailer
   name_stands : part (8 * n + name_at) (length s - trailer_size - (8 * n + name_at)) s ≡ drop name_at inside

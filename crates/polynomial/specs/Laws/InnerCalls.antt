@@ -1,6 +1,6 @@
 -- What the operation Roots says of inner calls: a fair one is taken. A call of at most nine coefficients that are small, between bounds that can be bisected,
 -- is fair.
-use Rattle.std.specs.Prelude.{ℕ, ◌+◌, ◌%◌, ◌≤◌, ◌≡◌, refl, Bool, true, false, not, ◌&&◌, ◌||◌, cond, List, [], ◌∷◌, pos, T, leb, length, Float}
+use Rattle.std.specs.Prelude.{ℕ, ◌+◌, ◌%◌, ◌≤◌, ◌≡◌, refl, Bool, true, false, not, ◌&&◌, ◌||◌, cond, List, [], ◌∷◌, pos, T, leb, length, Float, Ok, Err}
 use Rattle.std.proofs.Common.{arith, ap, ap₂, ◌∙◌, lit<, le-leb, le-ltb, ne_eqb}
 use Rattle.std.specs.Float.{fin}
 use Rattle.std.specs.Float.Ieee.{neg, lt, le, eq, fits}
@@ -19,7 +19,7 @@ use Rattle.polynomial.specs.Promises.Lists.{All}
 use Rattle.polynomial.specs.Laws.Enclosed.{all_most}
 use Rattle.polynomial.specs.Laws.Size.{All-small, none, more}
 use Rattle.polynomial.specs.declared.compensated.Compensated.{Compensated}
-use Rattle.polynomial.specs.declared.operation.Answer.TheVariants.{Count, BadPart, BadBounds, ShortResult}
+use Rattle.polynomial.specs.declared.refusals.Refusal.TheVariants.{BadPart, BadBounds, ShortResult}
 
 -- ---- a fair call is taken
 
@@ -50,7 +50,7 @@ unfolding parts_hold le
 sizes_hold [] h = refl
 sizes_hold (x ∷ l) h = ap₂ ◌&&◌ (yes (part_holds x) (or_l (lt (abs x) largest_part) (eq (abs x) largest_part) h.0)) (sizes_hold l h.1)
 
-by_tests : (a b c : Bool) (n : ℕ) → a ≡ true → b ≡ true → c ≡ true → counts (cond a (cond b (cond (c && c) (Count n) ShortResult) BadPart) BadBounds) ≡ true
+by_tests : (a b c : Bool) (n : ℕ) → a ≡ true → b ≡ true → c ≡ true → counts (cond a (cond b (cond (c && c) (Ok n) (Err ShortResult)) (Err BadPart)) (Err BadBounds)) ≡ true
 by_tests a b c n x y z = rw (x, y, z)
 
 -- THEOREM: Roots, lent 509 places of each slice, answers a fair call with a count.
@@ -60,8 +60,8 @@ fair_taken c f =
     let p = c.coefficients in
     let n = length (roots p c.lower c.upper) in
     let e : taken c ≡ counts (cond (bounds_hold c.lower c.upper)
-    (cond (parts_hold (parts p)) (cond (leb n 509 && leb n 509) (Count n) ShortResult) BadPart)
-    BadBounds) = simp (good_length p f.few, pairs_parts p) in
+    (cond (parts_hold (parts p)) (cond (leb n 509 && leb n 509) (Ok n) (Err ShortResult)) (Err BadPart))
+    (Err BadBounds)) = simp (good_length p f.few, pairs_parts p) in
     e
     ∙ by_tests (bounds_hold c.lower c.upper) (parts_hold (parts p)) (leb n 509) n
     (simp (

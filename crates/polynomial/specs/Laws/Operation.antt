@@ -1,5 +1,5 @@
 -- What 01 says of the operation Roots.
-use Rattle.std.specs.Prelude.{ℕ, ◌+◌, ◌-◌, ◌^◌, ◌≤◌, ◌≡◌, refl, ◌⊎◌, true, List, [], ◌∷◌, ℤ, pos, neg_ℤ, T, length, Float}
+use Rattle.std.specs.Prelude.{ℕ, ◌+◌, ◌-◌, ◌^◌, ◌≤◌, ◌≡◌, refl, ◌⊎◌, true, List, [], ◌∷◌, ℤ, pos, neg_ℤ, T, length, Float, Result, Ok, Err}
 use Rattle.std.proofs.Common.{sym, inl, inr}
 use Rattle.std.specs.Float.{binary64}
 use Rattle.std.specs.Float.Ieee.{le, fits}
@@ -12,8 +12,8 @@ use Rattle.polynomial.specs.Laws.Bounds.{bounds_span}
 use Rattle.polynomial.specs.Laws.Bisection.{Between}
 use Rattle.polynomial.specs.Laws.Enclosed.{Rising, all_few, all_in, all_rising}
 use Rattle.polynomial.specs.declared.compensated.Compensated.{Compensated}
-use Rattle.polynomial.specs.declared.operation.Answer.{Answer}
-use Rattle.polynomial.specs.declared.operation.Answer.TheVariants.{Count, BadLength, BadBounds, BadPart, ShortResult}
+use Rattle.polynomial.specs.declared.refusals.Refusal.{Refusal}
+use Rattle.polynomial.specs.declared.refusals.Refusal.TheVariants.{BadLength, BadBounds, BadPart, ShortResult}
 
 -- ---- the list
 
@@ -48,12 +48,12 @@ pub record Counted (z : ℤ) : Type 0 where
 abbrev pub Listed : ℤ → Type 0
 Listed z = Counted z ⊎ ((z ≡ neg_ℤ (pos 21)) ⊎ ((z ≡ neg_ℤ (pos 22)) ⊎ ((z ≡ neg_ℤ (pos 23)) ⊎ (z ≡ neg_ℤ (pos 24)))))
 
-listed : (a : Answer) → Listed (number a)
-listed (Count n) = inl (record { count = n; is = refl })
-listed BadLength = inr (inl refl)
-listed BadBounds = inr (inr (inl refl))
-listed BadPart = inr (inr (inr (inl refl)))
-listed ShortResult = inr (inr (inr (inr refl)))
+listed : (a : Result ℕ Refusal) → Listed (number a)
+listed (Ok n) = inl (record { count = n; is = refl })
+listed (Err BadLength) = inr (inl refl)
+listed (Err BadBounds) = inr (inr (inl refl))
+listed (Err BadPart) = inr (inr (inr (inl refl)))
+listed (Err ShortResult) = inr (inr (inr (inr refl)))
 
 -- Every answer of Roots is a count or one of its refusals.
 pub roots_answers : (s : List Float) (lower upper : Float) (room bytes : ℕ) → Listed (number (answer s lower upper room bytes))

@@ -1,43 +1,52 @@
--- Bytes compared one by one: what a loop that leaves at the first difference needs.
-use Prim.Native.Nat.{ℕ, suc, ◌+◌, ◌-◌, ◌≤◌, ◌<◌}
-use native.Mathlib.Omega.{arith}
-use mathlib.Core.Path.{◌≡◌, ◌∙◌}
-use mathlib.Core.List.{List, ◌∷◌}
-use mathlib.Core.Bool.{true, false}
-use lib.ListN.{length, get_or, drop, drop_of_length-le}
-use lib.Seq.{drop-cons, sets}
-use Rattle.sheet.specs.Bytes.{part, same_bytes}
-use Rattle.sheet.specs.Laws.Bytes.{part_cons, sets_all, same_step, same_stop, same_nil}
+-- Parts of bytes that are copied and compared: what std's methods say of them, in the words of `Bytes`.
+use Rattle.std.proofs.Common.{ℕ, suc, ◌+◌, ◌-◌, ◌^◌, ◌≤◌, ◌<◌, ◌≡◌, refl, sym, ap, ◌∙◌, arith, List, [], ◌∷◌, Bool, true, false, length, get_or, drop, take}
+use Rattle.std.proofs.Common.{drop-drop, eqb-true, eq-eqb, append_assoc}
+use Rattle.std.proofs.lemmas.List.Edits.{sets, sets-eq}
+use Rattle.std.specs.Cmp.Lexicographic.{pointwise}
+use borrow.Rule.Slice.PartMut.{put_mid}
+use lib.Dec.{eqb}
+use Rattle.sheet.specs.Bytes.{little_endian, bytes, part, same_bytes}
+use Rattle.std.specs.Int.{sum_through, byte_worth}
+use Rattle.std.specs.List.{slice_index}
+use Rattle.sheet.specs.Laws.Bytes.{from_le, little_endian_bytes, bytes_part, length_part, same_is, same_itself}
 
-module _ (s t : List ℕ) (at i : ℕ) (h : at + length t ≤ length s) (l : i < length t) where
-  parts : part (at + i) (length t - i) s ≡ get_or s (at + i) 0 ∷ part (at + (i + 1)) (length t - (i + 1)) s
-  parts =
-      let e : length t - i ≡ suc (length t - (i + 1)) = omega arith in
-      let f : at + (i + 1) ≡ suc (at + i) = omega arith in
-      rw (e, f) (part_cons s (at + i) (length t - (i + 1)) (omega arith))
+-- a copy into a part is a run of stores
+pub put_part : (out : List ℕ) (at : ℕ) (bs : List ℕ) → at + length bs ≤ length out → put_mid at (at + length bs - at) out bs ≡ sets out at bs
+put_part out at bs h =
+    let k : at + length bs - at ≡ length bs = omega arith in
+    let d : drop (length bs) (drop at out) ≡ drop (at + length bs) out = drop-drop (length bs) at out in
+    rw k (sym (sets-eq bs out at h ∙ rw (append_assoc, ← d)))
 
-  rests : drop i t ≡ get_or t i 0 ∷ drop (i + 1) t
-  rests =
-      let f : i + 1 ≡ suc i = omega arith in
-      rw f (drop-cons t i 0 l)
+-- std's number of the bytes of a part
+pub number_part : (k : ℕ) (s : List ℕ) (at : ℕ) (bs : List ℕ) → at + suc k ≤ length s → bs ≡ part at (suc k) s
+    → sum_through (λ (i : ℕ). byte_worth i (slice_index bs i)) k ≡ little_endian (part at (suc k) s)
+number_part k s at bs h e = from_le k bs (ap length e ∙ length_part at (suc k) s h) ∙ ap little_endian e
 
-  -- a step whose bytes are the same
-  pub at_step : get_or s (at + i) 0 ≡ get_or t i 0
-      → same_bytes (part (at + (i + 1)) (length t - (i + 1)) s) (drop (i + 1) t) ≡ same_bytes (part (at + i) (length t - i) s) (drop i t)
-  at_step e = rw (parts, rests) (same_step _ _ _ _ e)
+-- the first bytes of a number's eight
+pub four_bytes : (n : ℕ) → take 4 (bytes 8 n) ≡ bytes 4 n
+unfolding bytes
+four_bytes n = refl
 
-  -- a step whose bytes differ
-  pub at_stop : (get_or s (at + i) 0 ≡ get_or t i 0 → ⊥) → false ≡ same_bytes (part (at + i) (length t - i) s) (drop i t)
-  at_stop e = rw (parts, rests) (same_stop _ _ _ _ e)
+-- slices compared are bytes compared
+pub same_pointwise : (a b : List ℕ) → pointwise eqb a b ≡ same_bytes a b
+unfolding same_bytes
+same_pointwise [] [] = refl
+same_pointwise [] (y ∷ b) = refl
+same_pointwise (x ∷ a) [] = refl
+same_pointwise (x ∷ a) (y ∷ b) = rw (same_pointwise a b)
 
--- no step is left
-pub at_end : (s t : List ℕ) (at i : ℕ) → length t ≤ i → true ≡ same_bytes (part (at + i) (length t - i) s) (drop i t)
-at_end s t at i h =
-    let e : length t - i ≡ 0 = omega arith in
-    rw (e, drop_of_length-le t h) same_nil
-
--- bytes written over a whole array, and compared
-pub over_same : (s b z l : List ℕ) (at : ℕ) → length l ≡ length z → b ≡ sets z 0 l → same_bytes (part at (length b) s) b ≡ same_bytes (part at (length z) s) l
-over_same s b z l at e f =
-    let g : b ≡ l = f ∙ sets_all z l e in
-    rw (g, e)
+-- eight bytes are the same as those of a number exactly if their number is it
+pub same_number : (s : List ℕ) (at v : ℕ) → at + 8 ≤ length s → ((i : ℕ) → i < length s → get_or s i 0 < 256) → v < 2 ^ 64
+    → eqb (little_endian (part at 8 s)) v ≡ same_bytes (part at 8 s) (bytes 8 v)
+same_number s at v h b w = go (same_bytes (part at 8 s) (bytes 8 v)) refl
+  where
+    go : (t : Bool) → same_bytes (part at 8 s) (bytes 8 v) ≡ t → eqb (little_endian (part at 8 s)) v ≡ t
+    go true e = eq-eqb _ _ (ap little_endian (same_is (part at 8 s) (bytes 8 v) e) ∙ little_endian_bytes 8 v w)
+    go false e = other (eqb (little_endian (part at 8 s)) v) refl
+      where
+        other : (t : Bool) → eqb (little_endian (part at 8 s)) v ≡ t → t ≡ false
+        other false q = refl
+        other true q =
+            let n = eqb-true (little_endian (part at 8 s)) v q in
+            let p : part at 8 s ≡ bytes 8 v = sym (bytes_part s at 8 h b) ∙ ap (bytes 8) n in
+            sym (same_itself (bytes 8 v)) ∙ ap (λ (l : List ℕ). same_bytes l (bytes 8 v)) (sym p) ∙ e

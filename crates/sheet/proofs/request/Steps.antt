@@ -1,10 +1,11 @@
 -- The blanked request byte by byte, and field by field: what the loops that write it and compare it need.
+use Rattle.std.specs.Prelude.{Option}
 use Prim.Native.Nat.{ℕ, zero, suc, ◌+◌, ◌-◌, ◌/◌, ◌%◌, ◌≤◌, ◌<◌}
 use native.Mathlib.Omega.{arith}
 use native.Mathlib.Nat.{add-zero}
 use mathlib.Core.Path.{◌≡◌, refl, sym, ap, subst, ◌∙◌}
 use mathlib.Core.List.{List, ◌∷◌, ◌++◌}
-use mathlib.Core.Bool.{Bool, true, false, cond}
+use mathlib.Core.Bool.{Bool, true, false, cond, false≢true}
 use lib.Dec.{ltb}
 use lib.ListN.{length, get_or, drop, set, drop_of_length-le}
 use lib.Seq.{sets, drop-cons}
@@ -12,21 +13,34 @@ use borrow.Author.Tests.{ltb-true, ltb-false, lt-ltb, le-ltb}
 use Rattle.sheet.specs.declared.request.Shape.{Shape}
 use Rattle.sheet.specs.Bytes.{bytes, part, same_bytes}
 use Rattle.sheet.specs.Request.{name_at, byte_read, blank_from}
-use Rattle.sheet.specs.Laws.Bytes.{bytes_suc, bytes_zero, length_bytes, sets_append, same_step, same_stop, same_nil}
+use Rattle.sheet.specs.Laws.Bytes.{bytes_suc, bytes_zero, length_bytes, length_part, sets_append, same_step, same_stop, same_nil}
 use Rattle.sheet.specs.Laws.Blank.{blank_cons, blank_nil}
 
 -- a step stores the first byte of those that are left
-pub put_step : (out r : List ℕ) (at i v : ℕ) (s : Shape) → i < length r → v ≡ cond (byte_read s i) (get_or r i 0) 0
+pub put_step : (out r : List ℕ) (at i v : ℕ) (s : Option Shape) → i < length r → v ≡ cond (byte_read s i) (get_or r i 0) 0
     → sets (set out (at + i) v) (at + (i + 1)) (blank_from s (i + 1) (drop (i + 1) r)) ≡ sets out (at + i) (blank_from s i (drop i r))
 put_step out r at i v s h q =
     let e : at + (i + 1) ≡ suc (at + i) = omega arith in
     let f : i + 1 ≡ suc i = omega arith in
     rw (q, drop-cons r i 0, blank_cons, e, f)
 
-pub put_end : (out r : List ℕ) (at i : ℕ) (s : Shape) → length r ≤ i → out ≡ sets out (at + i) (blank_from s i (drop i r))
+pub put_end : (out r : List ℕ) (at i : ℕ) (s : Option Shape) → length r ≤ i → out ≡ sets out (at + i) (blank_from s i (drop i r))
 put_end out r at i s h = rw (drop_of_length-le r h, blank_nil)
 
-module _ (s : Shape) (r : List ℕ) (i : ℕ) (l : i < length r) where
+-- a byte that is kept, as it is read or zero, and one that is not
+pub kept_read : (t : Bool) (b : ℕ) → t ≡ true → cond t b 0 ≡ b
+kept_read true b e = refl
+kept_read false b e = absurd (false≢true e)
+
+pub kept_zero : (t : Bool) (b : ℕ) → b ≡ 0 → cond t b 0 ≡ b
+kept_zero true b e = refl
+kept_zero false b e = sym e
+
+pub kept_not : (t : Bool) (b : ℕ) → t ≡ false → (b ≡ 0 → ⊥) → cond t b 0 ≡ b → ⊥
+kept_not true b e n q = false≢true (sym e)
+kept_not false b e n q = n (sym q)
+
+module _ (s : Option Shape) (r : List ℕ) (i : ℕ) (l : i < length r) where
   copies : drop i r ≡ get_or r i 0 ∷ drop (i + 1) r
   copies =
       let f : i + 1 ≡ suc i = omega arith in
@@ -44,7 +58,7 @@ module _ (s : Shape) (r : List ℕ) (i : ℕ) (l : i < length r) where
   blank_stop e = rw (copies, blank_cons) (same_stop _ _ _ _ e)
 
 -- no step is left
-pub blank_end : (s : Shape) (r : List ℕ) (i : ℕ) → length r ≤ i → true ≡ same_bytes (blank_from s i (drop i r)) (drop i r)
+pub blank_end : (s : Option Shape) (r : List ℕ) (i : ℕ) → length r ≤ i → true ≡ same_bytes (blank_from s i (drop i r)) (drop i r)
 blank_end s r i h = rw (drop_of_length-le r h, blank_nil) same_nil
 
 -- ---- a field's bytes are read together
@@ -59,7 +73,7 @@ test i t e k = go (ltb i t) refl
 joint : (i t : ℕ) → t % 8 ≡ 0 → 0 < (i + 1) % 8 → (i + 1 - t) / 8 ≡ (i - t) / 8
 joint i t e k = omega arith
 
-pub same_field : (s : Shape) (i : ℕ) → 16 ≤ i → 0 < (i + 1) % 8 → byte_read s i ≡ byte_read s (i + 1)
+pub same_field : (s : Option Shape) (i : ℕ) → 16 ≤ i → 0 < (i + 1) % 8 → byte_read s i ≡ byte_read s (i + 1)
 unfolding byte_read
 same_field s i h k =
     rw (
@@ -80,7 +94,7 @@ same_field s i h k =
       joint i 216 refl k,
     )
 
-module _ (s : Shape) (r : List ℕ) where
+module _ (s : Option Shape) (r : List ℕ) where
   -- k bytes that are all read, or none of them
   run_read : (k i : ℕ) → i + k ≤ length r → ((j : ℕ) → j < k → byte_read s (i + j) ≡ true)
       → blank_from s i (drop i r) ≡ part i k r ++ blank_from s (i + k) (drop (i + k) r)
@@ -102,21 +116,22 @@ module _ (s : Shape) (r : List ℕ) where
       λ j l. subst (λ (m : ℕ). byte_read s m ≡ false) (omega arith) (q (suc j) (omega arith)) in
       rw (e, drop-cons r i 0 (omega arith), blank_cons, first, bytes_suc, run_unread k (suc i) (omega arith) next)
 
-  -- the bytes of a field, which the word w has
-  module _ (i w : ℕ) (from : 16 ≤ i) (whole : i % 8 ≡ 0) (room : i + 8 ≤ length r) (has : bytes 8 w ≡ part i 8 r) where
+  -- the bytes of a field
+  module _ (i : ℕ) (from : 16 ≤ i) (whole : i % 8 ≡ 0) (room : i + 8 ≤ length r) where
     alike : (k : ℕ) → k < 8 → byte_read s (i + k) ≡ byte_read s i
     alike zero l = ap (byte_read s) (add-zero i)
     alike (suc k) l =
         let e : i + suc k ≡ i + k + 1 = omega arith in
         ap (byte_read s) e ∙ sym (same_field s (i + k) (omega arith) (omega arith)) ∙ alike k (omega arith)
 
-    field : (b : Bool) → byte_read s i ≡ b → blank_from s i (drop i r) ≡ bytes 8 (cond b w 0) ++ blank_from s (i + 8) (drop (i + 8) r)
-    field true e = rw has (run_read 8 i room (λ k l. alike k l ∙ e))
+    field : (b : Bool) → byte_read s i ≡ b → blank_from s i (drop i r) ≡ cond b (part i 8 r) (bytes 8 0) ++ blank_from s (i + 8) (drop (i + 8) r)
+    field true e = run_read 8 i room (λ k l. alike k l ∙ e)
     field false e = run_unread 8 i room (λ k l. alike k l ∙ e)
 
     -- a step stores the first field of those that are left
-    pub field_step : (out : List ℕ) (at v : ℕ) → v ≡ cond (byte_read s i) w 0
-        → sets (sets out (at + i) (bytes 8 v)) (at + (i + 8)) (blank_from s (i + 8) (drop (i + 8) r)) ≡ sets out (at + i) (blank_from s i (drop i r))
-    field_step out at v q =
-        let e : at + (i + 8) ≡ at + i + 8 = omega arith in
-        rw (field (byte_read s i) refl, sets_append, length_bytes, q, e)
+    pub field_step : (out : List ℕ) (at : ℕ) (bs : List ℕ) (b : Bool) → byte_read s i ≡ b → bs ≡ cond b (part i 8 r) (bytes 8 0) → (n : ℕ) → n ≡ i + 8
+        → sets (sets out (at + i) bs) (at + n) (blank_from s n (drop n r)) ≡ sets out (at + i) (blank_from s i (drop i r))
+    field_step out at bs b t q n m =
+        let l : (b : Bool) → length (cond b (part i 8 r) (bytes 8 0)) ≡ 8 = elim [ true ↦ length_part i 8 r room | false ↦ length_bytes 8 0 ] in
+        let e : at + n ≡ at + i + length bs = omega (arith, ap length q ∙ l b) in
+        rw (field b t, sets_append, ← q, e, m)

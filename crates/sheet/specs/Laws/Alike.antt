@@ -1,5 +1,5 @@
 -- Two requests that agree in all that is read have the same angles, and the same answers; the name alters neither.
-use Rattle.std.specs.Prelude.{ℕ, ◌≤◌, ◌≡◌, Bool, ◌&&◌, length, eqb, leb}
+use Rattle.std.specs.Prelude.{ℕ, ◌≤◌, ◌≡◌, Bool, ◌&&◌, length, eqb, leb, Option, Some, None}
 use Rattle.std.proofs.Common.{arith, sym, subst, ◌∙◌, eq-eqb}
 use Rattle.std.proofs.Math.Path.{refl, ap}
 use mathlib.Core.List.{List, map}
@@ -12,7 +12,6 @@ use Rattle.std.specs.Float.Ieee.Fits.{and_i}
 use Rattle.float.specs.Laws.Tests.{and_left}
 use Rattle.sampling.specs.Reads.{joint_read, reference_read, arm_read, SameJoint, SameRead}
 use Rattle.sheet.specs.declared.request.Shape.{Shape}
-use Rattle.sheet.specs.declared.request.Shape.TheVariants.{Bad, Right}
 use Rattle.sheet.specs.declared.request.Field.TheVariants.{Sign, Arm, Reference, Offset, From, To}
 use Rattle.sheet.specs.Request.{request_size, shape_of, reads}
 use Rattle.sheet.specs.Fields.{sign_of, joint_at, arm_of, kind_of, limited_of, fixed_of, job_of, matrix}
@@ -28,7 +27,7 @@ use Rattle.sampling.proofs.Laws.Reads as Reads
 
 -- ---- what the job's kind and flags read is what the shape reads
 
-record Reading (s : Shape) (k : ℕ) : Type 0 where
+record Reading (s : Option Shape) (k : ℕ) : Type 0 where
   sign : joint_read (kind_of s) (limited_of s) (fixed_of s) k ≡ reads s Sign k
   offset : joint_read (kind_of s) (limited_of s) (fixed_of s) k ≡ reads s Offset k
   reference : reference_read (kind_of s) (limited_of s) (fixed_of s) k ≡ reads s Reference k
@@ -36,10 +35,10 @@ record Reading (s : Shape) (k : ℕ) : Type 0 where
   from : limited_of s && joint_read (kind_of s) (limited_of s) (fixed_of s) k ≡ reads s From k
   to : limited_of s && joint_read (kind_of s) (limited_of s) (fixed_of s) k ≡ reads s To k
 
-reading : (s : Shape) (k : ℕ) → right s ≡ true → Reading s k
+reading : (s : Option Shape) (k : ℕ) → right s ≡ true → Reading s k
 unfolding right reads kind_of limited_of fixed_of
-reading Bad k h = absurd (false≢true h)
-reading (Right kind limits fixed) k h = record { sign = refl; offset = refl; reference = refl; arm = refl; from = refl; to = refl }
+reading None k h = absurd (false≢true h)
+reading (Some s) k h = record { sign = refl; offset = refl; reference = refl; arm = refl; from = refl; to = refl }
 
 -- ---- from requests to jobs
 

@@ -1,9 +1,12 @@
 -- Laws of `Bytes`: numbers of bytes and bytes of numbers, runs of stores, comparison.
 use Rattle.std.specs.Prelude.{ℕ, zero, suc, ◌+◌, ◌*◌, ◌/◌, ◌%◌, ◌^◌, ◌≤◌, ◌<◌, ◌≡◌, refl, List, [], ◌∷◌, map, ◌++◌, true, false, length, get_or, set}
 use Rattle.std.specs.Prelude.{drop, eqb, Float}
-use Rattle.std.proofs.Common.{arith, add-zero, ap, ◌∙◌, append-nil, length-append, length-drop, drop_of_length-le, drop-cons, length-take-le, eq-eqb}
+use Rattle.std.proofs.Common.{arith, sym, add-zero, ap, ◌∙◌, append-nil, length-append, length-drop, drop_of_length-le, drop-cons, length-take-le, eq-eqb}
 use Rattle.std.proofs.Common.{ne_eqb, eqb-true}
+use Rattle.std.proofs.Math.Nat.{pow-suc, div-div-eq-div-mul}
 use Rattle.std.proofs.Math.Numerals.{towards_suc}
+use Rattle.std.specs.Int.{sum_through, byte_worth, bytes_low_first}
+use Rattle.std.specs.List.{slice_index}
 use Rattle.std.proofs.lemmas.Bool.{false≢true}
 use Rattle.std.proofs.lemmas.List.Edits.{sets, sets-eq}
 use Rattle.std.specs.Float.{binary64}
@@ -90,6 +93,37 @@ bytes_part s at (suc k) h b =
 -- four bytes hold every number below 2 ^ 32
 pub little_endian_half : (n : ℕ) → n < 2 ^ 32 → little_endian (bytes 4 n) ≡ n
 little_endian_half n h = little_endian_bytes 4 n h
+
+-- ---- std's numbers of bytes and bytes of numbers are these
+
+number_through : ℕ → List ℕ → ℕ
+number_through k bs = sum_through (λ (i : ℕ). byte_worth i (slice_index bs i)) k
+
+through_suc : (b : ℕ) (bs : List ℕ) (k : ℕ) → number_through (suc k) (b ∷ bs) ≡ b + 256 * number_through k bs
+unfolding number_through
+through_suc b bs zero = omega arith
+through_suc b bs (suc k) =
+    let e : 256 ^ suc (suc k) ≡ 256 ^ suc k * 256 = pow-suc 256 (suc k) in
+    rw e (omega (arith, through_suc b bs k))
+
+pub from_le : (k : ℕ) (bs : List ℕ) → length bs ≡ suc k → sum_through (λ (i : ℕ). byte_worth i (slice_index bs i)) k ≡ little_endian bs
+unfolding number_through little_endian
+from_le k [] e = absurd (omega arith)
+from_le zero (b ∷ []) e = omega arith
+from_le zero (b ∷ (c ∷ bs)) e = absurd (omega arith)
+from_le (suc k) (b ∷ bs) e = through_suc b bs k ∙ ap (λ (n : ℕ). b + 256 * n) (from_le k bs (omega arith))
+
+low_first : (i k n : ℕ) → bytes_low_first (suc i) k n ≡ bytes k (n / 256 ^ suc i)
+unfolding bytes
+low_first i zero n = refl
+low_first i (suc k) n =
+    let e : n / 256 ^ suc i / 256 ≡ n / 256 ^ suc (suc i) = div-div-eq-div-mul n (256 ^ suc i) 256 ∙ ap (λ (m : ℕ). n / m) (sym (pow-suc 256 (suc i))) in
+    rw (e, low_first (suc i) k n) refl
+
+pub to_le : (k n : ℕ) → bytes_low_first 0 k n ≡ bytes k n
+unfolding bytes
+to_le zero n = refl
+to_le (suc k) n = rw (low_first 0 k n) refl
 
 -- ---- stores
 

@@ -1,5 +1,5 @@
 -- The refusals of Check one by one, and the parts of a sheet.
-use Rattle.std.specs.Prelude.{ℕ, ◌+◌, ◌-◌, ◌*◌, ◌≤◌, ◌<◌, List, ◌++◌, Bool, take, drop, get_or, eqb, Float}
+use Rattle.std.specs.Prelude.{ℕ, ◌+◌, ◌-◌, ◌*◌, ◌≤◌, ◌<◌, List, ◌++◌, Bool, take, drop, get_or, eqb, Float, Some, None}
 use Rattle.std.proofs.Common.{arith, ◌∙◌, append_assoc, length-append, take_at, drop_at, get_or-take, get_or-drop}
 use Rattle.std.proofs.Math.Path.{◌≡◌, refl, sym, ap}
 use Rattle.std.proofs.Math.Bool.{true, false, cond}
@@ -11,7 +11,6 @@ use Rattle.sheet.specs.Bytes.{little_endian, bytes, part, same_bytes}
 use Rattle.sheet.specs.Edition.{number, newest, numbered, known}
 use Rattle.sheet.specs.declared.edition.Edition.{Edition}
 use Rattle.sheet.specs.declared.edition.Edition.TheVariants.{One, Two}
-use Rattle.sheet.specs.declared.edition.Said.TheVariants.{Known, Unknown}
 use Rattle.sheet.specs.Refusals.{refused, need}
 use Rattle.sheet.specs.Sheet.{trailer, trailer_size, frame_size, items_bound, sheet_size}
 use Rattle.sheet.specs.Request.{core_size, request_size}
@@ -28,50 +27,50 @@ unfolding answer need
 answer_short upto s places h = rw (lt-leb (core_size + trailer_size) (length s) h)
 
 module _ (upto : Edition) (s : List ℕ) (places : ℕ) (h : core_size + trailer_size ≤ length s) where
-  pub answer_unknown : known upto (edition_of s) ≡ Unknown → refused 32 ≡ answer upto s places
+  pub answer_unknown : known upto (edition_of s) ≡ None → refused 32 ≡ answer upto s places
   unfolding answer by_said need
   answer_unknown k = rw (le-leb (core_size + trailer_size) (length s) h, k)
 
-  pub answer_known : (e : Edition) → known upto (edition_of s) ≡ Known e → by_edition e s places ≡ answer upto s places
+  pub answer_known : (e : Edition) → known upto (edition_of s) ≡ Some e → by_edition e s places ≡ answer upto s places
   unfolding answer by_said need
   answer_known e k = rw (le-leb (core_size + trailer_size) (length s) h, k)
 
 -- an edition is known by its number, unless it is later than the newest known
-numbered_own : (e : Edition) → numbered (number e) ≡ Known e
+numbered_own : (e : Edition) → numbered (number e) ≡ Some e
 unfolding numbered
 numbered_own One = refl
 numbered_own Two = refl
 
 module _ (upto e : Edition) where
-  pub known_number : number e ≤ number upto → known upto (number e) ≡ Known e
+  pub known_number : number e ≤ number upto → known upto (number e) ≡ Some e
   unfolding known
   known_number h = rw (le-leb (number e) (number upto) h, numbered_own e)
 
-  pub not_known : number upto < number e → known upto (number e) ≡ Unknown
+  pub not_known : number upto < number e → known upto (number e) ≡ None
   unfolding known
   not_known h = rw (lt-leb (number e) (number upto) h)
 
 -- and it has the number that it is known by, which is that of the newest known at most
 said_number : (e : Edition) (k : ℕ) (b c : Bool) → (b ≡ true → k ≡ number One) → (c ≡ true → k ≡ number Two)
-    → cond b (Known One) (cond c (Known Two) Unknown) ≡ Known e → k ≡ number e
+    → cond b (Some One) (cond c (Some Two) None) ≡ Some e → k ≡ number e
 said_number e k true c h i q = let z : One ≡ e = cc in h refl ∙ ap number z
 said_number e k false true h i q = let z : Two ≡ e = cc in i refl ∙ ap number z
 said_number e k false false h i q = let z : ◌≡◌ {A = ℕ} 0 1 = cc in absurd (omega arith)
 
 module _ (upto e : Edition) (k : ℕ) where
-  pub known_said : known upto k ≡ Known e → k ≡ number e
+  pub known_said : known upto k ≡ Some e → k ≡ number e
   unfolding known numbered
   known_said = go (leb k (number upto))
     where
-      go : (b : Bool) → cond b (numbered k) Unknown ≡ Known e → k ≡ number e
+      go : (b : Bool) → cond b (numbered k) None ≡ Some e → k ≡ number e
       go true q = said_number e k (eqb k (number One)) (eqb k (number Two)) (eqb-true k (number One)) (eqb-true k (number Two)) q
       go false q = let z : ◌≡◌ {A = ℕ} 0 1 = cc in absurd (omega arith)
 
-  pub known_upto : known upto k ≡ Known e → k ≤ number upto
+  pub known_upto : known upto k ≡ Some e → k ≤ number upto
   unfolding known
   known_upto = go (leb k (number upto)) refl
     where
-      go : (b : Bool) → leb k (number upto) ≡ b → cond b (numbered k) Unknown ≡ Known e → k ≤ number upto
+      go : (b : Bool) → leb k (number upto) ≡ b → cond b (numbered k) None ≡ Some e → k ≤ number upto
       go true l q = leb-true k (number upto) l
       go false l q = let z : ◌≡◌ {A = ℕ} 0 1 = cc in absurd (omega arith)
 
@@ -117,11 +116,11 @@ module _ (s : List ℕ) (w : List Float) where
   unfolding work_checked
   left_short h = rw (lt-leb (core_size + trailer_size) (length s) h)
 
-  pub left_unknown : core_size + trailer_size ≤ length s → known newest (edition_of s) ≡ Unknown → w ≡ work_checked s w
+  pub left_unknown : core_size + trailer_size ≤ length s → known newest (edition_of s) ≡ None → w ≡ work_checked s w
   unfolding work_checked work_said
   left_unknown h k = rw (le-leb (core_size + trailer_size) (length s) h, k)
 
-  pub left_known : (e : Edition) → core_size + trailer_size ≤ length s → known newest (edition_of s) ≡ Known e → work_by e s w ≡ work_checked s w
+  pub left_known : (e : Edition) → core_size + trailer_size ≤ length s → known newest (edition_of s) ≡ Some e → work_by e s w ≡ work_checked s w
   unfolding work_checked work_said
   left_known e h k = rw (le-leb (core_size + trailer_size) (length s) h, k)
 

@@ -1,5 +1,5 @@
 -- The demands, proved of the definitions.
-use Rattle.std.specs.Prelude.{ℕ, ◌+◌, ◌-◌, ◌*◌, ◌≤◌, ◌<◌, ◌≡◌, refl, ◌↔◌, List, Bool, true, false, length, take, drop, T, eqb, leb, ltb}
+use Rattle.std.specs.Prelude.{ℕ, ◌+◌, ◌-◌, ◌*◌, ◌≤◌, ◌<◌, ◌≡◌, refl, ◌↔◌, List, Bool, true, false, length, take, drop, T, eqb, leb, ltb, Option, Some, None}
 use Rattle.std.proofs.Common.{arith, sym, ap, ◌∙◌, take_at, length-take-le}
 use Rattle.float.specs.Laws.Tests.{and_right}
 use Rattle.sampling.proofs.Laws.Angles.{angles_few}
@@ -16,8 +16,6 @@ use Rattle.sheet.specs.Demands.{of_sampling, of_check, Among, Answers, Leaves, C
 use Rattle.sheet.specs.Demands.{SameAnswer, SameAngles, SameSheet, Together}
 use Rattle.sheet.specs.Promises.Plan.{compared, checked}
 use Rattle.sheet.specs.declared.edition.Edition.{Edition}
-use Rattle.sheet.specs.declared.edition.Said.{Said}
-use Rattle.sheet.specs.declared.edition.Said.TheVariants.{Known, Unknown}
 use Rattle.sheet.specs.Laws.Bytes.{length_words_bytes, same_is, same_itself}
 use Rattle.sheet.specs.Laws.Places.{core_least}
 use Rattle.sheet.specs.Laws.Agree.{core_of, agree_blank, blank_agree, agree_own, blank_twice}
@@ -60,10 +58,10 @@ of_edition e s places =
     (among_need of_check _ 33 _ tt
     (among_need of_check _ 34 _ tt (among_need of_check _ 35 _ tt (among_need of_check _ 36 (accepted (count_of s)) tt tt))))
 
-of_said : (t : Said) (s : List ℕ) (places : ℕ) → Among of_check (Check.by_said t s places)
+of_said : (t : Option Edition) (s : List ℕ) (places : ℕ) → Among of_check (Check.by_said t s places)
 unfolding Check.by_said
-of_said (Known e) s places = of_edition e s places
-of_said Unknown s places = tt
+of_said (Some e) s places = of_edition e s places
+of_said None s places = tt
 
 pub answers : Answers
 unfolding answer by_work Check.answer
@@ -142,22 +140,22 @@ module _ (e : Edition) (s : List ℕ) (places n : ℕ) (q : Check.by_edition e s
       ∙ ap accepted (sym same_count ∙ parts.number)
 
 -- an edition that is known has a number up to that of the newest
-known_least : (upto e : Edition) (k : ℕ) → known upto k ≡ Known e → number e ≤ number upto
+known_least : (upto e : Edition) (k : ℕ) → known upto k ≡ Some e → number e ≤ number upto
 known_least upto e k h = omega (arith, known_said upto e k h, known_upto upto e k h)
 
 pub sound : Sound
 unfolding Check.answer Check.by_said
 sound upto s places n q = go (known upto (edition_of s)) refl (need_accepted (leb (core_size + trailer_size) (length s)) 31 n _ q)
   where
-    go : (t : Said) → known upto (edition_of s) ≡ t → Check.by_said t s places ≡ accepted n → Written upto s places n
-    go (Known e) k a =
+    go : (t : Option Edition) → known upto (edition_of s) ≡ t → Check.by_said t s places ≡ accepted n → Written upto s places n
+    go (Some e) k a =
         record {
           edition = e;
           is_known = known_least upto e (edition_of s) k;
           whole = laid_out e s places n a;
           accepts = accepts_inside e s places n a;
         }
-    go Unknown k a = let z : ◌≡◌ {A = ℕ} 0 1 = cc in absurd (omega arith)
+    go None k a = let z : ◌≡◌ {A = ℕ} 0 1 = cc in absurd (omega arith)
 
 -- an accepted sheet has the length of its n angles, in one of the editions
 pub checked_length : (upto : Edition) (s : List ℕ) (places n : ℕ) → Check.answer upto s places ≡ accepted n → core_size + trailer_size + 8 * n ≤ length s
@@ -216,9 +214,9 @@ complete upto e r places n k q =
 pub other_edition : OtherEdition
 other_edition upto s places h n = go (known upto (edition_of s)) refl
   where
-    go : (t : Said) → known upto (edition_of s) ≡ t → Check.answer upto s places ≡ refused 32
-    go (Known e) k = absurd (n e (known_least upto e (edition_of s) k) (known_said upto e (edition_of s) k))
-    go Unknown k = sym (answer_unknown upto s places h k)
+    go : (t : Option Edition) → known upto (edition_of s) ≡ t → Check.answer upto s places ≡ refused 32
+    go (Some e) k = absurd (n e (known_least upto e (edition_of s) k) (known_said upto e (edition_of s) k))
+    go None k = sym (answer_unknown upto s places h k)
 
 pub exact : Exact
 exact upto s places n = (

@@ -1,6 +1,6 @@
 -- What the editions promise (02, change 2): a check built earlier refuses what an edition that it does not know lays out, an older sheet is checked as
 -- before, and the name alters neither angle nor answer.
-use Rattle.std.specs.Prelude.{ℕ, ◌+◌, ◌≤◌, ◌<◌, ◌≡◌, refl, List, Bool, true, false, length, take, get_or, eqb, leb}
+use Rattle.std.specs.Prelude.{ℕ, ◌+◌, ◌≤◌, ◌<◌, ◌≡◌, refl, List, Bool, true, false, length, take, get_or, eqb, leb, Option, Some, None}
 use Rattle.std.proofs.Common.{arith, sym, ◌∙◌, drop_of_length-le, get_or-take, take-take, length-take-le, eqb-true, eq-eqb}
 use Rattle.std.proofs.Math.Path.{ap}
 use Rattle.std.specs.Float.Ieee.{of_bits}
@@ -19,8 +19,6 @@ use Rattle.sheet.specs.Check.{edition_of, formed, by_said, by_edition}
 use Rattle.sheet.specs.Demands.{EarlierRefuses, OlderAsBefore, ByNameAlone, Unnamed}
 use Rattle.sheet.specs.declared.edition.Edition.{Edition}
 use Rattle.sheet.specs.declared.edition.Edition.TheVariants.{One, Two}
-use Rattle.sheet.specs.declared.edition.Said.{Said}
-use Rattle.sheet.specs.declared.edition.Said.TheVariants.{Known, Unknown}
 use Rattle.sheet.specs.declared.request.Field.TheVariants.{Sign, Reference, Offset, From, To}
 use Rattle.sheet.specs.Laws.Places.{core_least, place_fits}
 use Rattle.sheet.specs.Laws.Validate.{one_name}
@@ -70,15 +68,15 @@ older_as_before =
 -- ---- the check that knows only edition 1 is 01's
 
 -- it goes on as 01's does whatever the trailer says: where that is not edition 1, the sheet is not formed
-said_one : (s : List ℕ) (places : ℕ) (t : Said) → known One (edition_of s) ≡ t → Check.by_said t s places ≡ Check.by_edition One s places
+said_one : (s : List ℕ) (places : ℕ) (t : Option Edition) → known One (edition_of s) ≡ t → Check.by_said t s places ≡ Check.by_edition One s places
 unfolding Check.by_said
-said_one s places (Known One) k = refl
-said_one s places (Known Two) k = absurd (omega (arith, known_said One Two (edition_of s) k, known_upto One Two (edition_of s) k))
-said_one s places Unknown k = go (formed One s) refl
+said_one s places (Some One) k = refl
+said_one s places (Some Two) k = absurd (omega (arith, known_said One Two (edition_of s) k, known_upto One Two (edition_of s) k))
+said_one s places None k = go (formed One s) refl
   where
     go : (b : Bool) → formed One s ≡ b → refused 32 ≡ Check.by_edition One s places
     go true f =
-        let q : Known One ≡ Unknown = sym (known_number One One (omega arith)) ∙ ap (known One) (sym (formed_edition One s f)) ∙ k in
+        let q : Some One ≡ None = sym (known_number One One (omega arith)) ∙ ap (known One) (sym (formed_edition One s f)) ∙ k in
         let z : ◌≡◌ {A = ℕ} 0 1 = cc in
         absurd (omega arith)
     go false f = edition_unformed One s places f

@@ -1,5 +1,5 @@
 -- What a sheet lists: its words one by one; of an accepted sheet the number and the length, and that it lists the items of the request inside.
-use Rattle.std.specs.Prelude.{ℕ, zero, suc, ◌+◌, ◌*◌, ◌^◌, ◌≤◌, ◌<◌, ◌≡◌, refl, List, [], ◌∷◌, ◌++◌, map, take, drop, get_or, Float}
+use Rattle.std.specs.Prelude.{ℕ, zero, suc, ◌+◌, ◌*◌, ◌^◌, ◌≤◌, ◌<◌, ◌≡◌, refl, List, [], ◌∷◌, ◌++◌, map, take, drop, get_or, Float, Some}
 use Rattle.std.proofs.Common.{arith, sym, ◌∙◌, append_assoc, take_at, drop_at, drop-drop}
 use Rattle.std.proofs.Math.Path.{ap}
 use Rattle.std.proofs.Math.ListN.{length}
@@ -19,7 +19,6 @@ use Rattle.sheet.specs.Check.{count_of, edition_of, request_of, listed}
 use Rattle.sheet.specs.Demands.{Written}
 use Rattle.sheet.specs.Promises.Tested.{Passed}
 use Rattle.sheet.specs.declared.edition.Edition.{Edition}
-use Rattle.sheet.specs.declared.edition.Said.TheVariants.{Known}
 use Rattle.sheet.specs.Laws.Bytes.{length_bytes, little_endian_bytes}
 use Rattle.sheet.specs.Laws.Check.{known_number}
 use Rattle.sheet.specs.Laws.Accepted.{before_passed, before_count}
@@ -91,7 +90,7 @@ module _ (upto : Edition) (s : List ℕ) (places n : ℕ) (p : Written upto s pl
   pub written_count : count_of s ≡ n
   written_count = ap count_of p.whole ∙ count_in own inside written_passed.whole (few_items inside) ∙ sym counted
 
-  pub written_known : known upto (edition_of s) ≡ Known own
+  pub written_known : known upto (edition_of s) ≡ Some own
   written_known =
       ap (λ (l : List ℕ). known upto (edition_of l)) p.whole ∙ ap (known upto) (says own inside written_passed.whole)
       ∙ known_number upto own p.is_known

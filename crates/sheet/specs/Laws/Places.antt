@@ -1,5 +1,5 @@
 -- Where the fields stand: they lie inside the request, and each byte of a field is read where the field is.
-use Rattle.std.specs.Prelude.{ℕ, ◌+◌, ◌-◌, ◌/◌, ◌≤◌, ◌<◌, ◌≡◌, true}
+use Rattle.std.specs.Prelude.{ℕ, ◌+◌, ◌-◌, ◌/◌, ◌≤◌, ◌<◌, ◌≡◌, true, Option}
 use Rattle.std.proofs.Common.{arith, lt-ltb, le-ltb}
 use Rattle.sheet.specs.declared.edition.Edition.{Edition}
 use Rattle.sheet.specs.declared.edition.Edition.TheVariants.{One, Two}
@@ -34,7 +34,7 @@ place_most From j a b = omega arith
 place_most To j a b = omega arith
 
 -- each byte of a field is read where the field is
-pub byte_is : (s : Shape) (f : Field) (j i : ℕ) → 1 ≤ j → j ≤ last f → place f j ≤ i → i < place f j + width f → byte_read s i ≡ reads s f j
+pub byte_is : (s : Option Shape) (f : Field) (j i : ℕ) → 1 ≤ j → j ≤ last f → place f j ≤ i → i < place f j + width f → byte_read s i ≡ reads s f j
 unfolding byte_read
 byte_is s Sign j i a b c d =
     let e : i - 4 + 1 ≡ j = omega arith in
@@ -86,17 +86,17 @@ byte_is s To j i a b c d =
     )
 
 -- bytes 0 to 3
-pub byte_first : (s : Shape) (i : ℕ) → i < 4 → byte_read s i ≡ true
+pub byte_first : (s : Option Shape) (i : ℕ) → i < 4 → byte_read s i ≡ true
 unfolding byte_read
 byte_first s i a = rw (lt-ltb i 4 (omega arith))
 
 -- bytes 10 to 15 and the rotation
-pub byte_always : (s : Shape) (i : ℕ) → 10 ≤ i → i < 48 → byte_read s i ≡ true
+pub byte_always : (s : Option Shape) (i : ℕ) → 10 ≤ i → i < 48 → byte_read s i ≡ true
 unfolding byte_read
 byte_always s i a b = rw (le-ltb i 4 (omega arith), le-ltb i 10 (omega arith), lt-ltb i 48 (omega arith))
 
 -- the name
-pub byte_name : (s : Shape) (i : ℕ) → name_at ≤ i → byte_read s i ≡ true
+pub byte_name : (s : Option Shape) (i : ℕ) → name_at ≤ i → byte_read s i ≡ true
 unfolding byte_read
 byte_name s i a =
     rw (

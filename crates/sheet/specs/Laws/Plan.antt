@@ -1,5 +1,5 @@
 -- What inner functions find of a request that passed its tests is what the definitions say of it.
-use Rattle.std.specs.Prelude.{ℕ, ◌≡◌, refl, ◌⊎◌, List, [], ◌∷◌, Bool, cond, ◌&&◌, length, get_or, T, eqb, leb, Float}
+use Rattle.std.specs.Prelude.{ℕ, ◌≡◌, refl, ◌⊎◌, List, [], ◌∷◌, Bool, cond, ◌&&◌, length, get_or, T, eqb, leb, Float, Result, Ok, Err, Option, Some, None}
 use Rattle.std.proofs.Common.{arith, sym, subst, ◌∙◌, inl, inr, leb-true}
 use Rattle.std.proofs.Math.Path.{ap}
 use Rattle.std.proofs.Math.Bool.{true, false}
@@ -23,14 +23,13 @@ use Rattle.sampling.specs.declared.lists.Plan.{Plan}
 use Rattle.sampling.specs.declared.stream.Cursor.{Cursor}
 use Rattle.sampling.specs.declared.stream.Step.{Step}
 use Rattle.sampling.specs.declared.stream.Step.TheVariants.{Yield, Done}
+use Rattle.sampling.specs.declared.job.Kind.{Kind}
 use Rattle.sampling.specs.declared.job.Kind.TheVariants.{J1free, J2free, J1j2free}
 use Rattle.sampling.specs.declared.pose.Quaternion.{Quaternion}
 use Rattle.sheet.specs.Edition.{newest}
 use Rattle.sheet.specs.declared.edition.Edition.{Edition}
 use Rattle.sheet.specs.declared.refusals.Refusal.{Refusal}
-use Rattle.sheet.specs.declared.validate.Tested.{Tested}
 use Rattle.sheet.specs.declared.request.Shape.{Shape}
-use Rattle.sheet.specs.declared.request.Shape.TheVariants.{Bad, Right}
 use Rattle.sheet.specs.declared.request.Field.TheVariants.{Sign, Reference, Offset}
 use Rattle.sheet.specs.Bytes.{words_bytes}
 use Rattle.sheet.specs.Request.{shape_of, reads}
@@ -46,16 +45,18 @@ use Rattle.sheet.specs.Laws.Bytes.{floats_words}
 use Rattle.sheet.specs.Laws.Sampling.{length_items}
 use Rattle.sheet.specs.Laws.Tested.{passed_validate, tested_refused, passed_reference, passed_offset}
 use Rattle.sheet.specs.Refusals as Refusals
-use Rattle.sheet.specs.declared.validate.Tested.TheVariants as tests
 
 -- ---- kind 3 reads sign, offset and reference of joint 1
 
-folded_reads : (s : Shape) → right s ≡ true → kind_of s ≡ J1j2free → T (reads s Sign 1 && (reads s Offset 1 && reads s Reference 1))
+folded_reads : (s : Option Shape) → right s ≡ true → kind_of s ≡ J1j2free → T (reads s Sign 1 && (reads s Offset 1 && reads s Reference 1))
 unfolding right kind_of reads joint_read reference_read
-folded_reads Bad h e = absurd (false≢true h)
-folded_reads (Right J1free limits fixed) h e = let z : ◌≡◌ {A = ℕ} 0 1 = cc in absurd (omega arith)
-folded_reads (Right J2free limits fixed) h e = let z : ◌≡◌ {A = ℕ} 0 1 = cc in absurd (omega arith)
-folded_reads (Right J1j2free limits fixed) h e = tt
+folded_reads None h e = absurd (false≢true h)
+folded_reads (Some s) h e = go s.kind s.limits s.fixed e
+  where
+    go : (k : Kind) (l f : Bool) → k ≡ J1j2free → T (joint_read k l f 1 && (joint_read k l f 1 && reference_read k l f 1))
+    go J1free l f e = let z : ◌≡◌ {A = ℕ} 0 1 = cc in absurd (omega arith)
+    go J2free l f e = let z : ◌≡◌ {A = ℕ} 0 1 = cc in absurd (omega arith)
+    go J1j2free l f e = tt
 
 pub sign_either : (b : ℕ) → (sign_of b ≡ one_float) ⊎ (sign_of b ≡ neg one_float)
 unfolding sign_of
@@ -150,12 +151,12 @@ module _ (p : Plan) (w : List Float) (c : Cursor) (t : Step) (g : Ready p w) (e 
 
 -- ---- work, before it is cleared
 
-pub left_passed : (e : Edition) (r : List ℕ) (q : Quaternion) (v w : List Float) → tested e r ≡ tests.Passed q → w ≡ work_after (job_of r) v
+pub left_passed : (e : Edition) (r : List ℕ) (q : Quaternion) (v w : List Float) → tested e r ≡ Ok q → w ≡ work_after (job_of r) v
     → w ≡ work_left e r v
-left_passed e r q v w h f = f ∙ sym (ap (λ (t : Tested). work_tested t r v) h)
+left_passed e r q v w h f = f ∙ sym (ap (λ (t : Result Quaternion Refusal). work_tested t r v) h)
 
-pub left_refused : (e : Edition) (r : List ℕ) (k : Refusal) (w : List Float) → tested e r ≡ tests.Refused k → w ≡ work_left e r w
-left_refused e r k w h = sym (ap (λ (t : Tested). work_tested t r w) h)
+pub left_refused : (e : Edition) (r : List ℕ) (k : Refusal) (w : List Float) → tested e r ≡ Err k → w ≡ work_left e r w
+left_refused e r k w h = sym (ap (λ (t : Result Quaternion Refusal). work_tested t r w) h)
 
 -- ---- Sampling
 
@@ -163,12 +164,12 @@ pub passed_answer : (r : List ℕ) (places room : ℕ) → Passed newest r → p
 unfolding answer by_work planned_answer
 passed_answer r places room p = sym (passed_validate newest r _ p)
 
-pub refused_answer : (r : List ℕ) (k : Refusal) (places room : ℕ) → tested newest r ≡ tests.Refused k → Refusals.refused (number k) ≡ answer r places room
+pub refused_answer : (r : List ℕ) (k : Refusal) (places room : ℕ) → tested newest r ≡ Err k → Refusals.refused (number k) ≡ answer r places room
 unfolding answer by_work
 refused_answer r k places room e = sym (tested_refused newest r k _ e)
 
 -- ---- Check
 
-pub refused_meets : (e : Edition) (r : List ℕ) (k : Refusal) → tested e r ≡ tests.Refused k → meets_none e r ≡ false
+pub refused_meets : (e : Edition) (r : List ℕ) (k : Refusal) → tested e r ≡ Err k → meets_none e r ≡ false
 unfolding meets_none
 refused_meets e r k h = ap is_accepted (tested_refused e r k _ h)

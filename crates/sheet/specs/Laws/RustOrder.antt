@@ -1,5 +1,5 @@
 -- Every answer of Sampling and Check, and every sheet, is what it was with the pairs of curves in the Rust's order (02, change 3).
-use Rattle.std.specs.Prelude.{ℕ, ◌≡◌, refl, List, map}
+use Rattle.std.specs.Prelude.{ℕ, ◌≡◌, refl, List, map, Option, Some, None}
 use Rattle.std.proofs.Common.{ap}
 use Rattle.std.specs.Float.{binary64}
 use Rattle.std.specs.Float.Ieee.{to_bits}
@@ -11,8 +11,6 @@ use Rattle.sheet.specs.Sampling.{angles, items, sheet, cut_count, by_work, answe
 use Rattle.sheet.specs.Check.{request_of, edition_of, by_edition, by_said}
 use Rattle.sheet.specs.Demands.{PairsAsBefore}
 use Rattle.sheet.specs.declared.edition.Edition.{Edition}
-use Rattle.sheet.specs.declared.edition.Said.{Said}
-use Rattle.sheet.specs.declared.edition.Said.TheVariants.{Known, Unknown}
 use Rattle.sheet.specs.Check as Check
 use Rattle.sheet.specs.RustOrder as Rust
 
@@ -42,10 +40,10 @@ edition_same e s places =
     let r = request_of e s in
     rw (cut_count_same (job_of r), items_same r)
 
-said_same : (k : Said) (s : List ℕ) (places : ℕ) → Rust.check_said k s places ≡ by_said k s places
+said_same : (k : Option Edition) (s : List ℕ) (places : ℕ) → Rust.check_said k s places ≡ by_said k s places
 unfolding Rust.check_said by_said
-said_same (Known e) s places = edition_same e s places
-said_same Unknown s places = refl
+said_same (Some e) s places = edition_same e s places
+said_same None s places = refl
 
 check_same : (upto : Edition) (s : List ℕ) (places : ℕ) → Rust.check upto s places ≡ Check.answer upto s places
 unfolding Rust.check Check.answer

@@ -1,5 +1,5 @@
 -- What the tests of a request come to, and what is known of a request that passes them.
-use Rattle.std.specs.Prelude.{ℕ, zero, suc, ◌+◌, ◌≤◌, ◌<◌, refl, List, Bool, true, false, cond, length, T, eqb}
+use Rattle.std.specs.Prelude.{ℕ, zero, suc, ◌+◌, ◌≤◌, ◌<◌, refl, List, Bool, true, false, cond, length, T, eqb, Result, Ok, Err}
 use Rattle.std.proofs.Common.{arith, sym, ◌∙◌, eqb-true, eq-eqb}
 use Rattle.std.proofs.Math.Decide.{dec_lt}
 use Rattle.std.proofs.Math.Path.{◌≡◌, ap}
@@ -14,7 +14,6 @@ use Rattle.sheet.specs.declared.edition.Edition.{Edition}
 use Rattle.sheet.specs.declared.request.Field.{Field}
 use Rattle.sheet.specs.declared.request.Field.TheVariants.{Arm, Reference, Offset}
 use Rattle.sheet.specs.declared.refusals.Refusal.{Refusal}
-use Rattle.sheet.specs.declared.validate.Tested.{Tested}
 use Rattle.sheet.specs.Request.{request_size, shape_of, reads, last}
 use Rattle.sheet.specs.Fields.{field, rotation_of}
 use Rattle.sheet.specs.Refusals.{Answer, accepted, refused, need, number}
@@ -22,7 +21,6 @@ use Rattle.sheet.specs.Validate.{all_from, head_right, name_right, signs_right, 
 use Rattle.sheet.specs.Validate.{within, eight, arm_within, references_finite, offsets_within, validate}
 use Rattle.sheet.specs.Promises.Tested.{tested_fields, tested_rotation, tested, after, Passed}
 use Rattle.sheet.specs.declared.refusals.Refusal.TheVariants as refusal
-use Rattle.sheet.specs.declared.validate.Tested.TheVariants as tests
 
 pub need_holds : (b : Bool) (k n : ℕ) (v : Answer) → need b k v ≡ accepted n → b ≡ true
 unfolding need
@@ -66,7 +64,7 @@ passed_validate e r v p =
 
 -- ---- the tests as the code makes them
 
-test : (b : Bool) (k : Refusal) (t : Tested) (v u : Answer) → after t v ≡ u → after (cond b t (tests.Refused k)) v ≡ need b (number k) u
+test : (b : Bool) (k : Refusal) (t : Result Quaternion Refusal) (v u : Answer) → after t v ≡ u → after (cond b t (Err k)) v ≡ need b (number k) u
 unfolding need
 test true k t v u e = e
 test false k t v u e = refl
@@ -75,7 +73,7 @@ after_fields : (r : List ℕ) (q : Quaternion) (v : Answer)
     → after (tested_fields r q) v ≡ need (arm_within r) 6 (need (references_finite r) 7 (need (offsets_within r) 8 v))
 after_fields r q v =
     test (arm_within r) refusal.Arm _ v _
-    (test (references_finite r) refusal.Reference _ v _ (test (offsets_within r) refusal.Offset (tests.Passed q) v v refl))
+    (test (references_finite r) refusal.Reference _ v _ (test (offsets_within r) refusal.Offset (Ok q) v v refl))
 
 after_rotation : (r : List ℕ) (n : Normalized) (v : Answer)
     → after (tested_rotation r n) v
@@ -94,22 +92,22 @@ tested_validate e r v =
     (test (signs_right r) refusal.Sign _ v _ (after_rotation r (try_normalize (rotation_of r)) v))))
 
 -- a request that is refused
-pub tested_refused : (e : Edition) (r : List ℕ) (k : Refusal) (v : Answer) → tested e r ≡ tests.Refused k → validate e r v ≡ refused (number k)
-tested_refused e r k v h = sym (tested_validate e r v) ∙ ap (λ (t : Tested). after t v) h
+pub tested_refused : (e : Edition) (r : List ℕ) (k : Refusal) (v : Answer) → tested e r ≡ Err k → validate e r v ≡ refused (number k)
+tested_refused e r k v h = sym (tested_validate e r v) ∙ ap (λ (t : Result Quaternion Refusal). after t v) h
 
 -- one that passes, and the quaternion that it passes with
-module _ (e : Edition) (r : List ℕ) (q : Quaternion) (h : tested e r ≡ tests.Passed q) where
+module _ (e : Edition) (r : List ℕ) (q : Quaternion) (h : tested e r ≡ Ok q) where
   pub tested_passed : Passed e r
-  tested_passed = validate_passed e r 0 (accepted 0) (sym (tested_validate e r (accepted 0)) ∙ ap (λ (t : Tested). after t (accepted 0)) h)
+  tested_passed = validate_passed e r 0 (accepted 0) (sym (tested_validate e r (accepted 0)) ∙ ap (λ (t : Result Quaternion Refusal). after t (accepted 0)) h)
 
-  inner : (b : Bool) (k : Refusal) (t : Tested) → cond b t (tests.Refused k) ≡ tests.Passed q → t ≡ tests.Passed q
+  inner : (b : Bool) (k : Refusal) (t : Result Quaternion Refusal) → cond b t (Err k) ≡ Ok q → t ≡ Ok q
   inner true k t i = i
   inner false k t i = let z : ◌≡◌ {A = ℕ} 0 1 = cc in absurd (omega arith)
 
-  unit : (n : Normalized) → tested_rotation r n ≡ tests.Passed q → n ≡ Unit q
+  unit : (n : Normalized) → tested_rotation r n ≡ Ok q → n ≡ Unit q
   unfolding tested_rotation
   unit (Unit p) j =
-      let i : tests.Passed p ≡ tests.Passed q = inner (offsets_within r) refusal.Offset _
+      let i : Ok p ≡ Ok q = inner (offsets_within r) refusal.Offset _
       (inner (references_finite r) refusal.Reference _ (inner (arm_within r) refusal.Arm _ j)) in
       let z : p ≡ q = cc in
       ap Unit z

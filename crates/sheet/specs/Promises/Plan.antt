@@ -1,5 +1,5 @@
 -- What inner functions of Sampling and Check promise one another of a request's plan. Definitions only; `Laws.Plan` joins them to `Sampling` and `Check`.
-use Rattle.std.specs.Prelude.{ℕ, ◌+◌, ◌≤◌, ◌≡◌, Bool, true, false, cond, List, length, leb, Float}
+use Rattle.std.specs.Prelude.{ℕ, ◌+◌, ◌≤◌, ◌≡◌, Bool, true, false, cond, List, length, leb, Float, Result, Ok, Err, Option, Some, None}
 use Rattle.sampling.specs.Promises.Stream.{start}
 use Rattle.sampling.specs.Promises.Plan.{by_plan, plan, work_after, Ready, to_come}
 use Rattle.sampling.specs.declared.lists.Plan.{Plan}
@@ -13,10 +13,8 @@ use Rattle.sheet.specs.Sheet.{trailer_size, sheet_size}
 use Rattle.sheet.specs.Check.{request_of, edition_of, formed, clean, meets_none}
 use Rattle.sheet.specs.Promises.Tested.{tested}
 use Rattle.sheet.specs.declared.edition.Edition.{Edition}
-use Rattle.sheet.specs.declared.edition.Said.{Said}
-use Rattle.sheet.specs.declared.edition.Said.TheVariants.{Known, Unknown}
-use Rattle.sheet.specs.declared.validate.Tested.{Tested}
-use Rattle.sheet.specs.declared.validate.Tested.TheVariants as tests
+use Rattle.sheet.specs.declared.refusals.Refusal.{Refusal}
+use Rattle.sampling.specs.declared.pose.Quaternion.{Quaternion}
 
 -- 10
 abbrev pub is_short : Plan → Bool
@@ -29,9 +27,9 @@ pub record PlannedFor (r : List ℕ) (p : Plan) (w : List Float) : Type 0 where
   pub yields : cut_count r ≤ length w → to_come p w start ≡ angles r
 
 -- what work holds before it is cleared: what the plan leaves of a request that passed its tests, else what it held
-abbrev pub work_tested : Tested → List ℕ → List Float → List Float
-work_tested (tests.Passed q) r w = work_after (job_of r) w
-work_tested (tests.Refused k) r w = w
+abbrev pub work_tested : Result Quaternion Refusal → List ℕ → List Float → List Float
+work_tested (Ok q) r w = work_after (job_of r) w
+work_tested (Err k) r w = w
 
 abbrev pub work_left : Edition → List ℕ → List Float → List Float
 work_left e r w = work_tested (tested e r) r w
@@ -40,9 +38,9 @@ work_left e r w = work_tested (tested e r) r w
 unfoldable pub work_by : Edition → List ℕ → List Float → List Float
 work_by e s w = cond (formed e s) (work_left e (request_of e s) w) w
 
-unfoldable pub work_said : Said → List ℕ → List Float → List Float
-work_said (Known e) s w = work_by e s w
-work_said Unknown s w = w
+unfoldable pub work_said : Option Edition → List ℕ → List Float → List Float
+work_said (Some e) s w = work_by e s w
+work_said None s w = w
 
 unfoldable pub work_checked : List ℕ → List Float → List Float
 work_checked s w = cond (leb (core_size + trailer_size) (length s)) (work_said (known newest (edition_of s)) s w) w

@@ -1,46 +1,45 @@
 -- What the tests of a request come to in code, and what is known of a request that passes them. Definitions only; `Laws.Tested` joins them to `Validate`.
-use Rattle.std.specs.Prelude.{ℕ, ◌≡◌, List, true, cond, length, eqb}
+use Rattle.std.specs.Prelude.{ℕ, ◌≡◌, List, true, cond, length, eqb, Result, Ok, Err}
 use Rattle.sampling.specs.Pose.{try_normalize}
 use Rattle.sampling.specs.declared.pose.Quaternion.{Quaternion}
 use Rattle.sampling.specs.declared.pose.Normalized.{Normalized}
 use Rattle.sampling.specs.declared.pose.Normalized.TheVariants.{Unit, NotFinite, Zero}
 use Rattle.sheet.specs.declared.edition.Edition.{Edition}
-use Rattle.sheet.specs.declared.validate.Tested.{Tested}
+use Rattle.sheet.specs.declared.refusals.Refusal.{Refusal}
 use Rattle.sheet.specs.Request.{request_size}
 use Rattle.sheet.specs.Fields.{rotation_of}
 use Rattle.sheet.specs.Refusals.{Answer, refused, number}
 use Rattle.sheet.specs.Validate.{head_right, name_right, signs_right, rotation_finite, rotation_nonzero, arm_within, references_finite, offsets_within}
 use Rattle.sheet.specs.declared.refusals.Refusal.TheVariants as refusal
-use Rattle.sheet.specs.declared.validate.Tested.TheVariants as tests
 
 -- 6 to 8, for a rotation that is normalized to q
-abbrev pub tested_fields : List ℕ → Quaternion → Tested
+abbrev pub tested_fields : List ℕ → Quaternion → Result Quaternion Refusal
 tested_fields r q =
     cond (arm_within r)
-    (cond (references_finite r) (cond (offsets_within r) (tests.Passed q) (tests.Refused refusal.Offset)) (tests.Refused refusal.Reference))
-    (tests.Refused refusal.Arm)
+    (cond (references_finite r) (cond (offsets_within r) (Ok q) (Err refusal.Offset)) (Err refusal.Reference))
+    (Err refusal.Arm)
 
 -- 4 to 8
-unfoldable pub tested_rotation : List ℕ → Normalized → Tested
+unfoldable pub tested_rotation : List ℕ → Normalized → Result Quaternion Refusal
 tested_rotation r (Unit q) = tested_fields r q
-tested_rotation r NotFinite = tests.Refused refusal.NotFinite
-tested_rotation r Zero = tests.Refused refusal.Zero
+tested_rotation r NotFinite = Err refusal.NotFinite
+tested_rotation r Zero = Err refusal.Zero
 
 -- 1 to 8 and 41
-unfoldable pub tested : Edition → List ℕ → Tested
+unfoldable pub tested : Edition → List ℕ → Result Quaternion Refusal
 tested e r =
     cond (eqb (length r) (request_size e))
     (cond (head_right r)
     (cond (name_right r)
-    (cond (signs_right r) (tested_rotation r (try_normalize (rotation_of r))) (tests.Refused refusal.Sign))
-    (tests.Refused refusal.Name))
-    (tests.Refused refusal.Head))
-    (tests.Refused refusal.Length)
+    (cond (signs_right r) (tested_rotation r (try_normalize (rotation_of r))) (Err refusal.Sign))
+    (Err refusal.Name))
+    (Err refusal.Head))
+    (Err refusal.Length)
 
 -- what follows: v, or the refusal
-abbrev pub after : Tested → Answer → Answer
-after (tests.Passed q) v = v
-after (tests.Refused k) v = refused (number k)
+abbrev pub after : Result Quaternion Refusal → Answer → Answer
+after (Ok q) v = v
+after (Err k) v = refused (number k)
 
 -- none of refusals 1 to 8 and 41 is met
 pub record Passed (e : Edition) (r : List ℕ) : Type 0 where

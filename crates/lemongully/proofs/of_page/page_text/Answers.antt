@@ -5,21 +5,22 @@ use lib.ListN.{length}
 use mir.Syntax.{w64}
 use mir.ValLaws.{to_z-of_z}
 use Rattle.sheet.specs.Refusals.{Answer, signed}
-use Rattle.page.specs.Operation.{text, text_after}
+use Rattle.page.specs.Operation.{text, text_after, answer_of}
+use Rattle.lemongully.proofs.Signed.{signed_page, small}
 use Rattle.lemongully.proofs.of_page.Room.{text_fits}
 use Rattle.lemongully.proofs.of_page.page_text.Goals as goal
 
-pub laid_number-requires : goal.laid_number-requires
-laid_number-requires c n e = let a = c.args in
+pub signed_number-requires : goal.signed_number-requires
+signed_number-requires c = let a = c.args in small _ (λ n e.
     omega (
       arith,
-      text_fits a.sheet.now a.page (length a.work.now) (length a.text.now) n c.page_text-a.ensures.result_value e,
+      text_fits a.sheet.now a.page (length a.work.now) (length a.text.now) n c.page_text.ensures.result_value (ap answer_of e),
       c.well_formed,
-    )
+    ))
 
 pub returns : goal.returns
 returns c = let a = c.args in
-    let e = c.page_text-a.ensures in
-    let n = to_z-of_z w64 c.laid_number.result (record { sfits = c.laid_number.type_inv }) ∙ c.laid_number.ensures in
+    let e = c.page_text.ensures in
+    let n = to_z-of_z w64 c.signed_number.result (record { sfits = c.signed_number.type_inv }) ∙ c.signed_number.ensures ∙ signed_page c.page_text.result in
     let o = e.text_after ∙ ap (λ (v : Answer). text_after v (text a.sheet.now a.page) a.text.now) e.result_value in
     record { value = n ∙ ap signed e.result_value; text_after = o; work_after = e.work_after }

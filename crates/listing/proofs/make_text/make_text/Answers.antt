@@ -15,36 +15,36 @@ use Rattle.listing.proofs.Ends.{accepted_sized, accepted_filled, refused_sized, 
 use Rattle.listing.proofs.make_text.make_text.Goals as goal
 
 -- where Sampling succeeds, its answer, and the sheet's room
-accepts : (c : goal.In-Angles) →
+accepts : (c : goal.In-Ok) →
     let a = c.args in
-    answer a.request.now 4096 (length a.output.now) ≡ accepted c.in-Angles.n
-accepts c = sym c.sample-a.ensures.result_value ∙ ap answer_of c.in-Angles.is
+    answer a.request.now 4096 (length a.output.now) ≡ accepted c.in-Ok.n
+accepts c = sym c.sample-a.ensures.result_value ∙ ap answer_of c.in-Ok.is
 
-room : (c : goal.In-Angles) →
+room : (c : goal.In-Ok) →
     let a = c.args in
-    sheet_size newest c.in-Angles.n ≤ length a.output.now
+    sheet_size newest c.in-Ok.n ≤ length a.output.now
 room c = answer_room _ _ _ _ (accepts c)
 
-pub returns-in-Angles : goal.returns-in-Angles
-returns-in-Angles c = let a = c.args in
+pub returns-in-Ok : goal.returns-in-Ok
+returns-in-Ok c = let a = c.args in
     let z = accepted_sized a.request.now a.output.now a.error.now _ (accepts c) in
     let f = accepted_filled a.request.now a.output.now a.error.now _ (accepts c) in
     let s = c.sample-a.ensures.output_after in
     record {
       output_value = z.0;
       error_value = z.1;
-      output_after = rw c.in-Angles.is at s ∙ f.0;
+      output_after = rw c.in-Ok.is at s ∙ f.0;
       error_after = f.1;
       output_in_bounds = (room c, omega arith);
     }
 
-pub returns-in-Refused : goal.returns-in-Refused
-returns-in-Refused c = let a = c.args in
-    let v = c.in-Refused.is in
-    let q = c.refusal_number in
+pub returns-in-Err : goal.returns-in-Err
+returns-in-Err c = let a = c.args in
+    let v = c.in-Err.is in
+    let q = c.from in
     let p = c.put_number in
     let e : answer a.request.now 4096 (length a.output.now) ≡ refused q.result =
-    sym c.sample-a.ensures.result_value ∙ ap answer_of v ∙ ap refused (sym q.ensures) in
+    sym c.sample-a.ensures.result_value ∙ ap answer_of v ∙ ap refused (sym (q.ensures ∙ c.number.ensures)) in
     let z = refused_sized a.request.now a.output.now a.error.now q.result e in
     let f = refused_filled a.request.now a.output.now a.error.now q.result e in
     let t = sets_filled (numbered refused_word q.result) a.error.now (omega (arith, p.ensures.value, p.ensures.upper_bound)) in

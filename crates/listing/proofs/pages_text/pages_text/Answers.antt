@@ -13,14 +13,14 @@ returns-then-input-gt65536 c = let l = too_long_is c.args.input.now (omega arith
 
 pub print_pages-requires : goal.print_pages-requires
 print_pages-requires c = let s = c.args.input.now in
-    paged s places _ (sym c.check-checked.ensures.result_value ∙ ap answer_of c.in-Accepted.is)
+    paged s places _ (sym c.check-checked.ensures.result_value ∙ ap answer_of c.in-Ok.is)
 
-pub returns-in-Accepted : goal.returns-in-Accepted
-returns-in-Accepted c = let e = sym (ap answer_of c.in-Accepted.is) ∙ c.check-checked.ensures.result_value in
+pub returns-in-Ok : goal.returns-in-Ok
+returns-in-Ok c = let e = sym (ap answer_of c.in-Ok.is) ∙ c.check-checked.ensures.result_value in
     let s = shown_is c.args.input.now _ (omega arith) e in
     record { value = rw s c.print_pages.ensures.value; text_after = rw s c.print_pages.ensures.text_after }
 
-pub returns-in-Refused : goal.returns-in-Refused
-returns-in-Refused c = let e = sym (ap answer_of c.in-Refused.is) ∙ c.check-checked.ensures.result_value in
+pub returns-in-Err : goal.returns-in-Err
+returns-in-Err c = let e = sym (ap answer_of c.in-Err.is) ∙ c.check-checked.ensures.result_value in
     let s = refused_is c.args.input.now _ (omega arith) e in
     record { value = rw s c.print_refusal.ensures.value; text_after = rw s c.print_refusal.ensures.text_after }

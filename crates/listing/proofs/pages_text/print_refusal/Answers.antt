@@ -23,10 +23,10 @@ print-requires c = let p = c.put_number-size in
 
 pub returns : goal.returns
 returns c = let p = c.put_number-size in
-    let t = numbered refused_word c.fault_number.result in
+    let t = numbered refused_word c.from.result in
     let e : take p.result p.new.out ≡ head (refused (fault_number c.args.f)) =
     ap (λ (l : List ℕ). take p.result l) p.ensures.out_after ∙ front t (replicate 32 0) p.result p.ensures.value p.ensures.upper_bound
-    ∙ ap (numbered refused_word) c.fault_number.ensures in
+    ∙ ap (numbered refused_word) (c.from.ensures ∙ c.number.ensures) in
     let g = alone (take p.result p.new.out) [] ∙ e in
     let lent = c.args.text.now in
     record {

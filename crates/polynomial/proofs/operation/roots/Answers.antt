@@ -1,4 +1,5 @@
 -- `polynomial::operation::roots` meets its contract: what the tests say, then that the finder's list is the definition's and has room.
+use Rattle.std.specs.Prelude.{Result}
 use Prim.Native.Nat.{ℕ, ◌*◌, ◌/◌, ◌%◌, ◌^◌, ◌≤◌}
 use native.Mathlib.Nat.{le_trans}
 use native.Mathlib.Omega.{arith}
@@ -12,7 +13,7 @@ use borrow.Author.Tests.{not-true, not-false}
 use borrow.Author.Rules.{rules}
 use Rattle.float.specs.Promises.Order.{Span}
 use Rattle.polynomial.specs.declared.compensated.Compensated.{Compensated}
-use Rattle.polynomial.specs.declared.operation.Answer.{Answer}
+use Rattle.polynomial.specs.declared.refusals.Refusal.{Refusal}
 use Rattle.polynomial.specs.Operation.{pairs, bounds_hold, parts_hold, fitted, answer, filled}
 use Rattle.polynomial.specs.Laws.Bounds.{bounds_span}
 use Rattle.polynomial.specs.Laws.Degree.{roots_enough}
@@ -91,7 +92,7 @@ module _ (g : lts.Else4 tie.the-claims reads.Pre reads.Post tie.handed_clauses) 
   few = let z = roots_most (lower g) (upper g) n q few_coefficients in omega arith
 
   -- the three clauses of the result r, by the finder's list
-  module _ (r : Answer) (last : List Float) (arose : List ℕ) (e : r ≡ fitted (length listed) (room g) (bytes g))
+  module _ (r : Result ℕ Refusal) (last : List Float) (arose : List ℕ) (e : r ≡ fitted (length listed) (room g) (bytes g))
       (f : last ≡ filled r listed (start g).args.res.now) (h : arose ≡ filled r (kinds q (lower g) (upper g)) (start g).args.kinds.now) where
     said : (r ≡ answer (s g) (lower g) (upper g) (room g) (bytes g))
         × ((last ≡ filled r (Roots.roots (pairs (s g)) (lower g) (upper g)) (start g).args.res.now)

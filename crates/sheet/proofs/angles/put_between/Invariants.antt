@@ -1,4 +1,4 @@
-use Prim.Native.Nat.{◌+◌, ◌-◌, ◌*◌, ◌≤◌}
+use Prim.Native.Nat.{◌+◌, ◌*◌, ◌≤◌}
 use mathlib.Core.Path.{◌≡◌}
 use lib.ListN.{length, drop}
 use lib.Seq.{sets}
@@ -9,6 +9,3 @@ use Rattle.sheet.proofs.angles.put_between.Given as goal
 abbrev pub invariant-loop-i : goal.invariant-loop-i
 invariant-loop-i l = (l.i ≤ length l.list) × (length l.output ≡ length l.initial.output) ×
     (sets l.output (l.at + 24 * l.i) (floats_bytes (all_between (drop l.i l.list))) ≡ sets l.initial.output l.at (floats_bytes (all_between l.list)))
-
-abbrev pub decreases-loop-i : goal.decreases-loop-i
-decreases-loop-i l = length l.list - l.i

@@ -17,14 +17,6 @@ room : (n : Lists) (work : List Float) (output : List ℕ) → n.first + n.secon
     → 8 * (sample_count n.first + sample_count n.second + sample_count n.third) ≤ length output
 room n work output h k = omega (arith, all_samples_length n work h, k)
 
-pub overflow_add-both : goal.overflow_add-both
-overflow_add-both c = omega (
-  arith,
-  c.sample_count.ensures,
-  c.sample_count-first.ensures,
-  room c.args.n c.args.work.now c.args.output.now c.requires.third_in_bounds c.requires.work_in_bounds,
-)
-
 pub put_part-requires : goal.put_part-requires
 put_part-requires c = let n = c.args.n in
     let q : n.first - 0 ≡ n.first = omega arith in

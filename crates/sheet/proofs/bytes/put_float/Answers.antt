@@ -1,11 +1,7 @@
--- `sheet::bytes::put_float` meets its contract: at each return, what the calls and the tests on the way to it say.
-use Prim.Native.Nat.{ℕ}
-use mathlib.Core.Path.{ap, ◌∙◌}
-use lib.Seq.{sets}
-use Rattle.sheet.specs.Bytes.{bytes}
+-- `sheet::bytes::put_float` meets its contract: std's eight bytes of a number are those of `Bytes`.
+use Rattle.std.proofs.Common.{◌∙◌}
+use Rattle.sheet.specs.Laws.Bytes.{to_le}
 use Rattle.sheet.proofs.bytes.put_float.Goals as goal
 
 pub returns : goal.returns
-returns c = c.put.ensures ∙ ap
-    (λ (v : ℕ). sets c.args.out.now c.args.at
-    (bytes 8 v)) c.bits.ensures
+returns c = c.put.ensures ∙ rw (c.to_le_bytes.ensures ∙ to_le 8 c.bits.result, c.bits.ensures)

@@ -1,13 +1,9 @@
--- `sheet::bytes::same_float` meets its contract: at each return, what the calls and the tests on the way to it say.
-use mathlib.Core.Path.{◌∙◌}
-use lib.Ieee.{to_bits, binary64}
-use lib.ListN.{replicate}
-use Rattle.sheet.specs.Promises.Floats.{float_bytes}
-use Rattle.sheet.specs.Laws.Bytes.{length_bytes}
-use Rattle.sheet.proofs.bytes.Same.{over_same}
+-- `sheet::bytes::same_float` meets its contract: eight bytes are a number's exactly if their number is it.
+use Rattle.std.proofs.Common.{rules}
+use Rattle.sheet.proofs.bytes.Same.{same_number}
 use Rattle.sheet.proofs.bytes.same_float.Goals as goal
 
 pub returns : goal.returns
-returns c = c.same_at.ensures ∙ over_same c.args.s.now _ (replicate 8 0)
-    (float_bytes c.args.x) c.args.at
-    (length_bytes 8 (to_bits binary64 c.args.x)) c.put_float.ensures
+returns c =
+    rw (c.word.ensures, c.bits.ensures)
+    (same_number c.args.s.now c.args.at _ c.requires (λ i _. search rules) (rw (← c.bits.ensures) (search rules)))

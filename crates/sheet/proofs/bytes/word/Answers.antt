@@ -1,14 +1,7 @@
--- `sheet::bytes::word` meets its contract: at each return, what the calls and the tests on the way to it say.
-use native.Mathlib.Omega.{arith}
-use Rattle.sheet.specs.Laws.Bytes.{word_is}
+-- `sheet::bytes::word` meets its contract: std's number of eight bytes is that of `Bytes`.
+use Rattle.std.proofs.Common.{◌∙◌}
+use Rattle.sheet.proofs.bytes.Same.{number_part}
 use Rattle.sheet.proofs.bytes.word.Goals as goal
 
 pub returns : goal.returns
-returns c = omega (
-  arith,
-  c.of_halves.ensures,
-  c.half.ensures,
-  c.half-2.ensures,
-  word_is
-      c.args.s.now c.args.at c.requires,
-)
+returns c = c.from_le_bytes.ensures ∙ number_part 7 c.args.s.now c.args.at c.bytes_at.result c.requires c.bytes_at.ensures

@@ -1,6 +1,10 @@
 -- `sheet::check::inspect` meets its contract: at each return, what the calls and the tests on the way to it say.
-use mathlib.Core.Path.{sym, ◌∙◌}
+use native.Mathlib.Omega.{arith}
+use mathlib.Core.Path.{◌≡◌, sym, ◌∙◌}
+use Rattle.std.specs.Prelude.{Some, None}
+use Rattle.std.proofs.lemmas.Result.{err_from_is_err_and}
 use lib.ListN.{length}
+use Rattle.sheet.specs.declared.refusals.Fault.TheVariants.{Trailer}
 use Rattle.sheet.specs.Edition.{newest}
 use Rattle.sheet.specs.Laws.Check.{answer_short, answer_unknown, answer_known, left_short, left_unknown, left_known}
 use Rattle.sheet.proofs.check.inspect.Goals as goal
@@ -13,17 +17,21 @@ returns-then-sheet-lt-LEAST c =
       work_after = left_short a.sheet.now a.work.now c.if-sheet-lt-LEAST.true;
     }
 
-pub returns-in-Known : goal.returns-in-Known
-returns-in-Known c = let a = c.args in
-    let k = sym c.edition_of-said.ensures ∙ c.in-Known.is in
+pub returns-in_err-e : goal.returns-in_err-e
+returns-in_err-e c = let a = c.args in
+    let p = err_from_is_err_and c.from_residual.result c.from_residual.ensures.1 in
+    let n : c.edition_of.result ≡ None = grind arith in
+    let k = sym c.edition_of.ensures ∙ n in
+    let h = c.if-sheet-lt-LEAST.false in
+    let f : c.in_err-e.field-0.0 ≡ Trailer = grind arith in
+    rw (p.1, p.2, f) (record { result_value = answer_unknown newest a.sheet.now (length a.work.now) h k; work_after = left_unknown a.sheet.now a.work.now h k })
+
+pub returns : goal.returns
+returns c = let a = c.args in
+    let n : c.edition_of.result ≡ Some c.in_ok-e.e = grind arith in
+    let k = sym c.edition_of.ensures ∙ n in
     let h = c.if-sheet-lt-LEAST.false in
     record {
       result_value = c.inspect_edition.ensures.result_value ∙ answer_known newest a.sheet.now (length a.work.now) h _ k;
       work_after = c.inspect_edition.ensures.work_after ∙ left_known a.sheet.now a.work.now _ h k;
     }
-
-pub returns-in-Unknown : goal.returns-in-Unknown
-returns-in-Unknown c = let a = c.args in
-    let k = sym c.edition_of-said.ensures ∙ c.in-Unknown.is in
-    let h = c.if-sheet-lt-LEAST.false in
-    record { result_value = answer_unknown newest a.sheet.now (length a.work.now) h k; work_after = left_unknown a.sheet.now a.work.now h k }

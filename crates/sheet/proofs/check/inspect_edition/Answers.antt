@@ -4,7 +4,6 @@ use native.Mathlib.Omega.{arith}
 use mathlib.Core.List.{List}
 use mathlib.Core.Path.{sym, ap, refl, ◌∙◌}
 use lib.ListN.{length, take}
-use lib.Seq.{length-take-le}
 use borrow.Author.Tests.{not-true, not-false}
 use Rattle.sheet.specs.Check.{items_of, request_of}
 use Rattle.sheet.specs.Promises.Plan.{work_left, checked}
@@ -20,13 +19,6 @@ pub overflow_sub-at : goal.overflow_sub-at
 overflow_sub-at c = let a = c.args in
     let f = sym c.formed.ensures ∙ not-false _ c.if-not-formed.false-raw in
     omega (arith, formed_length a.e a.sheet.now f, c.frame_size.ensures.value)
-
-pub slice_bounds-check_request-end : goal.slice_bounds-check_request-end
-slice_bounds-check_request-end c = let s = c.args.sheet.now in
-    sym (length-take-le (length s - c.frame_size.result) s (omega arith))
-
-pub slice_bounds-check_request-count : goal.slice_bounds-check_request-count
-slice_bounds-check_request-count c = omega (arith, c.frame_size.ensures.value)
 
 pub returns : goal.returns
 returns c = let a = c.args in

@@ -7,21 +7,9 @@ use lib.Ieee.{Float}
 use borrow.Author.Tests.{not-true, not-false}
 use Rattle.sampling.specs.Promises.Plan.{to_come}
 use Rattle.sampling.specs.declared.stream.Cursor.{Cursor}
-use Rattle.sheet.specs.Bytes.{same_bytes}
 use Rattle.sheet.specs.Laws.Plan.{step_yields, step_done}
-use Rattle.sheet.specs.Promises.Floats.{floats_bytes}
 use Rattle.sheet.proofs.check.Floats.{float_short, float_step, float_stop, float_end}
 use Rattle.sheet.proofs.check.same_angles.Goals as goal
-
-pub start-c-requires : goal.start-c-requires
-start-c-requires c = tt
-
-pub loop-y-init : goal.loop-y-init
-loop-y-init c = let p = c.args in
-    (omega arith, ap (λ (z : Cursor). same_bytes p.s.now (floats_bytes (to_come p.plan p.work.now z))) c.start-c.ensures)
-
-pub next-t-requires : goal.next-t-requires
-next-t-requires c = c.requires
 
 pub returns-in-Done : goal.returns-in-Done
 returns-in-Done c = let l = c.loop-y in
@@ -29,18 +17,12 @@ returns-in-Done c = let l = c.loop-y in
     let e = step_done p.plan p.work.now l.c _ c.requires c.next-t.ensures c.in-Done.is in
     float_end p.s.now l.at (to_come p.plan p.work.now l.c) e l.invariant.0 ∙ l.invariant.1
 
-pub overflow_sub-s : goal.overflow_sub-s
-overflow_sub-s c = c.loop-y.invariant.0
-
 pub returns-then-s-at-lt8 : goal.returns-then-s-at-lt8
 returns-then-s-at-lt8 c = let p = c.args in
     let l = c.loop-y in
     let left : Cursor → List Float = to_come p.plan p.work.now in
     let came = step_yields c.args.plan c.args.work.now c.loop-y.c _ c.requires c.next-t.ensures _ _ c.in-Yield.is in
     float_short p.s.now l.at c.in-Yield.y (left l.c) (left c.in-Yield.d) came l.invariant.0 c.if-s-at-lt8.true ∙ l.invariant.1
-
-pub same_float-requires : goal.same_float-requires
-same_float-requires c = omega (arith, c.if-s-at-lt8.false, c.loop-y.invariant.0)
 
 pub returns-then-not-same_float : goal.returns-then-not-same_float
 returns-then-not-same_float c = let p = c.args in
@@ -50,9 +32,6 @@ returns-then-not-same_float c = let p = c.args in
     float_stop p.s.now l.at c.in-Yield.y (left l.c) (left c.in-Yield.d) came (omega (arith, c.if-s-at-lt8.false, l.invariant.0))
     (sym c.same_float.ensures ∙ not-true _ c.if-not-same_float.true-raw)
     ∙ l.invariant.1
-
-pub overflow_add-at : goal.overflow_add-at
-overflow_add-at c = omega (arith, c.if-s-at-lt8.false, c.loop-y.invariant.0, c.well_formed)
 
 pub loop-y-smaller : goal.loop-y-smaller
 loop-y-smaller c = let k = ap length (step_yields c.args.plan c.args.work.now c.loop-y.c _ c.requires c.next-t.ensures _ _ c.in-Yield.is) in

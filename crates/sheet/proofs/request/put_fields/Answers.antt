@@ -1,55 +1,33 @@
 -- `sheet::request::put_fields` meets its contract. The invariant: what is still to be stored, stored now, gives what is asked.
-use Prim.Native.Nat.{ℕ, ◌≤◌, ◌+◌}
-use native.Mathlib.Omega.{arith}
-use mathlib.Core.Path.{◌≡◌, refl, ap, ◌∙◌}
-use mathlib.Core.List.{List}
-use mathlib.Core.Bool.{Bool, cond}
-use lib.ListN.{length, drop}
-use lib.Seq.{sets, length-sets}
+use Rattle.std.proofs.Common.{ℕ, ◌+◌, ◌*◌, ◌%◌, ◌≤◌, ◌≡◌, arith, refl, ap, ◌∙◌, sym, List, cond, length, drop}
+use Rattle.std.proofs.lemmas.List.Edits.{sets}
 use Rattle.sheet.specs.Bytes.{bytes, part}
-use Rattle.sheet.specs.Laws.Bytes.{bytes_part}
-use Rattle.sheet.specs.Request.{blank_from}
+use Rattle.sheet.specs.Request.{blank_from, byte_read}
 use Rattle.sheet.proofs.request.Steps.{field_step, put_end}
 use Rattle.sheet.proofs.request.put_fields.Goals as goal
+use Rattle.sheet.proofs.request.put_fields.Goals.{then-byte_read, else-byte_read}
 
-pub loop-i-init : goal.loop-i-init
-loop-i-init c = (omega arith, omega arith, refl, refl, refl)
-
-pub word-requires : goal.word-requires
-word-requires c = omega arith
-
-pub kept_word-w-requires : goal.kept_word-w-requires
-kept_word-w-requires c = omega arith
-
-pub overflow_add-at : goal.overflow_add-at
-overflow_add-at c = omega arith
-
-pub put-requires : goal.put-requires
-put-requires c = omega arith
-
-pub overflow_add-i : goal.overflow_add-i
-overflow_add-i c = omega arith
-
-pub loop-i-smaller : goal.loop-i-smaller
-loop-i-smaller c = omega arith
-
-pub loop-i-preserved : goal.loop-i-preserved
-loop-i-preserved c = let a = c.args in
+pub loop-k-preserved : goal.loop-k-preserved
+unfolding bytes
+loop-k-preserved c = let a = c.args in
     let r = a.request.now in
-    let i = c.loop-i.i in
-    let room : i + 8 ≤ length r = omega arith in
-    let has : bytes 8 c.word.result ≡ part i 8 r =
-    ap (bytes 8) c.word.ensures ∙ bytes_part r i 8 room (λ j l. omega (arith, c.shared_slice_known-1.given j)) in (
+    let k = c.loop-k.k in
+    let room : 8 * k + 8 ≤ length r = omega arith in
+    let whole : 8 * k % 8 ≡ 0 = omega arith in
+    let n : 8 * (k + 1) ≡ 8 * k + 8 = omega arith in
+    let v : c.if-byte_read.field ≡ cond (byte_read a.s (8 * k)) (part (8 * k) 8 r) (bytes 8 0) =
+    elim c.if-byte_read.branch [
+      | then-byte_read w ↦ rw (w.field-is, sym c.byte_read.ensures ∙ w.if-byte_read.true) w.bytes_at-field.ensures
+      | else-byte_read w ↦ rw (w.field-is, sym c.byte_read.ensures ∙ w.if-byte_read.false)
+    ] in (
       omega arith,
       omega arith,
-      omega arith,
-      ap length c.put.ensures ∙ length-sets c.loop-i.out (a.at + i) (bytes 8 c.kept_word-w.result) ∙ c.loop-i.invariant.3,
-      ap (λ (o : List ℕ). sets o (a.at + (i + 8)) (blank_from a.s (i + 8) (drop (i + 8) r))) c.put.ensures
-          ∙ field_step a.s r i c.word.result c.loop-i.invariant.0 c.loop-i.invariant.2 room has c.loop-i.out a.at c.kept_word-w.result
-          (c.kept_word-w.ensures ∙ ap (λ (t : Bool). cond t c.word.result 0) c.byte_read.ensures)
-          ∙ c.loop-i.invariant.4,
+      c.put.auto.out ∙ c.loop-k.invariant.2,
+      ap (λ (o : List ℕ). sets o (a.at + 8 * (k + 1)) (blank_from a.s (8 * (k + 1)) (drop (8 * (k + 1)) r))) c.put.ensures
+          ∙ field_step a.s r (8 * k) (omega arith) whole room c.loop-k.out a.at c.if-byte_read.field (byte_read a.s (8 * k)) refl v (8 * (k + 1)) n
+          ∙ c.loop-k.invariant.3,
     )
 
 pub returns : goal.returns
 returns c = let a = c.args in
-    put_end c.loop-i.out a.request.now a.at c.loop-i.i a.s (omega arith) ∙ c.loop-i.invariant.4
+    put_end c.loop-k.out a.request.now a.at (8 * c.loop-k.k) a.s (omega arith) ∙ c.loop-k.invariant.3

@@ -1,4 +1,4 @@
-use Prim.Native.Nat.{◌≤◌, ◌-◌}
+use Prim.Native.Nat.{◌≤◌}
 use mathlib.Core.Path.{◌≡◌}
 use lib.ListN.{length, drop}
 use Rattle.sheet.specs.Bytes.{same_bytes}
@@ -7,8 +7,5 @@ use Rattle.sheet.proofs.request.unread_zero.Given as goal
 
 abbrev pub invariant-loop-i : goal.invariant-loop-i
 invariant-loop-i l =
-    (l.i ≤ length l.request)
-    × (same_bytes (blank_from l.s l.i (drop l.i l.request)) (drop l.i l.request) ≡ same_bytes (blank_from l.s 0 l.request) l.request)
-
-abbrev pub decreases-loop-i : goal.decreases-loop-i
-decreases-loop-i l = length l.request - l.i
+    (l.i ≤ length l.view.request.now)
+    × (same_bytes (blank_from l.s l.i (drop l.i l.view.request.now)) (drop l.i l.view.request.now) ≡ same_bytes (blank_from l.s 0 l.view.request.now) l.view.request.now)

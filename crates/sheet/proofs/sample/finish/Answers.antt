@@ -15,31 +15,22 @@ unfolding planned_answer need
 returns-then-is_short c =
     let a = c.args in
     record {
-      result_value = rw (fits_no a.request.now a.plan a.work.now c.requires.planned_for (sym c.is_short.ensures ∙ c.if-is_short.true));
+      result_value = rw (fits_no a.view.request.now a.plan a.work.now c.requires.planned_for (sym c.is_short.ensures ∙ c.if-is_short.true));
       output_after = refl;
     }
-
-pub count-n-requires : goal.count-n-requires
-count-n-requires c = c.requires.planned_for.ready
-
-pub fill-requires-clause-n_value : goal.fill-requires-clause-n_value
-fill-requires-clause-n_value c = c.count-n.ensures
-
-pub fill-requires-clause-n_in_bounds : goal.fill-requires-clause-n_in_bounds
-fill-requires-clause-n_in_bounds c = leb-true _ _ (sym c.has_room.ensures ∙ c.if-has_room.true)
 
 pub returns-then-has_room : goal.returns-then-has_room
 unfolding planned_answer need
 returns-then-has_room c = let a = c.args in
     let f = sym c.is_short.ensures
     ∙ c.if-is_short.false in
-    let k = fits_yes a.request.now a.plan a.work.now c.requires.planned_for f in
-    let t = found_angles a.request.now a.plan a.work.now c.requires.planned_for f in
+    let k = fits_yes a.view.request.now a.plan a.work.now c.requires.planned_for f in
+    let t = found_angles a.view.request.now a.plan a.work.now c.requires.planned_for f in
     let n = c.count-n.ensures in
     let r = sym c.has_room.ensures ∙ c.if-has_room.true in
-    let q = n ∙ found_count a.request.now a.plan a.work.now c.requires.planned_for f in record {
+    let q = n ∙ found_count a.view.request.now a.plan a.work.now c.requires.planned_for f in record {
       result_value = rw (k, ← q, r);
-      output_after = c.fill.ensures ∙ sheet_stands newest a.request.now a.output.now (to_come a.plan a.work.now start) _ c.requires.request_len n t
+      output_after = c.fill.ensures ∙ sheet_stands newest a.view.request.now a.output.now (to_come a.plan a.work.now start) _ c.requires.request_len n t
           (leb-true _ _ r);
     }
 
@@ -47,6 +38,6 @@ pub returns : goal.returns
 unfolding planned_answer need
 returns c = let a = c.args in
     let f = sym c.is_short.ensures ∙ c.if-is_short.false in
-    let k = fits_yes a.request.now a.plan a.work.now c.requires.planned_for f in
-    let q = c.count-n.ensures ∙ found_count a.request.now a.plan a.work.now c.requires.planned_for f in
+    let k = fits_yes a.view.request.now a.plan a.work.now c.requires.planned_for f in
+    let q = c.count-n.ensures ∙ found_count a.view.request.now a.plan a.work.now c.requires.planned_for f in
     let r = sym c.has_room.ensures ∙ c.if-has_room.false in record { result_value = rw (k, ← q, r); output_after = refl }

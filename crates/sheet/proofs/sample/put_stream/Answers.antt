@@ -2,31 +2,15 @@
 -- come.
 use Prim.Native.Nat.{ℕ, ◌+◌}
 use native.Mathlib.Omega.{arith}
-use mathlib.Core.Path.{refl, ap, ◌∙◌}
+use mathlib.Core.Path.{ap, ◌∙◌}
 use mathlib.Core.List.{List}
 use lib.ListN.{length}
 use lib.Seq.{sets}
 use Rattle.sampling.specs.Promises.Plan.{to_come}
-use Rattle.sampling.specs.declared.stream.Cursor.{Cursor}
 use Rattle.sheet.specs.Laws.Plan.{step_yields, step_done}
 use Rattle.sheet.specs.Promises.Floats.{floats_bytes}
 use Rattle.sheet.specs.Laws.Sampling.{floats_step, floats_end}
 use Rattle.sheet.proofs.sample.put_stream.Goals as goal
-
-pub start-c-requires : goal.start-c-requires
-start-c-requires c = tt
-
-pub loop-y-init : goal.loop-y-init
-loop-y-init c = let p = c.args in
-    let e = c.start-c.ensures in (
-      refl,
-      omega (arith, ap (λ (z : Cursor). length (to_come p.plan p.work.now z)) e, c.requires.start_in_bounds),
-      ap
-          (λ (z : Cursor). sets p.output.now 0 (floats_bytes (to_come p.plan p.work.now z))) e,
-    )
-
-pub next-s-requires : goal.next-s-requires
-next-s-requires c = c.requires.ready
 
 pub returns-in-Done : goal.returns-in-Done
 returns-in-Done c = let l = c.loop-y in
@@ -38,11 +22,6 @@ pub put_float-requires : goal.put_float-requires
 put_float-requires c = let k = ap length (step_yields c.args.plan c.args.work.now c.loop-y.c _ c.requires.ready c.next-s.ensures _ _ c.in-Yield.is) in
     let i = c.loop-y.invariant.1 in
     omega arith
-
-pub overflow_add-at : goal.overflow_add-at
-overflow_add-at c = let k = ap length (step_yields c.args.plan c.args.work.now c.loop-y.c _ c.requires.ready c.next-s.ensures _ _ c.in-Yield.is) in
-    let i = c.loop-y.invariant.1 in
-    omega (arith, c.loop-y.invariant.0, c.well_formed)
 
 pub loop-y-smaller : goal.loop-y-smaller
 loop-y-smaller c = let k = ap length (step_yields c.args.plan c.args.work.now c.loop-y.c _ c.requires.ready c.next-s.ensures _ _ c.in-Yield.is) in

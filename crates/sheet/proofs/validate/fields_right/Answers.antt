@@ -1,45 +1,32 @@
 -- `sheet::validate::fields_right` meets its contract. The invariant: the tests that are left decide.
-use Prim.Native.Nat.{◌+◌, ◌-◌}
+use Rattle.std.specs.Prelude.{Option}
+use Prim.Native.Nat.{◌-◌}
 use native.Mathlib.Omega.{arith}
-use mathlib.Core.Path.{◌≡◌, sym, ap, ◌∙◌}
+use mathlib.Core.Path.{sym, ap, ◌∙◌}
 use borrow.Author.Tests.{not-true, not-false}
 use Rattle.sheet.specs.declared.request.Shape.{Shape}
 use Rattle.sheet.specs.Validate.{all_from, field_right}
 use Rattle.sheet.proofs.validate.Steps.{all_step, all_stop, all_end}
 use Rattle.sheet.proofs.validate.fields_right.Goals as goal
 
-pub loop-j-init : goal.loop-j-init
-loop-j-init c = let a = c.args in
-    let e : a.n + 1 - 1 ≡ a.n = omega arith in
-    (omega arith, omega arith, rw e)
-
-pub field_right-requires : goal.field_right-requires
-field_right-requires c = omega arith
-
 pub returns-then-not-field_right : goal.returns-then-not-field_right
 returns-then-not-field_right c = let a = c.args in
-    let s = c.shape_of-s.result in
-    all_stop (field_right s a.f a.request.now) (a.n - c.loop-j.j) _ _ (omega arith)
+    let s = c.shape-s.result in
+    all_stop (field_right s a.f a.view.request.now) (a.n - c.loop-j.j) _ _ (omega arith)
     (sym c.field_right.ensures ∙ not-true _ c.if-not-field_right.true-raw) ∙ c.loop-j.invariant.2
-    ∙ ap (λ (h : Shape). all_from a.n 1 (field_right h a.f a.request.now)) c.shape_of-s.ensures
-
-pub overflow_add-j : goal.overflow_add-j
-overflow_add-j c = omega arith
-
-pub loop-j-smaller : goal.loop-j-smaller
-loop-j-smaller c = omega arith
+    ∙ ap (λ (h : Option Shape). all_from a.n 1 (field_right h a.f a.view.request.now)) c.shape-s.ensures
 
 pub loop-j-preserved : goal.loop-j-preserved
 loop-j-preserved c = let a = c.args in
-    let s = c.shape_of-s.result in (
+    let s = c.shape-s.result in (
       omega arith,
       omega arith,
-      all_step (field_right s a.f a.request.now) _ _ _ _ (omega arith) (omega arith)
+      all_step (field_right s a.f a.view.request.now) _ _ _ _ (omega arith) (omega arith)
           (sym c.field_right.ensures ∙ not-false _ c.if-not-field_right.false-raw) ∙ c.loop-j.invariant.2,
     )
 
 pub returns : goal.returns
 returns c = let a = c.args in
-    let s = c.shape_of-s.result in
-    all_end (field_right s a.f a.request.now) _ _ (omega arith) ∙ c.loop-j.invariant.2
-    ∙ ap (λ (h : Shape). all_from a.n 1 (field_right h a.f a.request.now)) c.shape_of-s.ensures
+    let s = c.shape-s.result in
+    all_end (field_right s a.f a.view.request.now) _ _ (omega arith) ∙ c.loop-j.invariant.2
+    ∙ ap (λ (h : Option Shape). all_from a.n 1 (field_right h a.f a.view.request.now)) c.shape-s.ensures

@@ -6,7 +6,4 @@ use Rattle.sheet.proofs.validate.fields_right.Given as goal
 abbrev pub invariant-loop-j : goal.invariant-loop-j
 invariant-loop-j l =
     (1 ≤ l.j) × (l.j ≤ l.n + 1)
-    × (all_from (l.n + 1 - l.j) l.j (field_right l.s l.f l.request) ≡ all_from l.n 1 (field_right l.s l.f l.request))
-
-abbrev pub decreases-loop-j : goal.decreases-loop-j
-decreases-loop-j l = l.n + 1 - l.j
+    × (all_from (l.n + 1 - l.j) l.j (field_right l.s l.f l.view.request.now) ≡ all_from l.n 1 (field_right l.s l.f l.view.request.now))
