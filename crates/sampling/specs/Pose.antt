@@ -1,5 +1,5 @@
 -- The pose: `try_normalize_dquat` of the Rust, and the rotation matrix, dot product and length by 01's formulas (module 4). Definitions only.
-use Rattle.std.specs.Prelude.{Bool, not, ◌&&◌, ◌||◌, cond, Float}
+use Rattle.std.specs.Prelude.{Result, Ok, Err, Bool, not, ◌&&◌, ◌||◌, cond, Float}
 use Rattle.std.specs.Float.{binary64}
 use Rattle.std.specs.Float.Ieee.{le, neg}
 use Rattle.std.specs.Float.Ieee.Scale.{finite}
@@ -8,8 +8,8 @@ use Rattle.float.specs.Sqrt.{sqrt}
 use Rattle.sampling.specs.declared.pose.Quaternion.{Quaternion}
 use Rattle.sampling.specs.declared.pose.Vector.{Vector}
 use Rattle.sampling.specs.declared.pose.Matrix.{Matrix}
-use Rattle.sampling.specs.declared.pose.Normalized.{Normalized}
-use Rattle.sampling.specs.declared.pose.Normalized.TheVariants.{Unit, NotFinite, Zero}
+use Rattle.sampling.specs.declared.pose.Degenerate.{Degenerate}
+use Rattle.sampling.specs.declared.pose.Degenerate.TheVariants.{NotFinite, Zero}
 
 -- the length that refusals 4 and 5 ask about
 unfoldable pub quaternion_length : Quaternion → Float
@@ -21,12 +21,16 @@ all_finite q = finite q.x && finite q.y && finite q.z && finite q.w
 abbrev pub over : Quaternion → Float → Quaternion
 over q l = record { x = q.x ⊘ l; y = q.y ⊘ l; z = q.z ⊘ l; w = q.w ⊘ l }
 
+-- a quaternion of length 1, or why there is none
+abbrev pub Normalized : Type 0
+Normalized = Result Quaternion Degenerate
+
 -- finite parts may have a length that overflows, or one of zero
 unfoldable pub try_normalize : Quaternion → Normalized
 try_normalize q =
-    cond (not (all_finite q) || not (finite (quaternion_length q))) NotFinite
-    (cond (le (quaternion_length q) zero_float) Zero
-    (Unit (over q (quaternion_length q))))
+    cond (not (all_finite q) || not (finite (quaternion_length q))) (Err NotFinite)
+    (cond (le (quaternion_length q) zero_float) (Err Zero)
+    (Ok (over q (quaternion_length q))))
 
 -- `DMat3::from_quat`, of the normalized parts, with X = x + x and so on: columns (1 − (yY + zZ), xY + wZ,
 -- xZ − wY), (xY − wZ, 1 − (xX + zZ), yZ + wX), (xZ + wY, yZ − wX, 1 − (xX + yY))

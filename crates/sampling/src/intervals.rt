@@ -10,7 +10,8 @@ use polynomial::angle::wrapped_angle;
 // A limit interval: none, or a pair of angles.
 pub type Range = Option<(f64, f64)>;
 
-// Allowed displacements: the range shifted by a turn down, as it is, and by a turn up.
+// Allowed displacements: the range shifted by a turn down, as it is, and by a turn up. Fields and no
+// array, since the definitions name each of the three.
 #[derive(Clone, Copy)]
 pub struct Intervals {
     pub first: Range,

@@ -22,9 +22,9 @@ fn next_sample(work: &[f64], n: Lists, c: Cursor) -> Step
         let y = angle_at(work, n, i);
         let mut to = c;
         to.i = i + 1;
-        return Step::Yield(y, to);
+        return Some((y, to));
     }
-    Step::Done
+    None
 }
 
 fn next_slice(work: &[f64], h: Halves, c: Cursor) -> Step
@@ -59,7 +59,7 @@ pub fn next(work: &[f64], plan: Plan, c: Cursor) -> Step
     ensures { result ≡ Of.step plan work.now c }
 {
     match plan {
-        Plan::Short => Step::Done,
+        Plan::Short => None,
         Plan::Lists(n) => next_sample(work, n, c),
         Plan::Halves(h) => next_slice(work, h, c),
     }
@@ -77,7 +77,8 @@ pub fn count(work: &[f64], plan: Plan) -> usize
     }
 }
 
-// What counts of a job whose joint 1 is free.
+// What counts of a job whose joint 1 is free. The next function differs in the formula of the columns,
+// and a parameter for that would say no less.
 #[tactic(auto, unfolding(crate::specs::Angles::first_free))]
 fn first_free(job: Job) -> Free
     ensures { result ≡ first_free job }

@@ -98,9 +98,9 @@ pub struct Matrix {
     pub z: Vector,
 }
 
+// Why a quaternion has no direction: a part or the length is not finite, or the length is zero.
 #[derive(Clone, Copy)]
-pub enum Normalized {
-    Unit(Quaternion),
+pub enum Degenerate {
     NotFinite,
     Zero,
 }
@@ -120,17 +120,17 @@ fn quaternion_length(q: Quaternion) -> f64
 
 // q over its length, unless a part or the length is not finite, or the length is zero.
 #[tactic(auto, unfolding(crate::specs::Pose::try_normalize, crate::proofs::Literals::of_bits))]
-pub fn try_normalize(q: Quaternion) -> Normalized
+pub fn try_normalize(q: Quaternion) -> Result<Quaternion, Degenerate>
     ensures { result ≡ Pose.try_normalize q }
 {
     let l = quaternion_length(q);
     if !all_finite(q) | !is_finite(l) {
-        return Normalized::NotFinite;
+        return Err(Degenerate::NotFinite);
     }
     if l <= 0.0 {
-        return Normalized::Zero;
+        return Err(Degenerate::Zero);
     }
-    Normalized::Unit(Quaternion {
+    Ok(Quaternion {
         x: q.x / l,
         y: q.y / l,
         z: q.z / l,

@@ -9,7 +9,8 @@ ghost use Rattle.sampling.specs.Promises.Stream as Of;
 
 use float::number::{middle, total_le};
 
-// None left: a NaN, which comes last and equals no value.
+// None left: a NaN, which comes last and equals no value. An Option would need an order of its own, in
+// which None is last, for the least of three.
 #[tactic(auto, unfolding(crate::proofs::Literals::div, crate::proofs::Literals::of_bits))]
 fn none_left() -> f64
     ensures { result ≡ nan }
@@ -46,11 +47,8 @@ pub struct Cursor {
     pub last: f64,
 }
 
-#[derive(Clone, Copy)]
-pub enum Step {
-    Yield(f64, Cursor),
-    Done,
-}
+// A value and the cursor behind it, or the end.
+pub type Step = Option<(f64, Cursor)>;
 
 pub(crate) fn start() -> Cursor
     ensures { result ≡ Of.start }
@@ -77,24 +75,24 @@ fn advance(a: &[f64], b: &[f64], r: f64, c: Cursor) -> Step
     if total_le(x, y) {
         if total_le(x, z) {
             if x != x {
-                return Step::Done;
+                return None;
             }
             to.i = i + 1;
-            return Step::Yield(x, to);
+            return Some((x, to));
         }
     }
     if total_le(y, z) {
         if y != y {
-            return Step::Done;
+            return None;
         }
         to.j = j + 1;
-        return Step::Yield(y, to);
+        return Some((y, to));
     }
     if z != z {
-        return Step::Done;
+        return None;
     }
     to.used = true;
-    Step::Yield(z, to)
+    Some((z, to))
 }
 
 // The next value that does not equal the last one.
@@ -106,14 +104,14 @@ pub(crate) fn next(a: &[f64], b: &[f64], r: f64, c: Cursor) -> Step
     loop {
         let s = advance(a, b, r, at);
         match s {
-            Step::Done => {
-                return Step::Done;
+            None => {
+                return None;
             }
-            Step::Yield(y, d) => {
+            Some((y, d)) => {
                 if y != last {
                     let mut to = d;
                     to.last = y;
-                    return Step::Yield(y, to);
+                    return Some((y, to));
                 }
                 at = d;
             }
@@ -133,10 +131,10 @@ pub(crate) fn count(a: &[f64], b: &[f64], r: f64) -> usize
     loop {
         let s = next(a, b, r, c);
         match s {
-            Step::Done => {
+            None => {
                 return n;
             }
-            Step::Yield(y, d) => {
+            Some((y, d)) => {
                 c = d;
                 n += 1;
             }

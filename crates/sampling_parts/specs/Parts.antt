@@ -1,19 +1,18 @@
 -- The numbers of module 4's answers, each by its place: a float by its bits. Definitions only.
-use Rattle.std.specs.Prelude.{None, Some, ℕ, ◌-◌, Bool, true, false, cond, eqb, ltb, Float}
+use Rattle.std.specs.Prelude.{Ok, Err, None, Some, ℕ, ◌-◌, Bool, true, false, cond, eqb, ltb, Float}
 use Rattle.std.specs.Float.{binary64}
 use Rattle.std.specs.Float.Ieee.{to_bits, of_bits}
 use Rattle.sampling.specs.Constraints.{compute_center}
 use Rattle.sampling.specs.Intervals.{Range, wrist_limit_intervals}
 use Rattle.sampling.specs.Limits as Limits
-use Rattle.sampling.specs.Pose.{try_normalize, from_quat}
+use Rattle.sampling.specs.Pose.{Normalized, try_normalize, from_quat}
 use Rattle.sampling.specs.declared.constraints.Center.{Center}
 use Rattle.sampling.specs.declared.intervals.Intervals.{Intervals}
 use Rattle.sampling.specs.declared.job.Joint.{Joint}
 use Rattle.sampling.specs.declared.pose.Quaternion.{Quaternion}
 use Rattle.sampling.specs.declared.pose.Vector.{Vector}
 use Rattle.sampling.specs.declared.pose.Matrix.{Matrix}
-use Rattle.sampling.specs.declared.pose.Normalized.{Normalized}
-use Rattle.sampling.specs.declared.pose.Normalized.TheVariants.{Unit, NotFinite, Zero}
+use Rattle.sampling.specs.declared.pose.Degenerate.TheVariants.{NotFinite, Zero}
 
 -- whether a number is not 0
 unfoldable pub yes : ℕ → Bool
@@ -59,9 +58,9 @@ unfoldable pub of_zero : ℕ → ℕ
 of_zero part = cond (eqb part 0) 1 0
 
 unfoldable pub of_pose : Normalized → ℕ → ℕ
-of_pose NotFinite part = 0
-of_pose Zero part = of_zero part
-of_pose (Unit q) part = of_unit q part
+of_pose (Err NotFinite) part = 0
+of_pose (Err Zero) part = of_zero part
+of_pose (Ok q) part = of_unit q part
 
 -- what the floats of these bits make
 abbrev pub joint : ℕ → ℕ → ℕ → ℕ → ℕ → Joint

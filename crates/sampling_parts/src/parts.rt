@@ -5,7 +5,7 @@ ghost use Rattle.sampling_parts.specs.Parts as Parts;
 use float::number::bits;
 use sampling::constraints::Center;
 use sampling::intervals::{Intervals, Range};
-use sampling::pose::{Matrix, Normalized, Quaternion, Vector, from_quat};
+use sampling::pose::{Degenerate, Matrix, Quaternion, Vector, from_quat};
 
 // Whether a number is not 0.
 #[tactic(auto, unfolding(crate::specs::Parts::yes))]
@@ -121,12 +121,12 @@ fn of_zero(part: u64) -> u64
 
 // Part 0 is 0 where a part or the length is not finite, 1 where the length is zero, else 2.
 #[tactic(auto, unfolding(crate::specs::Parts::of_pose))]
-pub fn of_pose(n: Normalized, part: u64) -> u64
+pub fn of_pose(n: Result<Quaternion, Degenerate>, part: u64) -> u64
     ensures { result ≡ Parts.of_pose n part }
 {
     match n {
-        Normalized::NotFinite => 0,
-        Normalized::Zero => of_zero(part),
-        Normalized::Unit(q) => of_unit(q, part),
+        Err(Degenerate::NotFinite) => 0,
+        Err(Degenerate::Zero) => of_zero(part),
+        Ok(q) => of_unit(q, part),
     }
 }

@@ -1,7 +1,7 @@
 -- For every request that meets none of refusals 1 to 8 and 41, every inner call of the root finder is fair: bounds, coefficients and list are as 02's change 5
 -- says. So refusal 9 never came, and every answer is what it was with it. Of refusals 2 to 8 the arm angles (6) and the offsets (8) are used; a sign byte is
 -- 1 or -1 whatever it is, the matrix lies within 17 in all cases, and a reference need only be a float.
-use Rattle.std.specs.Prelude.{ℕ, ◌≤◌, ◌≡◌, refl, Bool, true, false, cond, List, T, Option, Some, None}
+use Rattle.std.specs.Prelude.{Ok, Err, ℕ, ◌≤◌, ◌≡◌, refl, Bool, true, false, cond, List, T, Option, Some, None}
 use Rattle.std.proofs.Common.{arith, sym, subst, eqb-true}
 use Rattle.std.proofs.lemmas.Bool.{false≢true}
 use Rattle.std.specs.Float.Ieee.{binary64}
@@ -15,7 +15,7 @@ use Rattle.polynomial.specs.Angle.{two_pi}
 use Rattle.polynomial.specs.InnerCalls.{Fair, all_taken}
 use Rattle.polynomial.specs.Promises.Lists.{All}
 use Rattle.polynomial.specs.Laws.InnerCalls.{all_fair_taken}
-use Rattle.sampling.specs.Pose.{try_normalize, vector}
+use Rattle.sampling.specs.Pose.{Normalized, try_normalize, vector}
 use Rattle.sampling.specs.Reads.{joint_read, arm_read}
 use Rattle.sampling.specs.InnerCalls.{free_calls, inner_calls}
 use Rattle.sampling.specs.SampleAngles.{free}
@@ -26,8 +26,7 @@ use Rattle.sampling.proofs.Laws.Pose.{seventeen, Quaternion-fits, Vector-within,
 use Rattle.sampling.specs.declared.job.Kind.{Kind}
 use Rattle.sampling.specs.declared.job.Kind.TheVariants.{J1free, J2free, J1j2free}
 use Rattle.sampling.specs.declared.pose.Quaternion.{Quaternion}
-use Rattle.sampling.specs.declared.pose.Normalized.{Normalized}
-use Rattle.sampling.specs.declared.pose.Normalized.TheVariants.{Unit, NotFinite, Zero}
+use Rattle.sampling.specs.declared.pose.Degenerate.TheVariants.{NotFinite, Zero}
 use Rattle.sheet.specs.declared.edition.Edition.{Edition}
 use Rattle.sheet.specs.declared.request.Shape.{Shape}
 use Rattle.sheet.specs.declared.request.Field.TheVariants.{Arm, Offset}
@@ -61,9 +60,9 @@ unfolding matrix matrix_by
 matrix_within q f = go (try_normalize q) refl
   where
     go : (n : Normalized) → try_normalize q ≡ n → Matrix-within seventeen (matrix_by n)
-    go (Unit u) e = from_quat_within u (normalize_within q u f e)
-    go NotFinite e = zero_within
-    go Zero e = zero_within
+    go (Ok u) e = from_quat_within u (normalize_within q u f e)
+    go (Err NotFinite) e = zero_within
+    go (Err Zero) e = zero_within
 
 rotation_fits : (r : List ℕ) → Quaternion-fits (rotation_of r)
 unfolding rotation_of

@@ -1,12 +1,11 @@
 -- The job that a request's fields say, every field as given, none blanked. Definitions only.
-use Rattle.std.specs.Prelude.{ℕ, ◌+◌, List, Bool, false, cond, get_or, eqb, Float, Option, Some, None}
+use Rattle.std.specs.Prelude.{Ok, Err, ℕ, ◌+◌, List, Bool, false, cond, get_or, eqb, Float, Option, Some, None}
 use Rattle.std.specs.Float.Ieee.{neg}
 use Rattle.float.specs.Number.{zero_float, one_float}
-use Rattle.sampling.specs.Pose.{try_normalize, from_quat, vector}
+use Rattle.sampling.specs.Pose.{Normalized, try_normalize, from_quat, vector}
 use Rattle.sampling.specs.declared.pose.Quaternion.{Quaternion}
 use Rattle.sampling.specs.declared.pose.Matrix.{Matrix}
-use Rattle.sampling.specs.declared.pose.Normalized.{Normalized}
-use Rattle.sampling.specs.declared.pose.Normalized.TheVariants.{Unit, NotFinite, Zero}
+use Rattle.sampling.specs.declared.pose.Degenerate.TheVariants.{NotFinite, Zero}
 use Rattle.sampling.specs.declared.job.Kind.{Kind}
 use Rattle.sampling.specs.declared.job.Kind.TheVariants.{J1free}
 use Rattle.sampling.specs.declared.job.Joint.{Joint}
@@ -58,9 +57,9 @@ zero_matrix =
 
 -- the matrix of a normalized quaternion; zero in the cases that refusals 4 and 5 take
 unfoldable pub matrix_by : Normalized → Matrix
-matrix_by (Unit q) = from_quat q
-matrix_by NotFinite = zero_matrix
-matrix_by Zero = zero_matrix
+matrix_by (Ok q) = from_quat q
+matrix_by (Err NotFinite) = zero_matrix
+matrix_by (Err Zero) = zero_matrix
 
 unfoldable pub matrix : Quaternion → Matrix
 matrix q = matrix_by (try_normalize q)

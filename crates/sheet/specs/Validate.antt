@@ -1,13 +1,12 @@
 -- The tests that a request must pass: refusals 1 to 8 (01, Sampling) and 41 (02, change 2). An unread field passes every test, and NaN is within no range.
 -- Definitions only.
-use Rattle.std.specs.Prelude.{ℕ, zero, suc, List, [], ◌∷◌, Bool, true, false, cond, ◌&&◌, ◌||◌, length, get_or, drop, eqb, leb, pos, Float, Option, Some, None}
+use Rattle.std.specs.Prelude.{Ok, Err, ℕ, zero, suc, List, [], ◌∷◌, Bool, true, false, cond, ◌&&◌, ◌||◌, length, get_or, drop, eqb, leb, pos, Float, Option, Some, None}
 use Rattle.std.specs.Float.{fin}
 use Rattle.std.specs.Float.Ieee.{le, neg}
 use Rattle.std.specs.Float.Ieee.Scale.{finite}
 use Rattle.polynomial.specs.Angle.{two_pi}
-use Rattle.sampling.specs.Pose.{try_normalize}
-use Rattle.sampling.specs.declared.pose.Normalized.{Normalized}
-use Rattle.sampling.specs.declared.pose.Normalized.TheVariants.{Unit, NotFinite, Zero}
+use Rattle.sampling.specs.Pose.{Normalized, try_normalize}
+use Rattle.sampling.specs.declared.pose.Degenerate.TheVariants.{NotFinite, Zero}
 use Rattle.sheet.specs.declared.edition.Edition.{Edition}
 use Rattle.sheet.specs.declared.request.Shape.{Shape}
 use Rattle.sheet.specs.declared.request.Field.{Field}
@@ -60,14 +59,14 @@ signs_right r = all_from 6 1 (sign_right (shape_of r) r)
 -- ---- 4 and 5: the rotation's parts and length are finite; the length is not zero
 
 unfoldable pub rotation_finite : Normalized → Bool
-rotation_finite (Unit q) = true
-rotation_finite NotFinite = false
-rotation_finite Zero = true
+rotation_finite (Ok q) = true
+rotation_finite (Err NotFinite) = false
+rotation_finite (Err Zero) = true
 
 unfoldable pub rotation_nonzero : Normalized → Bool
-rotation_nonzero (Unit q) = true
-rotation_nonzero NotFinite = true
-rotation_nonzero Zero = false
+rotation_nonzero (Ok q) = true
+rotation_nonzero (Err NotFinite) = true
+rotation_nonzero (Err Zero) = false
 
 -- ---- 6, 7 and 8: arm angles within ±8, references finite, offsets within ±2P; limits may hold any bits
 

@@ -21,7 +21,6 @@ use crate::validate::validate;
 use crate::view::View;
 use sampling::lists::Plan;
 use sampling::plan::{next, start};
-use sampling::stream::Step;
 use sampling::work::clear;
 
 // Whether the bytes are those of the angles, no more and no less.
@@ -34,10 +33,10 @@ fn same_angles(s: &[u8], work: &[f64], plan: Plan) -> bool
     loop {
         let t = next(work, plan, c);
         match t {
-            Step::Done => {
+            None => {
                 return at == s.len();
             }
-            Step::Yield(y, d) => {
+            Some((y, d)) => {
                 if s.len() - at < 8 {
                     return false;
                 }

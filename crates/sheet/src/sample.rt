@@ -22,7 +22,6 @@ use crate::validate::validate;
 use crate::view::View;
 use sampling::lists::Plan;
 use sampling::plan::{count, next, start};
-use sampling::stream::Step;
 use sampling::work::clear;
 
 // The angles as `next` gives them, from the start of the output on.
@@ -36,10 +35,10 @@ fn put_stream(output: &mut [u8], work: &[f64], plan: Plan)
     loop {
         let s = next(work, plan, c);
         match s {
-            Step::Done => {
+            None => {
                 return;
             }
-            Step::Yield(y, d) => {
+            Some((y, d)) => {
                 put_float(output, at, y);
                 at += 8;
                 c = d;

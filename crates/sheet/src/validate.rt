@@ -12,7 +12,7 @@ use crate::request::{Field, NAME, RESERVED, Shape, field_read, place, request_si
 use crate::view::View;
 use float::number::is_finite;
 use float::trig::TWO_PI;
-use sampling::pose::{Normalized, Quaternion, try_normalize};
+use sampling::pose::{Degenerate, Quaternion, try_normalize};
 
 // Whether the bytes are zero.
 fn all_zero(bytes: &[u8]) -> bool
@@ -154,9 +154,9 @@ fn validate_rotation(view: View) -> Result<Quaternion, Refusal>
     ensures { result ≡ Promise.tested_rotation view.entry.request.now (Pose.try_normalize (Fields.rotation_of view.entry.request.now)) }
 {
     match try_normalize(view.rotation()) {
-        Normalized::Unit(q) => validate_fields(view, q),
-        Normalized::NotFinite => Err(Refusal::NotFinite),
-        Normalized::Zero => Err(Refusal::Zero),
+        Ok(unit) => validate_fields(view, unit),
+        Err(Degenerate::NotFinite) => Err(Refusal::NotFinite),
+        Err(Degenerate::Zero) => Err(Refusal::Zero),
     }
 }
 

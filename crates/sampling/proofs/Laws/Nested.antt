@@ -1,5 +1,5 @@
 -- Definitions that are one sentence with `||` and `&&`, test by test: what is said first is asked first. For proofs that go by cases.
-use Rattle.std.specs.Prelude.{None, Some, ◌≡◌, refl, Bool, true, false, not, ◌&&◌, ◌||◌, cond, [], ◌∷◌, ◌++◌, Float}
+use Rattle.std.specs.Prelude.{Ok, Err, None, Some, ◌≡◌, refl, Bool, true, false, not, ◌&&◌, ◌||◌, cond, [], ◌∷◌, ◌++◌, Float}
 use Rattle.std.specs.Float.{nan, inf, binary64}
 use Rattle.std.specs.Float.Ieee.{neg, eq, lt, le, is_nan, round}
 use Rattle.std.specs.Float.Ieee.Scale.{finite}
@@ -18,7 +18,7 @@ use Rattle.sampling.specs.Boundaries.{wrist_limits}
 use Rattle.sampling.specs.BendSlices.{transverse}
 use Rattle.sampling.specs.declared.constraints.Center.{Center}
 use Rattle.sampling.specs.declared.pose.Quaternion.{Quaternion}
-use Rattle.sampling.specs.declared.pose.Normalized.TheVariants.{Unit, NotFinite, Zero}
+use Rattle.sampling.specs.declared.pose.Degenerate.TheVariants.{NotFinite, Zero}
 use Rattle.sampling.specs.declared.continuum.Trig.{Trig}
 use Rattle.sampling.specs.declared.job.Joint.{Joint}
 
@@ -109,9 +109,9 @@ all_finite_nested q = four_nested (finite q.x) (finite q.y) (finite q.z) (finite
 pub try_normalize_nested : (q : Quaternion)
     → try_normalize q ≡ cond (all_finite q)
     (cond (finite (quaternion_length q))
-    (cond (le (quaternion_length q) zero_float) Zero (Unit (over q (quaternion_length q))))
-    NotFinite)
-    NotFinite
+    (cond (le (quaternion_length q) zero_float) (Err Zero) (Ok (over q (quaternion_length q))))
+    (Err NotFinite))
+    (Err NotFinite)
 unfolding try_normalize
 try_normalize_nested q = neither _ _ (all_finite q) (finite (quaternion_length q))
 

@@ -18,7 +18,7 @@ use Rattle.sampling.specs.SampleAngles as SampleAngles
 use Rattle.sampling.specs.J1j2free as J1j2free
 use Rattle.sampling.specs.Angles.{first_free, second_free, by_kind, angles, cut_count}
 use Rattle.sampling.specs.Promises.Charts.{Charted}
-use Rattle.sampling.specs.Promises.Stream.{distinct, start, next, Woven, Steps}
+use Rattle.sampling.specs.Promises.Stream.{Step, distinct, start, next, Woven, Steps}
 use Rattle.sampling.specs.Promises.Plan.{Moderate, lists_of, halves_of, free_plan, folded_plan, laid, free_cuts, folded_cuts, all_cuts, granted, plan}
 use Rattle.sampling.specs.Promises.Plan.{by_plan, filled, zeros, where_laid, work_after, all_samples, to_come, Ready, sample_step, step, Gives}
 use Rattle.sampling.proofs.Laws.Charts.{moderate_drawable}
@@ -38,8 +38,6 @@ use Rattle.sampling.specs.declared.lists.Plan.{Plan}
 use Rattle.sampling.specs.declared.lists.Plan.TheVariants as of
 use Rattle.sampling.specs.declared.sample_angles.Free.{Free}
 use Rattle.sampling.specs.declared.stream.Cursor.{Cursor}
-use Rattle.sampling.specs.declared.stream.Step.{Step}
-use Rattle.sampling.specs.declared.stream.Step.TheVariants.{Yield, Done}
 use Rattle.sampling.specs.Intervals.{Range}
 
 three_length : (a b c : List Float) → length (three_samples a b c) ≡ sample_count (length a) + sample_count (length b) + sample_count (length c)
@@ -68,8 +66,8 @@ step_here l i h = rw add-one (drop-cons l i nan h)
 
 -- a step of the stream
 gives : (s : List Float) (f : Cursor → List Float) (t : Step) → Steps s f t → Gives s f t
-gives s f Done e = e
-gives s f (Yield y c) e = e.0
+gives s f None e = e
+gives s f (Some (y, c)) e = e.0
 
 -- ---- lists that stand one after the other
 
@@ -319,7 +317,7 @@ sample_gives n w c = go (ltb c.i (length (all_samples n w))) refl
   where
     go : (b : Bool) → ltb c.i (length (all_samples n w)) ≡ b
         → Gives (drop c.i (all_samples n w)) (λ d. drop d.i (all_samples n w))
-        (cond b (Yield (get_or (all_samples n w) c.i nan) (record { i = c.i + 1; j = c.j; used = c.used; last = c.last })) Done)
+        (cond b (Some (get_or (all_samples n w) c.i nan, record { i = c.i + 1; j = c.j; used = c.used; last = c.last })) None)
     go true e = step_here (all_samples n w) c.i (ltb-true c.i (length (all_samples n w)) e)
     go false e = drop_of_length-le (all_samples n w) (ltb-false c.i (length (all_samples n w)) e)
 

@@ -1,5 +1,5 @@
 -- The parts of a normalized quaternion lie within 2, and the entries of its rotation matrix within 17.
-use Rattle.std.specs.Prelude.{◌≡◌, Bool, true, false, not, ◌&&◌, ◌||◌, cond, ℕ, zero, suc, ◌*◌, ◌<◌, pos, T, Float}
+use Rattle.std.specs.Prelude.{Ok, Err, ◌≡◌, Bool, true, false, not, ◌&&◌, ◌||◌, cond, ℕ, zero, suc, ◌*◌, ◌<◌, pos, T, Float}
 use Rattle.std.proofs.Common.{mul-pos, zero-lt-suc, zero-mul, arith, T_not}
 use Rattle.std.specs.Float.{nan, inf, fin, binary64}
 use Rattle.std.specs.Float.Ieee.{up, le, fits}
@@ -14,11 +14,11 @@ use Rattle.float.specs.Promises.Order.{Within}
 use Rattle.float.specs.Laws.Within.{fits→held, weaken, numeral, add_within, sub_within, mul_within}
 use Rattle.float.specs.Laws.Grow.{squares}
 use Rattle.float.specs.Laws.Root.{normalized_within}
-use Rattle.sampling.specs.Pose.{quaternion_length, all_finite, over, try_normalize, from_quat}
+use Rattle.sampling.specs.Pose.{Normalized, quaternion_length, all_finite, over, try_normalize, from_quat}
 use Rattle.sampling.specs.declared.pose.Quaternion.{Quaternion}
 use Rattle.sampling.specs.declared.pose.Vector.{Vector}
 use Rattle.sampling.specs.declared.pose.Matrix.{Matrix}
-use Rattle.sampling.specs.declared.pose.Normalized.TheVariants.{Unit, NotFinite, Zero}
+use Rattle.sampling.specs.declared.pose.Degenerate.TheVariants.{NotFinite, Zero}
 
 -- ---- what a length that is finite and above zero tells of the sum
 root_finite : (v : Float) → T (finite (sqrt binary64 v)) → T (finite v)
@@ -72,13 +72,13 @@ record Taken (a f l : Bool) (v u : Quaternion) : Type 0 where
   above : T (not l)
   is : u ≡ v
 
-zero_unit : {u : Quaternion} → Zero ≡ Unit u → ⊥
+zero_unit : {u : Quaternion} → ◌≡◌ {A = Normalized} (Err Zero) (Ok u) → ⊥
 zero_unit e = let z : ◌≡◌ {A = ℕ} 0 1 = cc in omega arith
 
-none_unit : {u : Quaternion} → NotFinite ≡ Unit u → ⊥
+none_unit : {u : Quaternion} → ◌≡◌ {A = Normalized} (Err NotFinite) (Ok u) → ⊥
 none_unit e = let z : ◌≡◌ {A = ℕ} 0 1 = cc in omega arith
 
-taken : (a f l : Bool) (v u : Quaternion) → cond (not a || not f) NotFinite (cond l Zero (Unit v)) ≡ Unit u → Taken a f l v u
+taken : (a f l : Bool) (v u : Quaternion) → cond {A = Normalized} (not a || not f) (Err NotFinite) (cond l (Err Zero) (Ok v)) ≡ Ok u → Taken a f l v u
 taken false f l v u e = absurd (none_unit e)
 taken true false l v u e = absurd (none_unit e)
 taken true true true v u e = absurd (zero_unit e)
@@ -105,7 +105,7 @@ divided q t p f a =
       w = part q.w S t.w p.w u r n l.of_w;
     }
 
-pub normalize_within : (q u : Quaternion) → Quaternion-fits q → try_normalize q ≡ Unit u → Quaternion-within two_float u
+pub normalize_within : (q u : Quaternion) → Quaternion-fits q → try_normalize q ≡ Ok u → Quaternion-within two_float u
 unfolding try_normalize
 normalize_within q u t e =
     let k = taken (all_finite q) (finite (quaternion_length q)) (le (quaternion_length q) zero_float) (over q (quaternion_length q)) u e in

@@ -1,7 +1,7 @@
 -- A step of the stream: it gives the first of what is to come, and one value fewer is left behind it.
 use Prim.Native.Nat.{ℕ, zero, suc, ◌+◌, ◌-◌, ◌≤◌}
 use Rattle.std.proofs.Common.{le_of_suc-le-suc, not-suc-le-zero, arith, sym, subst}
-use Rattle.std.specs.Prelude.{◌≡◌, Bool, not, cond, ◌&&◌, T, length, drop}
+use Rattle.std.specs.Prelude.{Some, None, ◌≡◌, Bool, not, cond, ◌&&◌, T, length, drop}
 use Rattle.std.proofs.Math.Path.{refl}
 use Rattle.std.proofs.Math.Bool.{true, false}
 use mathlib.Core.List.{List, [], ◌∷◌, ◌++◌}
@@ -12,12 +12,10 @@ use Rattle.std.proofs.lemmas.Bool.{not-true, not-false}
 use Rattle.float.specs.Number.{total_le}
 use Rattle.float.specs.Laws.Total.{total_le_total, total_le_trans, total_le_refl}
 use Rattle.polynomial.specs.Cuts.{sort, rest}
-use Rattle.sampling.specs.Promises.Stream.{weave, pending, stream, distinct, Woven, Steps, yielded, least, advance, on_step, next_of, left, next}
+use Rattle.sampling.specs.Promises.Stream.{Step, weave, pending, stream, distinct, Woven, Steps, yielded, least, advance, on_step, next_of, left, next}
 use Rattle.sampling.proofs.Laws.Least.{head, no_head}
 use Rattle.sampling.proofs.Laws.Heads.{Heads, number_index, first, second, third, done}
 use Rattle.sampling.specs.declared.stream.Cursor.{Cursor}
-use Rattle.sampling.specs.declared.stream.Step.{Step}
-use Rattle.sampling.specs.declared.stream.Step.TheVariants.{Yield, Done}
 
 holds : {b : Bool} → b ≡ true → T b
 holds e = subst T (sym e) tt
@@ -28,7 +26,7 @@ module _ (s : List Float) (f : Cursor → List Float) where
   yielded_steps : (y : Float) (c : Cursor) → (T (is_nan y) → s ≡ []) → (T (not (is_nan y)) → s ≡ y ∷ f c) → Steps s f (yielded y c)
   yielded_steps y c none some = go (is_nan y) none some refl
     where
-      go : (b : Bool) → (T b → s ≡ []) → (T (not b) → s ≡ y ∷ f c) → is_nan y ≡ b → Steps s f (cond b Done (Yield y c))
+      go : (b : Bool) → (T b → s ≡ []) → (T (not b) → s ≡ y ∷ f c) → is_nan y ≡ b → Steps s f (cond b None (Some (y, c)))
       go true none some e = none tt
       go false none some e = (some tt, holds (subst (λ (b : Bool). not b ≡ true) (sym e) refl))
 
@@ -78,13 +76,13 @@ module _ (a b : List Float) (r : Float) (wa : Woven a) (wb : Woven b) (n : T (no
 
 -- so many values were left before a step
 abbrev pub Drops : ℕ → (Cursor → ℕ) → Step → Type 0
-Drops n f Done = Unit {0}
-Drops n f (Yield y c) = n ≡ suc (f c)
+Drops n f None = Unit {0}
+Drops n f (Some (y, c)) = n ≡ suc (f c)
 
 yielded_drops : (n : ℕ) (f : Cursor → ℕ) (y : Float) (c : Cursor) → (T (not (is_nan y)) → n ≡ suc (f c)) → Drops n f (yielded y c)
 yielded_drops n f y c h = go (is_nan y) h
   where
-    go : (b : Bool) → (T (not b) → n ≡ suc (f c)) → Drops n f (cond b Done (Yield y c))
+    go : (b : Bool) → (T (not b) → n ≡ suc (f c)) → Drops n f (cond b None (Some (y, c)))
     go true h = tt
     go false h = h tt
 
@@ -144,7 +142,7 @@ module _ (a b : List Float) (r last : Float) (k : ℕ) (c d : Cursor) (y : Float
   keep_or_skip : (t : Bool) → ne y last ≡ t → (stream a b r c ≡ y ∷ stream a b r d) × T (not (is_nan y))
       → (ne y last ≡ false → Steps (rest last (stream a b r d)) (distinct a b r) (next_of k a b r last d))
       → Steps (rest last (stream a b r c)) (distinct a b r)
-      (cond t (Yield y (record { i = d.i; j = d.j; used = d.used; last = y })) (next_of k a b r last d))
+      (cond t (Some (y, record { i = d.i; j = d.j; used = d.used; last = y })) (next_of k a b r last d))
   unfolding distinct stream
   keep_or_skip true t e g = (rest_keep last y (stream a b r c) (stream a b r d) e.0 t, e.1)
   keep_or_skip false t e g = rw (rest_skip last y (stream a b r c) (stream a b r d) e.0 t) (g t)
@@ -153,9 +151,9 @@ module _ (a b : List Float) (r last : Float) (k : ℕ) (c : Cursor) where
   stepped : (s : Step) → Steps (stream a b r c) (stream a b r) s → Drops (left a b c) (left a b) s
       → ((d : Cursor) → left a b c ≡ suc (left a b d) → Steps (rest last (stream a b r d)) (distinct a b r) (next_of k a b r last d))
       → Steps (rest last (stream a b r c)) (distinct a b r)
-      (on_step s (λ y d. cond (ne y last) (Yield y (record { i = d.i; j = d.j; used = d.used; last = y })) (next_of k a b r last d)))
-  stepped Done e g h = rest_end last (stream a b r c) e
-  stepped (Yield y d) e g h = keep_or_skip a b r last k c d y (ne y last) refl e (λ t. h d g)
+      (on_step s (λ y d. cond (ne y last) (Some (y, record { i = d.i; j = d.j; used = d.used; last = y })) (next_of k a b r last d)))
+  stepped None e g h = rest_end last (stream a b r c) e
+  stepped (Some (y, d)) e g h = keep_or_skip a b r last k c d y (ne y last) refl e (λ t. h d g)
 
 module _ (a b : List Float) (r : Float) (wa : Woven a) (wb : Woven b) (n : T (not (is_nan r))) (f : T (fits binary64 r)) where
   skips : (k : ℕ) (last : Float) (c : Cursor) → left a b c ≤ k → Steps (rest last (stream a b r c)) (distinct a b r) (next_of (suc k) a b r last c)

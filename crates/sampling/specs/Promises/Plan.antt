@@ -1,5 +1,5 @@
 -- What `plan_of` makes of a job and leaves in the lent work slice, and how the angles are read off the cuts there, one at a time.
-use Rattle.std.specs.Prelude.{◌≡◌, ◌⊎◌, not, cond, List, [], ◌∷◌, ◌++◌, ℕ, ◌+◌, ◌^◌, ◌≤◌, T, leb, ltb, length, get_or, take, drop, replicate, Float}
+use Rattle.std.specs.Prelude.{Some, None, ◌≡◌, ◌⊎◌, not, cond, List, [], ◌∷◌, ◌++◌, ℕ, ◌+◌, ◌^◌, ◌≤◌, T, leb, ltb, length, get_or, take, drop, replicate, Float}
 use Rattle.std.specs.Float.{binary64, nan}
 use Rattle.std.specs.Float.Ieee.{neg, is_nan, fits}
 use Rattle.std.specs.Float.Ieee.Scale.{finite}
@@ -12,7 +12,7 @@ use Rattle.sampling.specs.J1j2free.{folded, first_half, second_half, on_interval
 use Rattle.sampling.specs.Angles.{first_free, second_free, by_kind, cut_count}
 use Rattle.sampling.specs.Limits.{limits}
 use Rattle.sampling.specs.Promises.Charts.{Charted}
-use Rattle.sampling.specs.Promises.Stream.{distinct, next, Woven}
+use Rattle.sampling.specs.Promises.Stream.{Step, distinct, next, Woven}
 use Rattle.sampling.specs.declared.j1j2free.Folded.{Folded}
 use Rattle.sampling.specs.declared.job.Job.{Job}
 use Rattle.sampling.specs.declared.job.Joint.{Joint}
@@ -23,8 +23,6 @@ use Rattle.sampling.specs.declared.lists.Plan.{Plan}
 use Rattle.sampling.specs.declared.lists.Plan.TheVariants as of
 use Rattle.sampling.specs.declared.sample_angles.Free.{Free}
 use Rattle.sampling.specs.declared.stream.Cursor.{Cursor}
-use Rattle.sampling.specs.declared.stream.Step.{Step}
-use Rattle.sampling.specs.declared.stream.Step.TheVariants.{Yield, Done}
 
 -- a joint whose sign, offset and reference are as 01 allows them where they are read
 pub record Moderate (j : Joint) : Type 0 where
@@ -138,16 +136,16 @@ Ready (of.Halves h) w = Streamable h w
 unfoldable pub sample_step : Lists → List Float → Cursor → Step
 sample_step n w c =
     cond (ltb c.i (length (all_samples n w)))
-    (Yield (get_or (all_samples n w) c.i nan) (record { i = c.i + 1; j = c.j; used = c.used; last = c.last }))
-    Done
+    (Some (get_or (all_samples n w) c.i nan, record { i = c.i + 1; j = c.j; used = c.used; last = c.last }))
+    None
 
 -- the next angle and the cursor behind it, or the end; `Laws.Plan` has that it gives the first of what is to come
 abbrev pub step : Plan → List Float → Cursor → Step
-step of.Short w c = Done
+step of.Short w c = None
 step (of.Lists n) w c = sample_step n w c
 step (of.Halves h) w c = next (take h.first w) (take h.second (drop h.first w)) h.reference c
 
 -- a step from what was to come, s: its first value, with what is to come at the cursor behind it; or the end
 abbrev pub Gives : List Float → (Cursor → List Float) → Step → Type 0
-Gives s f Done = s ≡ []
-Gives s f (Yield y c) = s ≡ y ∷ f c
+Gives s f None = s ≡ []
+Gives s f (Some (y, c)) = s ≡ y ∷ f c

@@ -15,14 +15,12 @@ use Rattle.float.specs.Promises.Order.{Within}
 use Rattle.float.specs.Laws.Interval.{in_of, in_within}
 use Rattle.polynomial.specs.Angle.{two_pi}
 use Rattle.sampling.specs.Reads.{joint_read, reference_read}
-use Rattle.sampling.specs.Promises.Stream.{start}
+use Rattle.sampling.specs.Promises.Stream.{Step, start}
 use Rattle.sampling.specs.Promises.Plan.{Moderate, Drawable, plan, work_after, to_come, Ready, Gives, step}
 use Rattle.sampling.proofs.Laws.Charts.{moderate_drawable}
 use Rattle.sampling.proofs.Laws.Plan.{plan_by, plan_ready, plan_yields, step_gives}
 use Rattle.sampling.specs.declared.lists.Plan.{Plan}
 use Rattle.sampling.specs.declared.stream.Cursor.{Cursor}
-use Rattle.sampling.specs.declared.stream.Step.{Step}
-use Rattle.sampling.specs.declared.stream.Step.TheVariants.{Yield, Done}
 use Rattle.sampling.specs.declared.job.Kind.{Kind}
 use Rattle.sampling.specs.declared.job.Kind.TheVariants.{J1free, J2free, J1j2free}
 use Rattle.sampling.specs.declared.pose.Quaternion.{Quaternion}
@@ -143,11 +141,11 @@ module _ (p : Plan) (w : List Float) (c : Cursor) (t : Step) (g : Ready p w) (e 
   gives : (s : Step) → t ≡ s → Gives (to_come p w c) (to_come p w) s
   gives s f = subst (Gives (to_come p w c) (to_come p w)) (sym e ∙ f) (step_gives p w c g)
 
-  pub step_yields : (y : Float) (d : Cursor) → t ≡ Yield y d → to_come p w c ≡ y ∷ to_come p w d
-  step_yields y d f = gives (Yield y d) f
+  pub step_yields : (y : Float) (d : Cursor) → t ≡ Some (y, d) → to_come p w c ≡ y ∷ to_come p w d
+  step_yields y d f = gives (Some (y, d)) f
 
-  pub step_done : t ≡ Done → to_come p w c ≡ []
-  step_done f = gives Done f
+  pub step_done : t ≡ None → to_come p w c ≡ []
+  step_done f = gives None f
 
 -- ---- work, before it is cleared
 

@@ -6,10 +6,9 @@ use Rattle.std.proofs.Math.Path.{◌≡◌, ap}
 use Rattle.std.specs.Float.Ieee.Scale.{finite}
 use Rattle.float.specs.Laws.Tests.{and_left, and_right}
 use Rattle.polynomial.specs.Angle.{two_pi}
-use Rattle.sampling.specs.Pose.{try_normalize}
+use Rattle.sampling.specs.Pose.{Normalized, try_normalize}
 use Rattle.sampling.specs.declared.pose.Quaternion.{Quaternion}
-use Rattle.sampling.specs.declared.pose.Normalized.{Normalized}
-use Rattle.sampling.specs.declared.pose.Normalized.TheVariants.{Unit, NotFinite, Zero}
+use Rattle.sampling.specs.declared.pose.Degenerate.TheVariants.{NotFinite, Zero}
 use Rattle.sheet.specs.declared.edition.Edition.{Edition}
 use Rattle.sheet.specs.declared.request.Field.{Field}
 use Rattle.sheet.specs.declared.request.Field.TheVariants.{Arm, Reference, Offset}
@@ -79,9 +78,9 @@ after_rotation : (r : List ℕ) (n : Normalized) (v : Answer)
     → after (tested_rotation r n) v
     ≡ need (rotation_finite n) 4 (need (rotation_nonzero n) 5 (need (arm_within r) 6 (need (references_finite r) 7 (need (offsets_within r) 8 v))))
 unfolding tested_rotation rotation_finite rotation_nonzero need
-after_rotation r (Unit q) v = after_fields r q v
-after_rotation r NotFinite v = refl
-after_rotation r Zero v = refl
+after_rotation r (Ok q) v = after_fields r q v
+after_rotation r (Err NotFinite) v = refl
+after_rotation r (Err Zero) v = refl
 
 pub tested_validate : (e : Edition) (r : List ℕ) (v : Answer) → after (tested e r) v ≡ validate e r v
 unfolding tested validate
@@ -104,17 +103,17 @@ module _ (e : Edition) (r : List ℕ) (q : Quaternion) (h : tested e r ≡ Ok q)
   inner true k t i = i
   inner false k t i = let z : ◌≡◌ {A = ℕ} 0 1 = cc in absurd (omega arith)
 
-  unit : (n : Normalized) → tested_rotation r n ≡ Ok q → n ≡ Unit q
+  unit : (n : Normalized) → tested_rotation r n ≡ Ok q → n ≡ Ok q
   unfolding tested_rotation
-  unit (Unit p) j =
+  unit (Ok p) j =
       let i : Ok p ≡ Ok q = inner (offsets_within r) refusal.Offset _
       (inner (references_finite r) refusal.Reference _ (inner (arm_within r) refusal.Arm _ j)) in
       let z : p ≡ q = cc in
-      ap Unit z
-  unit NotFinite j = let z : ◌≡◌ {A = ℕ} 0 1 = cc in absurd (omega arith)
-  unit Zero j = let z : ◌≡◌ {A = ℕ} 0 1 = cc in absurd (omega arith)
+      ap Ok z
+  unit (Err NotFinite) j = let z : ◌≡◌ {A = ℕ} 0 1 = cc in absurd (omega arith)
+  unit (Err Zero) j = let z : ◌≡◌ {A = ℕ} 0 1 = cc in absurd (omega arith)
 
-  pub tested_unit : try_normalize (rotation_of r) ≡ Unit q
+  pub tested_unit : try_normalize (rotation_of r) ≡ Ok q
   unfolding tested
   tested_unit =
       unit (try_normalize (rotation_of r))

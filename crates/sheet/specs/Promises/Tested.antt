@@ -1,9 +1,8 @@
 -- What the tests of a request come to in code, and what is known of a request that passes them. Definitions only; `Laws.Tested` joins them to `Validate`.
 use Rattle.std.specs.Prelude.{ℕ, ◌≡◌, List, true, cond, length, eqb, Result, Ok, Err}
-use Rattle.sampling.specs.Pose.{try_normalize}
+use Rattle.sampling.specs.Pose.{Normalized, try_normalize}
 use Rattle.sampling.specs.declared.pose.Quaternion.{Quaternion}
-use Rattle.sampling.specs.declared.pose.Normalized.{Normalized}
-use Rattle.sampling.specs.declared.pose.Normalized.TheVariants.{Unit, NotFinite, Zero}
+use Rattle.sampling.specs.declared.pose.Degenerate.TheVariants.{NotFinite, Zero}
 use Rattle.sheet.specs.declared.edition.Edition.{Edition}
 use Rattle.sheet.specs.declared.refusals.Refusal.{Refusal}
 use Rattle.sheet.specs.Request.{request_size}
@@ -21,9 +20,9 @@ tested_fields r q =
 
 -- 4 to 8
 unfoldable pub tested_rotation : List ℕ → Normalized → Result Quaternion Refusal
-tested_rotation r (Unit q) = tested_fields r q
-tested_rotation r NotFinite = Err refusal.NotFinite
-tested_rotation r Zero = Err refusal.Zero
+tested_rotation r (Ok q) = tested_fields r q
+tested_rotation r (Err NotFinite) = Err refusal.NotFinite
+tested_rotation r (Err Zero) = Err refusal.Zero
 
 -- 1 to 8 and 41
 unfoldable pub tested : Edition → List ℕ → Result Quaternion Refusal

@@ -9,11 +9,10 @@ use lib.ListN.{length, get_or}
 use lib.Ieee.{Float, nan, is_nan, ne}
 use Rattle.float.specs.Number.{total_le}
 use Rattle.float.specs.Laws.Tests.{number_of}
-use Rattle.sampling.specs.Promises.Stream.{weave, least, advance}
+use Rattle.sampling.specs.Promises.Stream.{Step, weave, least, advance}
 use Rattle.sampling.proofs.Laws.Weave.{weave_length}
 use Rattle.sampling.proofs.Laws.Heads.{number_index}
 use Rattle.sampling.specs.declared.stream.Cursor.{Cursor}
-use Rattle.sampling.specs.declared.stream.Step.{Step}
 use Rattle.sampling.proofs.stream.Steps.{first_none, first_some, second_none, second_some, third_none, third_some}
 use Rattle.sampling.proofs.stream.advance.Goals as goal
 use Rattle.sampling.proofs.stream.advance.Goals.{then-used, else-used, then-total_le+else-total_le-2, else-total_le}

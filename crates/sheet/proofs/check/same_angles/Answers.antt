@@ -11,39 +11,39 @@ use Rattle.sheet.specs.Laws.Plan.{step_yields, step_done}
 use Rattle.sheet.proofs.check.Floats.{float_short, float_step, float_stop, float_end}
 use Rattle.sheet.proofs.check.same_angles.Goals as goal
 
-pub returns-in-Done : goal.returns-in-Done
-returns-in-Done c = let l = c.loop-y in
+pub returns-in-None : goal.returns-in-None
+returns-in-None c = let l = c.loop-y in
     let p = c.args in
-    let e = step_done p.plan p.work.now l.c _ c.requires c.next-t.ensures c.in-Done.is in
+    let e = step_done p.plan p.work.now l.c _ c.requires c.next-t.ensures c.in-None.is in
     float_end p.s.now l.at (to_come p.plan p.work.now l.c) e l.invariant.0 ∙ l.invariant.1
 
 pub returns-then-s-at-lt8 : goal.returns-then-s-at-lt8
 returns-then-s-at-lt8 c = let p = c.args in
     let l = c.loop-y in
     let left : Cursor → List Float = to_come p.plan p.work.now in
-    let came = step_yields c.args.plan c.args.work.now c.loop-y.c _ c.requires c.next-t.ensures _ _ c.in-Yield.is in
-    float_short p.s.now l.at c.in-Yield.y (left l.c) (left c.in-Yield.d) came l.invariant.0 c.if-s-at-lt8.true ∙ l.invariant.1
+    let came = step_yields c.args.plan c.args.work.now c.loop-y.c _ c.requires c.next-t.ensures _ _ c.in-Some.is in
+    float_short p.s.now l.at c.in-Some.y (left l.c) (left c.in-Some.d) came l.invariant.0 c.if-s-at-lt8.true ∙ l.invariant.1
 
 pub returns-then-not-same_float : goal.returns-then-not-same_float
 returns-then-not-same_float c = let p = c.args in
     let l = c.loop-y in
     let left : Cursor → List Float = to_come p.plan p.work.now in
-    let came = step_yields c.args.plan c.args.work.now c.loop-y.c _ c.requires c.next-t.ensures _ _ c.in-Yield.is in
-    float_stop p.s.now l.at c.in-Yield.y (left l.c) (left c.in-Yield.d) came (omega (arith, c.if-s-at-lt8.false, l.invariant.0))
+    let came = step_yields c.args.plan c.args.work.now c.loop-y.c _ c.requires c.next-t.ensures _ _ c.in-Some.is in
+    float_stop p.s.now l.at c.in-Some.y (left l.c) (left c.in-Some.d) came (omega (arith, c.if-s-at-lt8.false, l.invariant.0))
     (sym c.same_float.ensures ∙ not-true _ c.if-not-same_float.true-raw)
     ∙ l.invariant.1
 
 pub loop-y-smaller : goal.loop-y-smaller
-loop-y-smaller c = let k = ap length (step_yields c.args.plan c.args.work.now c.loop-y.c _ c.requires c.next-t.ensures _ _ c.in-Yield.is) in
+loop-y-smaller c = let k = ap length (step_yields c.args.plan c.args.work.now c.loop-y.c _ c.requires c.next-t.ensures _ _ c.in-Some.is) in
     omega arith
 
 pub loop-y-preserved : goal.loop-y-preserved
 loop-y-preserved c = let p = c.args in
     let l = c.loop-y in
     let left : Cursor → List Float = to_come p.plan p.work.now in
-    let came = step_yields c.args.plan c.args.work.now c.loop-y.c _ c.requires c.next-t.ensures _ _ c.in-Yield.is in (
+    let came = step_yields c.args.plan c.args.work.now c.loop-y.c _ c.requires c.next-t.ensures _ _ c.in-Some.is in (
       omega (arith, c.if-s-at-lt8.false, l.invariant.0),
-      float_step p.s.now l.at c.in-Yield.y (left l.c) (left c.in-Yield.d) came (omega (arith, c.if-s-at-lt8.false, l.invariant.0))
+      float_step p.s.now l.at c.in-Some.y (left l.c) (left c.in-Some.d) came (omega (arith, c.if-s-at-lt8.false, l.invariant.0))
           (sym c.same_float.ensures ∙ not-false _ c.if-not-same_float.false-raw)
           ∙ l.invariant.1,
     )
