@@ -37,7 +37,12 @@ fn parts_hold(s: &[f64]) -> bool
 }
 
 // The roots, found elsewhere first: the list may be too long for a slice.
-fn roots_apart(p: &[Compensated], bounds: Bounds, res: &mut [f64], kinds: &mut [u8]) -> Result<usize, Refusal>
+fn roots_apart(
+    p: &[Compensated],
+    bounds: Bounds,
+    res: &mut [f64],
+    kinds: &mut [u8],
+) -> Result<usize, Refusal>
     requires { length p.now ≤ 9 }
     ensures value { result ≡ Operation.fitted (length (Roots.roots p.now bounds.lower bounds.upper)) (length res.old) (length kinds.old) }
     ensures res_after { res.new ≡ Operation.filled result (Roots.roots p.now bounds.lower bounds.upper) res.old }

@@ -101,7 +101,13 @@ fn intersection(k: Numerators, l: Numerators) -> Coefficients
 }
 
 // A later curve, k, with each of the earlier ones, which are the first operands.
-fn meetings(work: &mut [f64], cuts: Option<usize>, c: Chart, earlier: &[Numerators], k: Numerators) -> Option<usize>
+fn meetings(
+    work: &mut [f64],
+    cuts: Option<usize>,
+    c: Chart,
+    earlier: &[Numerators],
+    k: Numerators,
+) -> Option<usize>
     requires { Bounded c }
     ensures { Grown (flat_map (Of.chart_roots c) (meetings (map polynomials_of earlier.now) (polynomials_of k))) work.old cuts
         work.new result }
@@ -115,7 +121,12 @@ fn meetings(work: &mut [f64], cuts: Option<usize>, c: Chart, earlier: &[Numerato
 }
 
 // Each of the curves alone, then with each earlier one, whose polynomials are kept.
-pub(crate) fn critical(work: &mut [f64], cuts: Option<usize>, c: Chart, curves: &[Curve]) -> Option<usize>
+pub(crate) fn critical(
+    work: &mut [f64],
+    cuts: Option<usize>,
+    c: Chart,
+    curves: &[Curve],
+) -> Option<usize>
     requires { (length curves.now ≤ most_curves) × Bounded c }
     ensures { Grown (Of.critical c curves.now) work.old cuts work.new result }
 {
