@@ -1,5 +1,6 @@
 -- How large the number is that hexadecimal digits stand for.
-use Rattle.std.proofs.Common.{ℕ, zero, suc, ◌+◌, ◌*◌, ◌-◌, ◌^◌, ◌≤◌, ◌<◌, ◌≡◌, refl, Bool, true, false, cond, ◌&&◌, List, leb, ltb, lit<, get_or, leb-true, length, take, zero-add, add-one, ◌∙◌}
+use Rattle.std.proofs.Common.{ℕ, zero, suc, ◌+◌, ◌*◌, ◌-◌, ◌^◌, ◌≤◌, ◌<◌, ◌≡◌, refl, Bool, true}
+use Rattle.std.proofs.Common.{false, cond, ◌&&◌, List, leb, ltb, lit<, get_or, leb-true, length, take, zero-add, add-one, ◌∙◌}
 use Rattle.std.specs.List.{between, list_all}
 use Rattle.std.proofs.lemmas.List.Edits.{get_or-between, length-between}
 use Rattle.std.proofs.lemmas.List.Folds.{list_all_more}

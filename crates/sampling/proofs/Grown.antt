@@ -57,7 +57,8 @@ pub leads_all : {l a : List Float} {s : Option ℕ} → Leads l l a s a s
 leads_all b t g = g
 
 -- one more part
-pub leads_next : {whole x y rest a₀ a b : List Float} {s₀ s t : Option ℕ} → Leads whole rest a₀ s₀ a s → rest ≡ x ++ y → Grown x a s b t → Leads whole y a₀ s₀ b t
+pub leads_next : {whole x y rest a₀ a b : List Float} {s₀ s t : Option ℕ}
+    → Leads whole rest a₀ s₀ a s → rest ≡ x ++ y → Grown x a s b t → Leads whole y a₀ s₀ b t
 leads_next {whole} {x} {y} {rest} {a₀} {a} {b} {s₀} {s} {t} h e p c u g = h c u (subst (λ (z : List Float). Grown z a s c u) (sym e) (then p g))
 
 -- at the end nothing is

@@ -1,4 +1,5 @@
--- What the proofs of several functions share: cuts that grow (`Grown`), lists of cuts one after the other (`Laid`), roots and curves one by one (`CriticalSlices`).
+-- What the proofs of several functions share: cuts that grow (`Grown`),
+-- lists of cuts one after the other (`Laid`), roots and curves one by one (`CriticalSlices`).
 -- `Laws`: theorems that upper crates cite.
 pub mod Laws
 mod Grown

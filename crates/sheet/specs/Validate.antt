@@ -1,6 +1,7 @@
 -- The tests that a request must pass: refusals 1 to 8 (01, Sampling) and 41 (02, change 2). An unread field passes every test, and NaN is within no range.
 -- Definitions only.
-use Rattle.std.specs.Prelude.{Ok, Err, ℕ, zero, suc, List, [], ◌∷◌, Bool, true, false, cond, ◌&&◌, ◌||◌, length, get_or, drop, eqb, leb, pos, Float, Option, Some, None}
+use Rattle.std.specs.Prelude.{Ok, Err, ℕ, zero, suc, List, [], ◌∷◌, Bool, true, false, cond}
+use Rattle.std.specs.Prelude.{◌&&◌, ◌||◌, length, get_or, drop, eqb, leb, pos, Float, Option, Some, None}
 use Rattle.std.specs.Float.{fin}
 use Rattle.std.specs.Float.Ieee.{le, neg}
 use Rattle.std.specs.Float.Ieee.Scale.{finite}

@@ -69,7 +69,8 @@ ray_marks_few : (ray : Ray) (m : Marks) → length (ray_marks ray m) ≤ 8
 unfolding ray_marks
 ray_marks_few ray m =
     let limits = λ (l : Limits). ray_at ray l.center ++ ray_range ray l.range in
-    let few : (l : Limits) → length (limits l) ≤ 6 = λ l. both (ray_at ray l.center) (ray_range ray l.range) (ray_at_few ray l.center) (ray_range_few ray l.range) in
+    let few : (l : Limits) → length (limits l) ≤ 6 =
+    λ l. both (ray_at ray l.center) (ray_range ray l.range) (ray_at_few ray l.center) (ray_range_few ray l.range) in
     both (ray_at ray m.reference) (option_map_or limits m.limits []) (ray_at_few ray m.reference) (of_limits limits few m.limits)
 
 corner_few : (ray : Ray) (sign angle4 angle6 : Float) → length (corner ray sign angle4 angle6) ≤ 2

@@ -27,7 +27,8 @@ module _ (x y z : Float) (c : Cursor) where
     unfolding least
     second_none q n = rw (p, q, sym (ne_self y) ∙ n)
 
-    pub second_some : total_le y z ≡ true → ne y y ≡ false → ◌≡◌ {A = Step} (Some (y, record { i = c.i; j = c.j + 1; used = c.used; last = c.last })) (least x y z c)
+    pub second_some : total_le y z ≡ true → ne y y ≡ false
+        → ◌≡◌ {A = Step} (Some (y, record { i = c.i; j = c.j + 1; used = c.used; last = c.last })) (least x y z c)
     unfolding least
     second_some q n = rw (p, q, sym (ne_self y) ∙ n)
 

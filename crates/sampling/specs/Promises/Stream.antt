@@ -1,6 +1,7 @@
 -- The slices of kind 3 one at a time: what is still to come at a cursor, and what a step is. Nothing that a public contract says;
 -- `Laws.Slices` has that all of it is `slices`, and `Laws.Step` that a step gives the first of what is to come.
-use Rattle.std.specs.Prelude.{Option, Some, None, ◌≡◌, ℕ, zero, suc, ◌+◌, ◌-◌, Bool, true, false, not, ◌&&◌, cond, List, [], ◌∷◌, ◌++◌, length, get_or, drop, T, Float}
+use Rattle.std.specs.Prelude.{Option, Some, None, ◌≡◌, ℕ, zero, suc, ◌+◌, ◌-◌, Bool, true, false}
+use Rattle.std.specs.Prelude.{not, ◌&&◌, cond, List, [], ◌∷◌, ◌++◌, length, get_or, drop, T, Float}
 use Rattle.std.specs.Float.{nan}
 use Rattle.std.specs.Float.Ieee.{is_nan, ne}
 use Rattle.float.specs.Number.{middle, total_le}

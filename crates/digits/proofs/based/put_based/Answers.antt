@@ -21,7 +21,8 @@ done base out l at i left h e =
     rw z at e
 
 pub loop-i-preserved : goal.loop-i-preserved
-loop-i-preserved g c = step g.row.BASE c.loop-i.out c.args.at c.loop-i.i c.loop-i.left c.figure.result c.loop-i-test.true c.figure.ensures.letter ∙ c.loop-i.invariant
+loop-i-preserved g c =
+    step g.row.BASE c.loop-i.out c.args.at c.loop-i.i c.loop-i.left c.figure.result c.loop-i-test.true c.figure.ensures.letter ∙ c.loop-i.invariant
 
 pub returns : goal.returns
 returns g c = done g.row.BASE _ _ _ _ _ c.loop-i-test.false c.loop-i.invariant
