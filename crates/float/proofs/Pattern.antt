@@ -8,13 +8,14 @@ use Rattle.std.proofs.Common.{le_of_mul-le-mul_right, mul-div_cancel, arith, lit
 use Prim.Native.Nat.{compare, Ordering}
 use native.Mathlib.Nat.{pow-succ'}
 use lib.Pow.{pow-lt}
-use lib.Ieee.{Float, nan, inf, fin, binary64, down, size, nearest, odd, units, fits, of_bits, nan_bits, to_bits}
+use lib.Ieee.{Float, nan, inf, fin, binary64, down, size, nearest, odd, units, fits, of_bits, nan_bits, to_bits, is_nan}
 use lib.Ieee.Fits.{down_pos, odd-fits, inf-fits, nearest-le}
 use lib.Ieee.Exact.{HasValue, odd_sign}
 use lib.Ieee.Nearest.{closest}
 use lib.Ieee.Bits.{of_bits-to_bits, nan_bits_above}
 use Rattle.float.proofs.Rounded.{size_is}
 use Rattle.float.specs.Laws.Near.{Cmp, cmp}
+use Rattle.float.specs.Laws.Tests.{nan_test}
 
 -- the sign's weight
 abbrev pub sign : Bool → ℕ
@@ -111,6 +112,20 @@ pub units_is : (s : Bool) (q k : ℕ) → q ≤ 2 ^ 53 → (0 < k → 2 ^ 52 ≤
     ≡ units binary64 s q k
 units_is s q k a b = ap (λ (x : ℕ). of_bits binary64 x) (sym (units_pattern s q k a b)) ∙ of_bits-to_bits binary64 (units binary64 s q k) (units_fits s q k a)
 
+-- up to the largest value, as a program writes it
+pub written : (s : Bool) (q k : ℕ) → q ≤ 2 ^ 53 → k ≤ 2045 → (0 < k → 2 ^ 52 ≤ q) → of_bits binary64 (sign s + (k * 2 ^ 52 + q)) ≡ units binary64 s q k
+written s q k a h b = ap (λ (n : ℕ). of_bits binary64 (sign s + n)) (plain k q h a) ∙ units_is s q k a b
+  where
+    plain : (k q : ℕ) → k ≤ 2045 → q ≤ 2 ^ 53 → k * 2 ^ 52 + q ≡ min (k * 2 ^ 52 + q) (2047 * 2 ^ 52)
+    plain k q h a = omega arith
+
+-- and an infinity from there on
+pub overflows : (s : Bool) (q k : ℕ) → q ≤ 2 ^ 53 → 2 ^ 52 ≤ q → 2046 ≤ k → of_bits binary64 (sign s + 2047 * 2 ^ 52) ≡ units binary64 s q k
+overflows s q k a b h = ap (λ (n : ℕ). of_bits binary64 (sign s + n)) (beyond k q h b) ∙ units_is s q k a (λ _. b)
+  where
+    beyond : (k q : ℕ) → 2046 ≤ k → 2 ^ 52 ≤ q → 2047 * 2 ^ 52 ≡ min (k * 2 ^ 52 + q) (2047 * 2 ^ 52)
+    beyond k q h b = omega arith
+
 -- ---- such a pattern is no NaN's
 pub no_nan : (s : Bool) (n : ℕ) → n ≤ 2047 * 2 ^ 52 → T (not (nan_bits binary64 (sign s + n)))
 no_nan s n h = subst (λ (b : Bool). T (not b)) (sym (nan_bits_above binary64 (sign s + n))) (go s)
@@ -131,6 +146,15 @@ no_nan s n h = subst (λ (b : Bool). T (not b)) (sym (nan_bits_above binary64 (s
     go : (s : Bool) → T (not (ltb (2047 * 2 ^ 52) ((sign s + n) % 2 ^ 63)))
     go true = subst (λ (x : ℕ). T (not (ltb (2047 * 2 ^ 52) x))) (sym (rest n h)) (no n h)
     go false = subst (λ (x : ℕ). T (not (ltb (2047 * 2 ^ 52) x))) (sym (rest_0 n h)) (no n h)
+
+-- ---- the pattern of the NaN
+pub nan_pattern : (x : Float) → is_nan x ≡ true → to_bits binary64 x ≡ 0x7ff8_0000_0000_0000
+unfolding to_bits
+nan_pattern x h = ap (to_bits binary64) (nan_test x h)
+
+pub the_nan : of_bits binary64 0x7ff8_0000_0000_0000 ≡ nan
+unfolding of_bits
+the_nan = refl
 
 -- ---- the 11 digits that go: as a program moves the kept number up
 pub closest_is : (w : ℕ) → closest w (2 ^ 11) ≡ w / 2 ^ 11 + (w % 2 ^ 11 + w / 2 ^ 11 % 2 + 1023) / 2 ^ 11

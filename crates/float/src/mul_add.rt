@@ -22,12 +22,24 @@ pub struct Parts {
     pub k: u64,
 }
 
+impl Parts {
+    // The float, of at most 53 digits, and at least those where k is above 0, or of 2^53.
+    pub(crate) fn float(self) -> f64
+        requires { (self.q ≤ 2 ^ 53) × (self.k ≤ 2045) × (0 < self.k → 2 ^ 52 ≤ self.q) }
+        ensures { result ≡ units binary64 self.neg self.q self.k }
+    {
+        // the leading digit adds one to the field, which the place is one less than
+        let sign = if self.neg { 0x8000_0000_0000_0000 } else { 0 };
+        f64::from_bits(sign + (self.k * 0x10_0000_0000_0000 + self.q))
+    }
+}
+
 // The sign, the digits and the place of a finite x.
 pub fn split(x: f64) -> Parts
     requires { T (finite x) }
     ensures { Splits x result.neg result.q result.k }
 {
-    let bits = f64::to_bits(x);
+    let bits = x.to_bits();
     let field = (bits >> 52) & 0x7ff;
     let t = bits & 0xf_ffff_ffff_ffff;
     let neg = 0x8000_0000_0000_0000 <= bits;
@@ -42,19 +54,26 @@ pub fn split(x: f64) -> Parts
     }
 }
 
-// w * 2^(k - 11) units, rounded: w's upper 53 digits, moved up by one where the lower 11 say so. The
-// sum of the place and the digits is the pattern, and the leading digit adds one to the field.
+// w * 2^(k - 11) units, rounded: w's upper 53 digits, moved up by one where the lower 11 say so.
 fn pack(neg: bool, w: u64, k: u64) -> f64
     requires { 0 < k → 2 ^ 63 ≤ w }
     ensures { result ≡ units binary64 neg (closest w (2 ^ 11)) k }
 {
-    let sign = if neg { 0x8000_0000_0000_0000u64 } else { 0 };
     if 2046 <= k {
-        return f64::from_bits(sign + 0x7ff0_0000_0000_0000);
+        return if neg {
+            f64::NEG_INFINITY
+        } else {
+            f64::INFINITY
+        };
     }
     let cut = w >> 11;
     let up = ((w & 0x7ff) + (cut & 1) + 0x3ff) >> 11;
-    f64::from_bits(sign + (k * 0x10_0000_0000_0000 + cut + up))
+    Parts {
+        neg,
+        q: cut + up,
+        k,
+    }
+    .float()
 }
 
 // The shift to the left that brings the highest digit of x to the top, or less where that passes the

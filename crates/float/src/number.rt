@@ -8,13 +8,14 @@ ghost use Rattle.float.specs.Number as Number;
 use crate::remainder::remainder;
 
 // The bits of x. `f64::to_bits` is not defined at a NaN, whose bits are 7FF8000000000000.
+#[tactic(auto, using(crate::proofs::Pattern::nan_pattern))]
 pub fn bits(x: f64) -> u64
     ensures { result ≡ to_bits binary64 x }
 {
-    if x != x {
+    if x.is_nan() {
         return 0x7ff8_0000_0000_0000;
     }
-    f64::to_bits(x)
+    x.to_bits()
 }
 
 // The float of bits: every NaN pattern is the one NaN.
@@ -22,26 +23,25 @@ pub fn of_bits(w: u64) -> f64
     ensures { result ≡ from_bits binary64 w }
 {
     if w % 0x8000_0000_0000_0000 > 0x7ff0_0000_0000_0000 {
-        return 0.0 / 0.0;
+        return f64::NAN;
     }
     f64::from_bits(w)
 }
 
 // Neither infinite nor a NaN.
+#[tactic(auto, using(crate::specs::Laws::Tests::finite_test))]
 pub fn is_finite(x: f64) -> bool
     ensures { result ≡ finite x }
 {
-    x - x == 0.0
+    x.is_finite()
 }
 
 // Whether the sign's bit is clear; it is in the one NaN.
+#[tactic(auto, using(crate::specs::Laws::Tests::sign_test, crate::specs::Laws::Tests::nan_test))]
 pub fn is_sign_positive(x: f64) -> bool
     ensures { result ≡ not (Number.negative x) }
 {
-    if x != x {
-        return true;
-    }
-    f64::to_bits(x) < 0x8000_0000_0000_0000
+    x.is_nan() || x.is_sign_positive()
 }
 
 // The magnitude of x, with no branch: 0 - x is +0.0 at either zero.
@@ -52,6 +52,7 @@ pub fn abs(x: f64) -> f64
 }
 
 // Whether x does not come after y in the order of `total_cmp`.
+#[tactic(auto, unfolding(crate::specs::Number::total_le))]
 pub fn total_le(x: f64, y: f64) -> bool
     ensures { result ≡ Number.total_le x y }
 {
@@ -61,13 +62,11 @@ pub fn total_le(x: f64, y: f64) -> bool
         }
         return true;
     }
-    if x < y {
-        return true;
-    }
-    y != y
+    x < y || y.is_nan()
 }
 
 // The remainder x % m, plus |m| if it is below zero.
+#[tactic(auto, using(crate::specs::Laws::Zero::zero_bits), unfolding(crate::specs::Number::rem_euclid))]
 pub fn rem_euclid(x: f64, m: f64) -> f64
     ensures { result ≡ Number.rem_euclid x m }
 {
@@ -79,45 +78,32 @@ pub fn rem_euclid(x: f64, m: f64) -> f64
 }
 
 // The lesser of two: beside a NaN the other, and of equals the first.
+#[tactic(auto, unfolding(crate::specs::Number::minimum))]
 pub fn minimum(x: f64, y: f64) -> f64
     ensures { result ≡ Number.minimum x y }
 {
-    if x != x {
-        return y;
-    }
-    if y < x {
-        return y;
-    }
-    x
+    if x.is_nan() || y < x { y } else { x }
 }
 
-// The greater of two: beside a NaN the other, and of equals the first.
+// The greater of two: beside a NaN the other, and of equals the first. `minimum` has the comparison
+// turned; one function for both would be no plainer than the two lines.
+#[tactic(auto, unfolding(crate::specs::Number::maximum))]
 pub fn maximum(x: f64, y: f64) -> f64
     ensures { result ≡ Number.maximum x y }
 {
-    if x != x {
-        return y;
-    }
-    if x < y {
-        return y;
-    }
-    x
+    if x.is_nan() || x < y { y } else { x }
 }
 
 // x, or the nearer of -1 and 1 where it is beyond.
+#[tactic(auto, using(crate::specs::Laws::Literals::one_bits), unfolding(crate::specs::Number::clamp))]
 pub fn clamp(x: f64) -> f64
     ensures { result ≡ Number.clamp x }
 {
-    if x < -1.0 {
-        return -1.0;
-    }
-    if x > 1.0 {
-        return 1.0;
-    }
-    x
+    x.clamp(-1.0, 1.0)
 }
 
 // The middle of an interval.
+#[tactic(auto, using(crate::specs::Laws::Literals::two_bits), unfolding(crate::specs::Number::middle))]
 pub fn middle(lo: f64, hi: f64) -> f64
     ensures { result ≡ Number.middle lo hi }
 {
@@ -136,10 +122,10 @@ pub fn floor(x: f64) -> i64
             }
             return whole;
         }
-        return 9223372036854775807;
+        return i64::MAX;
     }
     if x < 0.0 {
-        return -9223372036854775808;
+        return i64::MIN;
     }
     0
 }

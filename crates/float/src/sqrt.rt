@@ -6,7 +6,7 @@ ghost use Rattle.std.specs.Float.Ieee.{units};
 ghost use Rattle.float.specs.Sqrt as Sqrt;
 ghost use Rattle.float.specs.Promises.Parts.{Roots};
 
-use crate::mul_add::split;
+use crate::mul_add::{Parts, split};
 use crate::number::is_finite;
 
 // u * v < m * 2^52.
@@ -124,14 +124,6 @@ pub(crate) fn lift(q: u64) -> u64
     u64::from(q.leading_zeros()) - 11
 }
 
-// q * 2^k units, for a q of 53 digits, or one up.
-fn write(q: u64, k: u64) -> f64
-    requires { (2 ^ 52 ≤ q) × (q ≤ 2 ^ 53) × (k ≤ 2045) }
-    ensures { result ≡ units binary64 false q k }
-{
-    f64::from_bits(k * 0x10_0000_0000_0000 + q)
-}
-
 // The root of m * 2^52 * 4^k, rounded. Mostly it is the guess g, which is returned as soon as it is
 // there, while the tests that it is right are still under way.
 fn nearest_root(g: f64, m: u64, k: u64) -> f64
@@ -144,10 +136,12 @@ fn nearest_root(g: f64, m: u64, k: u64) -> f64
             if d <= q + 0x30_0000_0000_0000 && d + q > 0x30_0000_0000_0000 {
                 return g;
             }
-            return write(beside(m, q, d), k);
+            let q = beside(m, q, d);
+            return Parts { neg: false, q, k }.float();
         }
     }
-    write(root(m), k)
+    let q = root(m);
+    Parts { neg: false, q, k }.float()
 }
 
 // The square root of x, rounded.

@@ -221,11 +221,6 @@ lt_zero s m e = ap (λ (y : Float). lt (fin s m e) y) zero_bits ∙ opened
     opened : lt (fin s m e) (fin false 0 (pos 0)) ≡ below s (m * up e * 1) false (0 * 1 * down e)
     opened = unfold lt in refl
 
--- `f64::NAN`
-pub the_nan : of_bits binary64 0x7ff8_0000_0000_0000 ≡ nan
-unfolding of_bits
-the_nan = refl
-
 pub of_negative : (x : Float) → lt x (of_bits binary64 0) ≡ true → nan ≡ sqrt binary64 x
 of_negative nan h = unfold sqrt in refl
 of_negative (inf true) h = unfold sqrt in refl

@@ -1,11 +1,11 @@
--- The tests of code in the words of the definitions: the sign's bit, `<` and `==` beside the total order, `x != x`, and the parts of a true `&&`.
+-- The tests of code in the words of the definitions: the sign's bit, `<` and `==` beside the total order, `x != x`, std's tests, and the parts of a true `&&`.
 use Rattle.std.specs.Prelude.{◌≡◌, ℕ, zero, suc, ◌+◌, ◌*◌, ◌/◌, ◌%◌, ◌^◌, ◌<◌, Bool, true, false, cond, not, ◌&&◌, ◌||◌, T, ◌==◌, nat_le, nat_lt}
 use Rattle.std.specs.Prelude.{to_bits, refl, Float}
 use Rattle.std.proofs.Common.{sym, ap, subst, ◌∙◌, arith, ne_eqb, ltb→lt}
 use Rattle.std.proofs.Math.Bool.{not-not}
 use Rattle.std.proofs.lemmas.Bool.{false≢true}
 use Rattle.std.proofs.Math.Dec.{eqb_refl}
-use Rattle.std.specs.Float.{nan, inf, fin, Format, binary64}
+use Rattle.std.specs.Float.{nan, inf, fin, Format, binary64, float_is_finite, is_sign_negative}
 use Rattle.std.specs.Float.Ieee.{lt, eq, ne, is_nan, up, down, below, level, fits, prec, emax, low, ones, hid, top, odd, units, round, of_fields, of_bits}
 use Rattle.std.specs.Float.Ieee.Bits.{is_true, of_bits-to_bits}
 use Rattle.std.specs.Float.Ieee.Compare.{differs_from_itself}
@@ -129,6 +129,25 @@ number_of x h = subst (λ (b : Bool). T (not b)) (sym (sym (ne_self x) ∙ h)) t
 
 pub nan_of : (x : Float) → ne x x ≡ true → x ≡ nan
 nan_of x h = differs_from_itself x (subst T (sym h) tt)
+
+-- ---- std's tests
+pub finite_test : (x : Float) → float_is_finite x ≡ finite x
+unfolding float_is_finite
+finite_test nan = refl
+finite_test (inf s) = refl
+finite_test (fin s m e) = refl
+
+pub sign_test : (x : Float) → is_sign_negative x ≡ negative x
+unfolding is_sign_negative
+sign_test nan = refl
+sign_test (inf s) = refl
+sign_test (fin s m e) = refl
+
+pub nan_test : (x : Float) → is_nan x ≡ true → x ≡ nan
+unfolding is_nan
+nan_test nan h = refl
+nan_test (inf s) h = absurd (false≢true h)
+nan_test (fin s m e) h = absurd (false≢true h)
 
 -- ---- the parts of a true `&&`
 pub and_left : (a b : Bool) → (a && b) ≡ true → a ≡ true

@@ -1,6 +1,6 @@
--- `float::remainder::pack` meets its contract: what `write` gives is a value of the format with that many units, and so is what `round` gives.
+-- `float::remainder::pack` meets its contract: what `float` gives is a value of the format with that many units, and so is what `round` gives.
 use Rattle.std.proofs.Common.{◌≡◌, ℕ, ◌+◌, ◌-◌, ◌*◌, ◌%◌, ◌^◌, ◌<◌, ◌≤◌, Bool, sym, ap, ◌∙◌, subst, lt_of_lt_of_le, lt_of_le_of_lt, le_of_lt}
-use Rattle.std.proofs.Common.{lt_irrefl, mul_assoc, mul-le-mul_left, zero-mul, arith, lit<, lit≤, pow_mono, pow-add, shl_lt}
+use Rattle.std.proofs.Common.{min, mul_assoc, mul-le-mul_left, zero-mul, arith, lit<, lit≤, pow_mono, pow-add, shl_lt}
 use lib.Ieee.{binary64, units, round}
 use lib.Ieee.Exact.{units_val}
 use Rattle.float.proofs.Pattern.{units_fits}
@@ -42,24 +42,31 @@ lower r k z h a = lt_of_le_of_lt (mul-le-mul_left r (pow_mono h)) a
 none : (r k : ℕ) → r ≡ 0 → 0 * 2 ^ 0 ≡ r * 2 ^ k
 none r k h = sym (ap (λ (x : ℕ). x * 2 ^ k) h ∙ zero-mul (2 ^ k))
 
-less_itself : (k : ℕ) → k - k ≡ 0
-less_itself k = omega arith
-
 pub returns-then-r-eq0 : goal.returns-then-r-eq0
-returns-then-r-eq0 c = c.write.ensures
+returns-then-r-eq0 c = c.float.ensures
     ∙ units_round c.args.neg 0 0 (lit< tt) (lit≤ tt)
     ∙ ap (λ (x : ℕ). round binary64 c.args.neg x (2 ^ 1074)) (none c.args.r c.args.k c.if-r-eq0.true)
 
-pub returns-then-z-k : goal.returns-then-z-k
-returns-then-z-k c = c.write-then-z-k.ensures
-    ∙ moved c.args.neg c.args.r c.lift-z.result c.args.k c.lift-z.ensures.2 c.requires.1 (omega arith)
+shifted : (r k l z : ℕ) → z ≡ min l k → r * 2 ^ l < 2 ^ 53 → r * 2 ^ z < 2 ^ 53
+shifted r k l z e h = lower r z l (omega arith) h
 
-pub write-requires-2 : goal.write-requires-2
-write-requires-2 c = let h : c.args.r * 2 ^ c.args.k < 2 ^ 53 = lower c.args.r c.args.k c.lift-z.result (omega arith) c.lift-z.ensures.2 in
-    (subst (λ (x : ℕ). x < 2 ^ 53) (sym (whole (c.args.r * 2 ^ c.args.k) h)) h, lit≤ tt, λ z. absurd (lt_irrefl 0 z))
+-- where the place is above 0 still, the shift was the whole of it
+raised : (l k z : ℕ) → z ≡ min l k → 0 < k - z → l ≡ z
+raised l k z e h = omega arith
+
+pub float-requires-2 : goal.float-requires-2
+float-requires-2 c =
+    let r = c.args.r in
+    let z = c.min-z.result in
+    let a : r * 2 ^ z < 2 ^ 53 = shifted r c.args.k c.lift.result z c.min-z.ensures c.lift.ensures.2 in
+    let e = whole (r * 2 ^ z) a in (
+      omega (arith, e),
+      omega (arith, c.requires.1),
+      λ h. subst (λ (n : ℕ). 2 ^ 52 ≤ n) (sym e) (subst (λ (j : ℕ). 2 ^ 52 ≤ r * 2 ^ j) (raised c.lift.result c.args.k z c.min-z.ensures h) c.lift.ensures.1),
+    )
 
 pub returns : goal.returns
-returns c = let h : c.args.r * 2 ^ c.args.k < 2 ^ 53 = lower c.args.r c.args.k c.lift-z.result (omega arith) c.lift-z.ensures.2 in
-    c.write-2.ensures
-    ∙ ap (λ (x : ℕ). units binary64 c.args.neg (c.args.r * 2 ^ c.args.k % 2 ^ 64) x) (sym (less_itself c.args.k))
-    ∙ moved c.args.neg c.args.r c.args.k c.args.k h c.requires.1 (omega arith)
+returns c =
+    let z : c.min-z.result ≤ c.args.k = omega (arith, c.min-z.ensures) in
+    c.float-2.ensures
+    ∙ moved c.args.neg c.args.r c.min-z.result c.args.k (shifted c.args.r c.args.k c.lift.result c.min-z.result c.min-z.ensures c.lift.ensures.2) c.requires.1 z

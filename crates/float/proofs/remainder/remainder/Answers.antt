@@ -1,146 +1,101 @@
 -- `float::remainder::remainder` meets its contract: what needs no division by `Fast`, and the rest in whole numbers by `Reduced`.
-use Rattle.std.proofs.Common.{◌≡◌, ℕ, ◌*◌, ◌^◌, ◌<◌, ◌≤◌, Bool, true, false, not, T, sym, ap, ◌∙◌, subst, lt_trans, mod-lt}
-use lib.Ieee.{Float, binary64, round, neg, sub, lt, fits, of_bits}
+use Rattle.std.proofs.Common.{◌≡◌, ℕ, ◌*◌, ◌^◌, ◌<◌, Bool, true, false, not, T, sym, ap, ◌∙◌, subst, lt_trans, mod-lt, rules}
+use lib.Ieee.{Float, binary64, round, neg, sub, rem, lt, eq, fits, of_bits, is_nan}
 use lib.Ieee.Scale.{finite}
 use Rattle.float.specs.Number.{abs, negative}
-use Rattle.float.specs.Laws.Tests.{number_of, nan_of}
-use Rattle.float.specs.Laws.Zero.{not_finite, is_finite}
-use Rattle.float.specs.Promises.Parts.{Splits}
+use Rattle.float.specs.Laws.Tests.{nan_test}
+use Rattle.float.proofs.Pattern.{the_nan}
 use Rattle.float.proofs.mul_add.Special.{some_digits}
 use Rattle.float.proofs.remainder.Reduced.{rem_digits}
-use Rattle.float.proofs.remainder.Fast.{quotient, first_nan, second_nan, first_not, second_fine, second_zero}
+use Rattle.float.proofs.remainder.Fast.{first_nan, second_nan, first_not, second_fine, second_zero}
 use Rattle.float.proofs.remainder.Fast.{first_less, not_lower, once_positive, once_negative, sign_test}
 use Rattle.float.proofs.remainder.remainder.Goals as goal
-use Rattle.float.proofs.remainder.remainder.Lts as lts
-use Rattle.float.proofs.remainder.remainder.Reads as reads
-use Rattle.float.proofs.remainder.remainder.Tie as tie
-
--- ---- what is known of the operands
-x_held : (c : lts.Start tie.the-claims reads.Pre reads.Post) → T (fits binary64 c.args.x)
-x_held c = subst T (sym c.well_formed.0.1) tt
-
-m_held : (c : lts.Start tie.the-claims reads.Pre reads.Post) → T (fits binary64 c.args.m)
-m_held c = subst T (sym c.well_formed.1.0.1) tt
+use Rattle.float.proofs.remainder.remainder.Goals.{then-is_nan-via-then-is_nan, then-is_nan-via-else-is_nan+then-is_nan-2}
+use Rattle.float.proofs.remainder.remainder.Goals.{then-not-is_finite-via-then-not-is_finite, then-not-is_finite-via-else-not-is_finite+then-m}
 
 -- a test of the two magnitudes, as the code has them
 tested : (u v x y : Float) (b : Bool) → u ≡ x → v ≡ y → lt u v ≡ b → lt x y ≡ b
 tested u v x y b p q h = sym (λ i. lt (p i) (q i)) ∙ h
 
-module _ (c : lts.Else3 tie.the-claims reads.Pre reads.Post) where
-  abbrev mags : lts.After-abs2 tie.the-claims reads.Pre reads.Post
-  mags = c.before
+-- ---- a finite x whose magnitude u is not below the magnitude v of a number m
+module _ (x m u v : Float) (p : u ≡ abs x) (q : v ≡ abs m) (f : T (finite x)) (n : T (not (is_nan m))) (h : lt u v ≡ false) where
+  not_less : lt (abs x) (abs m) ≡ false
+  not_less = tested u v (abs x) (abs m) false p q h
 
-  abbrev numbers : lts.Else2 tie.the-claims reads.Pre reads.Post
-  numbers = mags.before.before
+  m_fine : T (finite m)
+  m_fine = second_fine x m f n not_less
 
-  abbrev s : lts.Start tie.the-claims reads.Pre reads.Post
-  s = numbers.before.before
+  -- and m is no zero: where it goes into x once, what is left is the remainder
+  module _ (F : T (fits binary64 m)) (z : eq m (of_bits binary64 0) ≡ false) (l : lt (sub binary64 u v) v ≡ true) where
+    is : sub binary64 u v ≡ sub binary64 (abs x) (abs m)
+    is = λ i. sub binary64 (p i) (q i)
 
-  not_less : lt (abs s.args.x) (abs s.args.m) ≡ false
-  not_less = tested _ _ _ _ false mags.abs-u.ensures mags.abs-v.ensures c.if-u-v.false
+    small : lt (sub binary64 (abs x) (abs m)) (abs m) ≡ true
+    small = tested (sub binary64 u v) v (sub binary64 (abs x) (abs m)) (abs m) true is q l
 
-module _ (c : lts.Else4 tie.the-claims reads.Pre reads.Post) where
-  x_fine : T (finite (s c.before).args.x)
-  x_fine = is_finite (s c.before).args.x c.if-x-2.false
+    sign : lt x (of_bits binary64 0) ≡ negative x
+    sign = sign_test x m f m_fine z not_less
 
-  m_fine : T (finite (s c.before).args.m)
-  m_fine =
-      second_fine (s c.before).args.x (s c.before).args.m x_fine
-      (number_of (s c.before).args.m (numbers c.before).if-m.false) (not_less c.before)
+    left_negative : lt x (of_bits binary64 0) ≡ true → neg (sub binary64 u v) ≡ rem binary64 x m
+    left_negative s = ap neg is ∙ once_negative x m F f m_fine z not_less small (ap not (sym sign ∙ s))
+
+    left_positive : lt x (of_bits binary64 0) ≡ false → sub binary64 u v ≡ rem binary64 x m
+    left_positive s = is ∙ once_positive x m F f m_fine z not_less small (ap not (sym sign ∙ s))
 
 -- ---- no division
-pub returns-then-x : goal.returns-then-x
-returns-then-x c = let a = c.args in
-    quotient ∙ first_nan a.x a.m (nan_of a.x c.if-x.true)
-
-pub returns-then-m : goal.returns-then-m
-returns-then-m c = let a = c.args in
-    quotient ∙ second_nan a.x a.m (nan_of a.m c.if-m.true)
+pub returns-then-is_nan : goal.returns-then-is_nan
+returns-then-is_nan c = the_nan ∙ elim c.then-is_nan.branch [
+  | then-is_nan-via-then-is_nan w ↦ first_nan c.args.x c.args.m (nan_test c.args.x (search rules))
+  | then-is_nan-via-else-is_nan+then-is_nan-2 w ↦ second_nan c.args.x c.args.m (nan_test c.args.m (search rules))
+]
 
 pub returns-then-u-v : goal.returns-then-u-v
 returns-then-u-v c =
-    let o = c.before.before.before.before.before in
-    first_less o.args.x o.args.m (x_held o) (m_held o) (tested _ _ _ _ true c.abs-u.ensures c.abs-v.ensures c.if-u-v.true)
+    first_less c.args.x c.args.m (search rules) (search rules) (tested _ _ _ _ true c.abs-u.ensures c.abs-v.ensures c.if-u-v.true)
 
-pub returns-then-x-2 : goal.returns-then-x-2
-returns-then-x-2 c = let a = (s c.before).args in
-    quotient ∙ first_not a.x a.m (not_finite a.x c.if-x-2.true)
+pub returns-then-not-is_finite : goal.returns-then-not-is_finite
+returns-then-not-is_finite c =
+    let fine : T (finite c.args.x) → T (finite c.args.m) = λ f.
+    m_fine c.args.x c.args.m _ _ c.abs-u.ensures c.abs-v.ensures f (search rules) c.if-u-v.false in
+    the_nan ∙ elim c.then-not-is_finite.branch [
+      | then-not-is_finite-via-then-not-is_finite w ↦ first_not c.args.x c.args.m (search rules)
+      | then-not-is_finite-via-else-not-is_finite+then-m w ↦
+          let f : T (finite c.args.x) = search rules in second_zero c.args.x c.args.m f (fine f) w.if-m.true
+    ]
 
-pub returns-then-m-2 : goal.returns-then-m-2
-returns-then-m-2 c = let a = (s c.before.before).args in
-    quotient ∙ second_zero a.x a.m (x_fine c.before) (m_fine c.before) c.if-m-2.true
+pub returns-then-x : goal.returns-then-x
+returns-then-x c =
+    left_negative c.args.x c.args.m _ _ c.abs-u.ensures c.abs-v.ensures (search rules) (search rules) c.if-u-v.false (search rules) c.if-m.false
+    c.if-w-v.true c.if-x.true
 
--- the difference, and its test, by the magnitudes
-module _ (c : lts.Then6 tie.the-claims reads.Pre reads.Post) where
-  abbrev e : lts.Else5 tie.the-claims reads.Pre reads.Post
-  e = c.before
-
-  abbrev f : lts.Else4 tie.the-claims reads.Pre reads.Post
-  f = e.before
-
-  abbrev a : lts.Start tie.the-claims reads.Pre reads.Post
-  a = s f.before
-
-  is : sub binary64 (mags f.before).abs-u.result (mags f.before).abs-v.result ≡ sub binary64 (abs a.args.x) (abs a.args.m)
-  is = λ i. sub binary64 ((mags f.before).abs-u.ensures i) ((mags f.before).abs-v.ensures i)
-
-  small : lt (sub binary64 (abs a.args.x) (abs a.args.m)) (abs a.args.m) ≡ true
-  small = tested _ _ _ _ true is (mags f.before).abs-v.ensures c.if-w-v.true
-
-  sign : lt a.args.x (of_bits binary64 0) ≡ negative a.args.x
-  sign = sign_test a.args.x a.args.m (x_fine f) (m_fine f) e.if-m-2.false (not_less f.before)
-
-pub returns-then-x-3 : goal.returns-then-x-3
-returns-then-x-3 c = let g = c.before in ap neg (is g)
-    ∙ once_negative (a g).args.x (a g).args.m (m_held (a g)) (x_fine (f g)) (m_fine (f g)) (e g).if-m-2.false (not_less (f g).before) (small g)
-    (ap not (sym (sign g) ∙ c.if-x-3.true))
-
-pub returns-else-x-3 : goal.returns-else-x-3
-returns-else-x-3 c = let g = c.before in is g
-    ∙ once_positive (a g).args.x (a g).args.m (m_held (a g)) (x_fine (f g)) (m_fine (f g)) (e g).if-m-2.false (not_less (f g).before) (small g)
-    (ap not (sym (sign g) ∙ c.if-x-3.false))
+pub returns-else-x : goal.returns-else-x
+returns-else-x c =
+    left_positive c.args.x c.args.m _ _ c.abs-u.ensures c.abs-v.ensures (search rules) (search rules) c.if-u-v.false (search rules) c.if-m.false
+    c.if-w-v.true c.if-x.false
 
 -- ---- in whole numbers
-pub split-a-requires : goal.split-a-requires
-split-a-requires c = x_fine c.before.before
-
 pub split-b-requires : goal.split-b-requires
-split-b-requires c = m_fine c.before.before.before
-
-module _ (c : lts.After-split2 tie.the-claims reads.Pre reads.Post) where
-  abbrev p : goal.After-split-a
-  p = c.before
-
-  abbrev z : lts.Else5 tie.the-claims reads.Pre reads.Post
-  z = p.before.before
-
-  abbrev o : lts.Start tie.the-claims reads.Pre reads.Post
-  o = s z.before.before
-
-  X : Splits o.args.x p.split-a.result.neg p.split-a.result.q p.split-a.result.k
-  X = p.split-a.ensures
-
-  M : Splits o.args.m c.split-b.result.neg c.split-b.result.q c.split-b.result.k
-  M = c.split-b.ensures
-
-  some : 0 < c.split-b.result.q
-  some = some_digits o.args.m _ _ _ M z.if-m-2.false
-
-  places : c.split-b.result.k ≤ p.split-a.result.k
-  places = not_lower o.args.x o.args.m _ _ _ _ _ _ X M (not_less z.before.before)
+split-b-requires c = m_fine c.args.x c.args.m _ _ c.abs-u.ensures c.abs-v.ensures (search rules) (search rules) c.if-u-v.false
 
 pub overflow_sub-a : goal.overflow_sub-a
-overflow_sub-a c = places c.before.before
+overflow_sub-a c =
+    not_lower c.args.x c.args.m _ _ _ _ _ _ c.split-a.ensures c.split-b.ensures
+    (tested _ _ _ _ false c.abs-u.ensures c.abs-v.ensures c.if-u-v.false)
 
 pub reduce-requires : goal.reduce-requires
-reduce-requires c = let g = c.before.before in ((X g).short, some g, (M g).short)
+reduce-requires c =
+    (c.split-a.ensures.short, some_digits c.args.m _ _ _ c.split-b.ensures c.if-m.false, c.split-b.ensures.short)
 
 pub pack-requires : goal.pack-requires
-pack-requires c = let g = c.before.before.before in
-    (subst (λ (r : ℕ). r < 2 ^ 53) (sym c.reduce.ensures) (lt_trans (mod-lt _ (some g)) (M g).short), (M g).place)
+pack-requires c =
+    let some = some_digits c.args.m _ _ _ c.split-b.ensures c.if-m.false in
+    (subst (λ (r : ℕ). r < 2 ^ 53) (sym c.reduce.ensures) (lt_trans (mod-lt _ some) c.split-b.ensures.short), c.split-b.ensures.place)
 
 pub returns : goal.returns
-returns c = let g = c.before.before.before.before in let a = (o g).args in
+returns c =
     c.pack.ensures
-    ∙ ap (λ (n : ℕ). round binary64 (p g).split-a.result.neg (n * 2 ^ g.split-b.result.k) (2 ^ 1074)) c.reduce.ensures
-    ∙ rem_digits a.x a.m _ _ _ _ _ _ (x_held (o g)) (X g) (M g) (some g) (places g)
+    ∙ ap (λ (n : ℕ). round binary64 c.split-a.result.neg (n * 2 ^ c.split-b.result.k) (2 ^ 1074)) c.reduce.ensures
+    ∙ rem_digits c.args.x c.args.m _ _ _ _ _ _ (search rules) c.split-a.ensures c.split-b.ensures
+    (some_digits c.args.m _ _ _ c.split-b.ensures c.if-m.false)
+    (not_lower c.args.x c.args.m _ _ _ _ _ _ c.split-a.ensures c.split-b.ensures
+    (tested _ _ _ _ false c.abs-u.ensures c.abs-v.ensures c.if-u-v.false))

@@ -19,7 +19,7 @@ returns-then-d-q-gt13510798882111488 c =
     (same c.args.m c.in-Some.d q (full (to_bits binary64 g) q c.digits-q.ensures) d.2 c.if-d-q.true c.if-d-q-gt13510798882111488.true) c.args.k
 
 pub returns-in-Some : goal.returns-in-Some
-returns-in-Some c = c.write.ensures ∙ nearest_root c.args.m c.beside.result c.requires.0 c.requires.1 c.beside.ensures c.args.k
+returns-in-Some c = c.float.ensures ∙ nearest_root c.args.m c.beside-q.result c.requires.0 c.requires.1 c.beside-q.ensures c.args.k
 
 pub returns : goal.returns
-returns c = c.write-2.ensures ∙ nearest_root c.args.m c.root.result c.requires.0 c.requires.1 c.root.ensures c.args.k
+returns c = c.float-2.ensures ∙ nearest_root c.args.m c.root-q.result c.requires.0 c.requires.1 c.root-q.ensures c.args.k

@@ -5,8 +5,9 @@ use lib.Ieee.{Float, binary64, is_nan, lt, eq, of_bits}
 use Rattle.float.specs.Sqrt.{sqrt, root_of}
 use Rattle.float.specs.Promises.Parts.{Splits}
 use Rattle.float.proofs.mul_add.Special.{some_digits}
+use Rattle.float.proofs.Pattern.{the_nan}
 use Rattle.float.proofs.sqrt.Guessed.{no_sign_bit}
-use Rattle.float.proofs.sqrt.Rooted.{sqrt_at, evenly, oddly, of_nan, of_zero, the_nan, of_negative, of_infinite, no_sign}
+use Rattle.float.proofs.sqrt.Rooted.{sqrt_at, evenly, oddly, of_nan, of_zero, of_negative, of_infinite, no_sign}
 use Rattle.float.proofs.sqrt.sqrt.Goals as goal
 use Rattle.float.proofs.sqrt.sqrt.Goals.{else-t-eq0, then-t-eq0, then-is_nan-via-then-is_nan, then-is_nan-via-else-is_nan+then-x}
 
