@@ -30,11 +30,11 @@ fn words(s: &[u8], at: usize) -> Option<usize>
     if s.len() - at < 36 {
         return None;
     }
-    let stored = held(word(s, at + 19), 8192)?;
+    let stored = held(word(s, at + 19), 8192).unwrap_or(8193);
     line(s, at, stored + 2)
 }
 
-// The input of the line of k words at `at`; none where its size is too large.
+// The input of the line of k words at `at`; one byte more than Check looks at stands for any more.
 fn case(rt: &HostRuntime, s: &[u8], at: usize, k: usize)
     requires { (2 ≤ k) × (at + 17 * k + 2 ≤ length s.now) }
 {
@@ -42,11 +42,10 @@ fn case(rt: &HostRuntime, s: &[u8], at: usize, k: usize)
     if 65537 < stored {
         return;
     }
-    if let Some(size) = held(word(s, at + 2), 65537) {
-        let mut input = [0u8; 65537];
-        bytes(s, at + 36, k - 2, stored, &mut input);
-        print(rt, &input[..size]);
-    }
+    let size = held(word(s, at + 2), 65536).unwrap_or(65537);
+    let mut input = [0u8; 65537];
+    bytes(s, at + 36, k - 2, stored, &mut input);
+    print(rt, &input[..size]);
 }
 
 fn cases(rt: &HostRuntime, s: &[u8]) {
