@@ -1,5 +1,6 @@
 -- The operation Roots (01; 02, change 1): its refusals in order, its answer, and both lent slices afterwards. Definitions only.
-use Rattle.std.specs.Prelude.{ℕ, ◌%◌, Bool, true, false, ◌&&◌, ◌||◌, cond, List, [], ◌∷◌, ◌++◌, ℤ, pos, neg_ℤ, ltb, leb, eqb, length, drop, Float, Result, Ok, Err}
+use Rattle.std.specs.Prelude.{ℕ, ◌%◌, Bool, true, false, ◌&&◌, ◌||◌, cond, List, [], ◌∷◌, ◌++◌, ℤ, pos, neg_ℤ, ltb, leb, eqb, length, drop, Float}
+use Rattle.std.specs.Prelude.{Result, Ok, Err}
 use Rattle.std.specs.Float.{fin}
 use Rattle.std.specs.Float.Ieee.{le}
 use Rattle.float.specs.Number.{abs}

@@ -1,5 +1,6 @@
 -- The request (01, "Request and sheet"): where its fields stand, which of them are read, and the request with every unread field zero. Definitions only.
-use Rattle.std.specs.Prelude.{ℕ, suc, ◌+◌, ◌-◌, ◌*◌, ◌/◌, ◌≤◌, ◌≡◌, List, [], ◌∷◌, Bool, true, false, cond, ◌&&◌, length, get_or, T, eqb, ltb, Option, Some, None}
+use Rattle.std.specs.Prelude.{ℕ, suc, ◌+◌, ◌-◌, ◌*◌, ◌/◌, ◌≤◌, ◌≡◌, List, [], ◌∷◌, Bool, true, false, cond, ◌&&◌, length, get_or, T, eqb, ltb}
+use Rattle.std.specs.Prelude.{Option, Some, None}
 use Rattle.sampling.specs.Reads.{joint_read, reference_read, arm_read}
 use Rattle.sampling.specs.declared.job.Kind.{Kind}
 use Rattle.sampling.specs.declared.job.Kind.TheVariants.{J1free, J2free, J1j2free}

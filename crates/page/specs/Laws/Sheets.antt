@@ -1,6 +1,7 @@
 -- What is known of a checked sheet: its n and where its name stands; how long its pages are, that they are lines of 64 characters, and that every angle on
 -- them shows its digits.
-use Rattle.std.specs.Prelude.{ℕ, suc, ◌+◌, ◌*◌, ◌-◌, ◌≤◌, ◌≡◌, refl, Bool, true, false, cond, List, [], ◌∷◌, map, eqb, leb, pos, length, take, drop, Float, Option}
+use Rattle.std.specs.Prelude.{ℕ, suc, ◌+◌, ◌*◌, ◌-◌, ◌≤◌, ◌≡◌, refl, Bool, true, false, cond, List, [], ◌∷◌, map, eqb, leb, pos, length, take, drop, Float}
+use Rattle.std.specs.Prelude.{Option}
 use Rattle.std.proofs.Common.{arith, sym, ◌∙◌, length-take, length-drop, drop_at, drop-drop, take-add, length-take-le, leb-true}
 use Rattle.std.proofs.Math.Path.{ap}
 use Rattle.std.specs.Float.{fin, binary64}

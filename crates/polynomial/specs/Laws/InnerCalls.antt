@@ -50,7 +50,8 @@ unfolding parts_hold le
 sizes_hold [] h = refl
 sizes_hold (x ∷ l) h = ap₂ ◌&&◌ (yes (part_holds x) (or_l (lt (abs x) largest_part) (eq (abs x) largest_part) h.0)) (sizes_hold l h.1)
 
-by_tests : (a b c : Bool) (n : ℕ) → a ≡ true → b ≡ true → c ≡ true → counts (cond a (cond b (cond (c && c) (Ok n) (Err ShortResult)) (Err BadPart)) (Err BadBounds)) ≡ true
+by_tests : (a b c : Bool) (n : ℕ) → a ≡ true → b ≡ true → c ≡ true
+    → counts (cond a (cond b (cond (c && c) (Ok n) (Err ShortResult)) (Err BadPart)) (Err BadBounds)) ≡ true
 by_tests a b c n x y z = rw (x, y, z)
 
 -- THEOREM: Roots, lent 509 places of each slice, answers a fair call with a count.

@@ -13,7 +13,8 @@ use Rattle.lemongully.proofs.of_page.Room.{decimal_fits}
 use Rattle.lemongully.proofs.of_page.page_decimal.Goals as goal
 
 pub signed_number-requires : goal.signed_number-requires
-signed_number-requires c = small _ (λ n e. omega (arith, decimal_fits (length c.args.text.now) n c.decimal_text.ensures.result_value (ap answer_of e), c.well_formed))
+signed_number-requires c = small _ (λ n e.
+    omega (arith, decimal_fits (length c.args.text.now) n c.decimal_text.ensures.result_value (ap answer_of e), c.well_formed))
 
 pub returns : goal.returns
 returns c = let t = c.args.text.now in

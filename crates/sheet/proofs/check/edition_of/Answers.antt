@@ -7,4 +7,6 @@ use Rattle.sheet.proofs.check.edition_of.Goals as goal
 
 pub returns : goal.returns
 returns c = let s = c.args.sheet.now in
-    c.known.ensures ∙ ap (known newest) (c.from_le_bytes.ensures ∙ number_part 1 s (length s - 16 + 8) c.bytes_at.result (omega arith) c.bytes_at.ensures ∙ edition_at s c.requires)
+    c.known.ensures
+    ∙ ap (known newest)
+    (c.from_le_bytes.ensures ∙ number_part 1 s (length s - 16 + 8) c.bytes_at.result (omega arith) c.bytes_at.ensures ∙ edition_at s c.requires)

@@ -5,4 +5,5 @@ use Rattle.sheet.proofs.request.put_fields.Given as goal
 
 abbrev pub invariant-loop-k : goal.invariant-loop-k
 invariant-loop-k l = (2 ≤ l.k) × (l.k ≤ 37) × (length l.out ≡ length l.initial.out)
-    × (sets l.out (l.at + 8 * l.k) (blank_from l.s (8 * l.k) (drop (8 * l.k) l.request)) ≡ sets l.initial.out (l.at + 16) (blank_from l.s 16 (drop 16 l.request)))
+    × (sets l.out (l.at + 8 * l.k) (blank_from l.s (8 * l.k) (drop (8 * l.k) l.request))
+    ≡ sets l.initial.out (l.at + 16) (blank_from l.s 16 (drop 16 l.request)))
