@@ -1,13 +1,13 @@
 // Crossings that are deferred and worked out later, two at a time: what is worked out of one
 // does not wait for the other.
-ghost use Rattle.std.specs.Prelude.{◌≡◌, [], ◌∷◌, ◌++◌, ◌+◌, ◌≤◌, length, take, drop};
+ghost use Rattle.std.specs.Prelude.{◌≡◌, ◌++◌, ◌+◌, ◌≤◌, length, take, drop};
 ghost use Rattle.sampling.specs.Continuum as Continuum;
 ghost use Rattle.sampling.specs.Promises.Pushed.{Pushed};
 ghost use Rattle.sampling.specs.Promises.Deferred as Of;
 
 use crate::continuum::Trig;
 use crate::push::push;
-use float::arc::{Four, acos, atan2, atan2_four, other_side};
+use float::arc::{acos, atan2, atan2_four, other_side};
 use float::number::clamp;
 use float::trig::hypot;
 use polynomial::angle::wrapped_angle;
@@ -50,39 +50,29 @@ fn pending_at(deferred: &[f64], i: usize) -> Pending
 }
 
 // The four angles of two deferred crossings.
-fn angles_of_two(p: Pending, q: Pending) -> Four
-    ensures { result.a ∷ (result.b ∷ (result.c ∷ (result.d ∷ []))) ≡ Of.all_angles_of (Of.listed p ++ Of.listed q) }
+fn angles_of_two(p: Pending, q: Pending) -> [f64; 4]
+    ensures { result ≡ Of.all_angles_of (Of.listed p ++ Of.listed q) }
 {
-    let y = Four {
-        a: p.sine,
-        b: other_side(p.ratio),
-        c: q.sine,
-        d: other_side(q.ratio),
-    };
-    let x = Four {
-        a: p.cosine,
-        b: p.ratio,
-        c: q.cosine,
-        d: q.ratio,
-    };
-    let v = atan2_four(y, x);
-    Four {
-        a: wrapped_angle(v.a - v.b),
-        b: wrapped_angle(v.a + v.b),
-        c: wrapped_angle(v.c - v.d),
-        d: wrapped_angle(v.c + v.d),
-    }
+    let y = [p.sine, other_side(p.ratio), q.sine, other_side(q.ratio)];
+    let x = [p.cosine, p.ratio, q.cosine, q.ratio];
+    let [a, b, c, d] = atan2_four(y, x);
+    [
+        wrapped_angle(a - b),
+        wrapped_angle(a + b),
+        wrapped_angle(c - d),
+        wrapped_angle(c + d),
+    ]
 }
 
 fn push_two(p: Pending, q: Pending, out: &mut [f64], n: usize) -> usize
     requires { n + 4 ≤ length out.old }
     ensures { Pushed 4 (Of.all_angles_of (Of.listed p ++ Of.listed q)) n out.old result out.new }
 {
-    let v = angles_of_two(p, q);
-    let n1 = push(v.a, out, n);
-    let n2 = push(v.b, out, n1);
-    let n3 = push(v.c, out, n2);
-    push(v.d, out, n3)
+    let [a, b, c, d] = angles_of_two(p, q);
+    let n1 = push(a, out, n);
+    let n2 = push(b, out, n1);
+    let n3 = push(c, out, n2);
+    push(d, out, n3)
 }
 
 fn push_one(p: Pending, out: &mut [f64], n: usize) -> usize
