@@ -37,12 +37,14 @@ pub combine-requires-else-fc-fp : goal.combine-requires-else-fc-fp
 combine-requires-else-fc-fp c =
     let g = low_orders c.args.a c.args.b c.args.c _ _ _ _ _ _ _ _ _ c.split-pa.ensures c.split-pb.ensures c.split-pc.ensures
     (some_digits _ _ _ _ c.split-pa.ensures c.if-a.false) (some_digits _ _ _ _ c.split-pb.ensures c.if-b.false)
-    c.from.result c.from-2.result c.from-h.result c.from.ensures c.from-2.ensures c.from-h.ensures c.jam-else-fc-fp.result c.if-fc-fp.false c.jam-else-fc-fp.ensures in
+    c.from.result c.from-2.result c.from-h.result c.from.ensures c.from-2.ensures c.from-h.ensures c.jam-else-fc-fp.result
+    c.if-fc-fp.false c.jam-else-fc-fp.ensures in
     (g.some, g.room)
 
 pub returns-else-fc-fp : goal.returns-else-fc-fp
 returns-else-fc-fp c =
     let g = low_orders c.args.a c.args.b c.args.c _ _ _ _ _ _ _ _ _ c.split-pa.ensures c.split-pb.ensures c.split-pc.ensures
     (some_digits _ _ _ _ c.split-pa.ensures c.if-a.false) (some_digits _ _ _ _ c.split-pb.ensures c.if-b.false)
-    c.from.result c.from-2.result c.from-h.result c.from.ensures c.from-2.ensures c.from-h.ensures c.jam-else-fc-fp.result c.if-fc-fp.false c.jam-else-fc-fp.ensures in
+    c.from.result c.from-2.result c.from-h.result c.from.ensures c.from-2.ensures c.from-h.ensures c.jam-else-fc-fp.result
+    c.if-fc-fp.false c.jam-else-fc-fp.ensures in
     g.ends c.combine-else-fc-fp.result c.combine-else-fc-fp.ensures

@@ -13,7 +13,8 @@ kept_is w =
     ∙ ap (λ (x : ℕ). w / 2 ^ 11 + (w % 2 ^ 11 + x + 1023) / 2 ^ 11) (and_mask (w / 2 ^ 11) 1)
     ∙ sym (closest_is w)
 
-infinite : (s : Bool) (w k : ℕ) → w < 2 ^ 64 → (0 < k → 2 ^ 63 ≤ w) → 2046 ≤ k → of_bits binary64 (sign s + 2047 * 2 ^ 52) ≡ units binary64 s (closest w (2 ^ 11)) k
+infinite : (s : Bool) (w k : ℕ) → w < 2 ^ 64 → (0 < k → 2 ^ 63 ≤ w) → 2046 ≤ k
+    → of_bits binary64 (sign s + 2047 * 2 ^ 52) ≡ units binary64 s (closest w (2 ^ 11)) k
 infinite s w k W full h = overflows s (closest w (2 ^ 11)) k (closest_le w W) (closest_ge w (full (omega arith))) h
 
 pub returns-then-neg : goal.returns-then-neg

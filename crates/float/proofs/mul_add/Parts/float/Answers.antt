@@ -13,7 +13,8 @@ sign_is c =
 pub float_from_bits-result : goal.float_from_bits-result
 float_from_bits-result c =
     let n = c.args.self.k * 2 ^ 52 + c.args.self.q in
-    subst (λ (x : ℕ). T (not (nan_bits binary64 (x + n)))) (sym (sign_is c.before.before.before)) (no_nan c.args.self.neg n (omega (arith, c.requires.0, c.requires.1)))
+    subst (λ (x : ℕ). T (not (nan_bits binary64 (x + n)))) (sym (sign_is c.before.before.before))
+    (no_nan c.args.self.neg n (omega (arith, c.requires.0, c.requires.1)))
 
 pub returns : goal.returns
 returns c =
