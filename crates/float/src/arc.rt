@@ -1,12 +1,12 @@
 // Arctangent and its kin, document 01's module 2.
-ghost use Rattle.std.specs.Prelude.{◌≡◌, true};
-ghost use Rattle.float.specs.Number.{◌⊘◌};
+ghost use Rattle.std.specs.Prelude.{◌≡◌, map};
 ghost use Rattle.float.specs.Trig as Trig;
-ghost use Rattle.float.specs.Promises.Four as Of;
+ghost use Rattle.float.specs.Promises.Beside as Of;
 
 use crate::number::{abs, is_sign_positive};
 use crate::sqrt::sqrt;
 use crate::trig::P;
+use std::array::from_fn;
 
 // a / (1 + sqrt(1 + a * a)): the tangent of half the angle.
 fn half_angle(a: f64) -> f64
@@ -54,10 +54,10 @@ fn reduced(x: f64) -> f64
     a
 }
 
-// The arctangent of x from that of the reduced x.
+// The arctangent of x from v, that of the reduced x.
+#[tactic(auto, using(crate::proofs::arc::Sides::literals), unfolding(crate::specs::Promises::Beside::restored))]
 fn restored(x: f64, v: f64) -> f64
-    requires { v ≡ Trig.atan_value (Trig.half_angle (Trig.half_angle (Trig.atan_start x))) }
-    ensures { result ≡ Trig.atan x }
+    ensures { result ≡ Of.restored x v }
 {
     if abs(x) > 1.0 {
         return copysign(P / 2.0 - v, x);
@@ -65,30 +65,32 @@ fn restored(x: f64, v: f64) -> f64
     copysign(v, x)
 }
 
+#[tactic(auto, unfolding(crate::specs::Trig::atan, crate::specs::Promises::Beside::restored))]
 pub fn atan(x: f64) -> f64
     ensures { result ≡ Trig.atan x }
 {
     restored(x, atan_value(half_angle(half_angle(reduced(x)))))
 }
 
-// The angle of the point (x, y).
-pub fn atan2(y: f64, x: f64) -> f64
-    ensures { result ≡ Trig.atan2 y x }
+// The angle of the point (x, y), from v, the arctangent of y / x.
+#[tactic(auto, using(crate::proofs::arc::Sides::literals), unfolding(crate::specs::Promises::Beside::placed))]
+fn placed(y: f64, x: f64, v: f64) -> f64
+    ensures { result ≡ Of.placed y x v }
 {
-    if y != y {
+    if y.is_nan() {
         return y;
     }
-    if x != x {
+    if x.is_nan() {
         return x;
     }
     if x > 0.0 {
-        return atan(y / x);
+        return v;
     }
     if x < 0.0 {
         if y >= 0.0 {
-            return atan(y / x) + P;
+            return v + P;
         }
-        return atan(y / x) - P;
+        return v - P;
     }
     if y > 0.0 {
         return P / 2.0;
@@ -97,6 +99,14 @@ pub fn atan2(y: f64, x: f64) -> f64
         return -(P / 2.0);
     }
     0.0
+}
+
+// The angle of the point (x, y).
+#[tactic(auto, unfolding(crate::specs::Trig::atan2, crate::specs::Promises::Beside::placed))]
+pub fn atan2(y: f64, x: f64) -> f64
+    ensures { result ≡ Trig.atan2 y x }
+{
+    placed(y, x, atan(y / x))
 }
 
 // The sine of an angle from 0 to P whose cosine is x.
@@ -118,102 +128,22 @@ pub fn asin(x: f64) -> f64
     atan2(x, other_side(x))
 }
 
-// Four numbers side by side. What is worked out of one does not wait for the others, and so four take
-// little longer than one.
-#[derive(Clone, Copy)]
-pub struct Four {
-    pub a: f64,
-    pub b: f64,
-    pub c: f64,
-    pub d: f64,
-}
-
-fn half_angle_four(p: Four) -> Four
-    ensures { result ≡ Of.each Trig.half_angle p }
+// The arctangents of four numbers. What is worked out of one does not wait for the others, and so four
+// take little longer than one.
+fn atan_four(x: [f64; 4]) -> [f64; 4]
+    ensures { result ≡ map Trig.atan x }
 {
-    Four {
-        a: half_angle(p.a),
-        b: half_angle(p.b),
-        c: half_angle(p.c),
-        d: half_angle(p.d),
-    }
-}
-
-fn reduced_four(x: Four) -> Four
-    ensures { result ≡ Of.each Trig.atan_start x }
-{
-    Four {
-        a: reduced(x.a),
-        b: reduced(x.b),
-        c: reduced(x.c),
-        d: reduced(x.d),
-    }
-}
-
-fn atan_four(x: Four) -> Four
-    ensures { result ≡ Of.each Trig.atan x }
-{
-    let h = half_angle_four(half_angle_four(reduced_four(x)));
-    Four {
-        a: restored(x.a, atan_value(h.a)),
-        b: restored(x.b, atan_value(h.b)),
-        c: restored(x.c, atan_value(h.c)),
-        d: restored(x.d, atan_value(h.d)),
-    }
-}
-
-// Whether the angle of the point (x, y) is made of the arctangent of y / x.
-fn plain(y: f64, x: f64) -> bool
-    ensures { result ≡ Of.plain y x }
-{
-    (y == y) & ((x > 0.0) | (x < 0.0))
-}
-
-// The angle of the point (x, y), where it is made of v, the arctangent of y / x.
-fn placed(y: f64, x: f64, v: f64) -> f64
-    requires x_value { Of.plain y x ≡ true }
-    requires v_value { v ≡ Trig.atan (y ⊘ x) }
-    ensures { result ≡ Trig.atan2 y x }
-{
-    if x > 0.0 {
-        return v;
-    }
-    if y >= 0.0 {
-        return v + P;
-    }
-    v - P
-}
-
-// The angles of four points, each made of the arctangent of y / x.
-fn placed_four(y: Four, x: Four) -> Four
-    requires { Of.all_plain y x ≡ true }
-    ensures { result ≡ Of.beside Trig.atan2 y x }
-{
-    let v = atan_four(Four {
-        a: y.a / x.a,
-        b: y.b / x.b,
-        c: y.c / x.c,
-        d: y.d / x.d,
-    });
-    Four {
-        a: placed(y.a, x.a, v.a),
-        b: placed(y.b, x.b, v.b),
-        c: placed(y.c, x.c, v.c),
-        d: placed(y.d, x.d, v.d),
-    }
+    let a: [f64; 4] = from_fn(|i| reduced(x[i]));
+    let b: [f64; 4] = from_fn(|i| half_angle(a[i]));
+    let c: [f64; 4] = from_fn(|i| half_angle(b[i]));
+    from_fn(|i| restored(x[i], atan_value(c[i])))
 }
 
 // The angles of four points.
-pub fn atan2_four(y: Four, x: Four) -> Four
+pub fn atan2_four(y: [f64; 4], x: [f64; 4]) -> [f64; 4]
     ensures { result ≡ Of.beside Trig.atan2 y x }
 {
-    if plain(y.a, x.a) & plain(y.b, x.b) & (plain(y.c, x.c) & plain(y.d, x.d)) {
-        return placed_four(y, x);
-    }
-    Four {
-        a: atan2(y.a, x.a),
-        b: atan2(y.b, x.b),
-        c: atan2(y.c, x.c),
-        d: atan2(y.d, x.d),
-    }
+    let slopes: [f64; 4] = from_fn(|i| y[i] / x[i]);
+    let v = atan_four(slopes);
+    from_fn(|i| placed(y[i], x[i], v[i]))
 }

@@ -9,7 +9,7 @@ ghost use Rattle.sampling.specs.Promises.Deferred as Of;
 use crate::angles::Angles;
 use crate::continuum::Trig;
 use arrayvec::ArrayVec;
-use float::arc::{Four, acos, atan2, atan2_four, other_side};
+use float::arc::{acos, atan2, atan2_four, other_side};
 use float::number::clamp;
 use float::trig::hypot;
 use polynomial::angle::wrapped_angle;
@@ -58,24 +58,14 @@ fn angles_of_one(p: Pending) -> [f64; 2]
 fn angles_of_two(p: Pending, q: Pending) -> [f64; 4]
     ensures { result ≡ Of.angles_of p ++ Of.angles_of q }
 {
-    let y = Four {
-        a: p.sine,
-        b: other_side(p.ratio),
-        c: q.sine,
-        d: other_side(q.ratio),
-    };
-    let x = Four {
-        a: p.cosine,
-        b: p.ratio,
-        c: q.cosine,
-        d: q.ratio,
-    };
-    let v = atan2_four(y, x);
+    let y = [p.sine, other_side(p.ratio), q.sine, other_side(q.ratio)];
+    let x = [p.cosine, p.ratio, q.cosine, q.ratio];
+    let [a, b, c, d] = atan2_four(y, x);
     [
-        wrapped_angle(v.a - v.b),
-        wrapped_angle(v.a + v.b),
-        wrapped_angle(v.c - v.d),
-        wrapped_angle(v.c + v.d),
+        wrapped_angle(a - b),
+        wrapped_angle(a + b),
+        wrapped_angle(c - d),
+        wrapped_angle(c + d),
     ]
 }
 
