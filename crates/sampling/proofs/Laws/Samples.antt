@@ -1,30 +1,61 @@
 -- Laws of a free joint's samples: angles and roots one by one, and which sample stands at which position.
-use Rattle.std.specs.Prelude.{ℕ, zero, suc, ◌+◌, ◌-◌, ◌*◌, ◌<◌, ◌≤◌, ◌≡◌, refl, List, [], ◌∷◌, ◌++◌, Float}
-use Rattle.std.proofs.Common.{add-one, arith, ◌∙◌}
+use Rattle.std.specs.Prelude.{ℕ, zero, suc, ◌+◌, ◌-◌, ◌*◌, ◌<◌, ◌≤◌, ◌≡◌, refl, List, [], ◌∷◌, ◌++◌, take, Float}
+use Rattle.std.proofs.Common.{add-one, arith, sym, ◌∙◌, append_assoc, append-nil, take-suc}
 use Rattle.std.proofs.Math.Path.{ap}
 use Rattle.std.proofs.Math.ListN.{length, drop, drop_of_length-le, get_or, length-append, get_or-append, get_or-eq_default}
-use Rattle.std.proofs.Math.Seq.{drop-cons, get_or-append-add}
+use Rattle.std.proofs.Math.Seq.{slice, slice-cons, slice_empty, drop-cons, get_or-append-add}
 use Rattle.std.specs.Float.Ieee.{nan}
 use Rattle.sampling.specs.Samples.{copies, all_copies, windings, all_windings, between, all_between, samples, sample_count, three_samples}
 
 -- ---- angles and roots, one more
 
 module _ (lower upper : Float) (l : List Float) (i : ℕ) where
-  pub copies_next : i < length l → all_copies lower upper (drop i l) ≡ copies lower upper (get_or l i nan) ++ all_copies lower upper (drop (i + 1) l)
+  pub copies_left : i < length l → all_copies lower upper (drop i l) ≡ copies lower upper (get_or l i nan) ++ all_copies lower upper (drop (i + 1) l)
   unfolding all_copies
-  copies_next h = rw (add-one, drop-cons l i nan h)
+  copies_left h = rw (add-one, drop-cons l i nan h)
 
-  pub copies_end : length l ≤ i → all_copies lower upper (drop i l) ≡ []
+  pub copies_none : length l ≤ i → all_copies lower upper (drop i l) ≡ []
   unfolding all_copies
-  copies_end h = rw (drop_of_length-le l h)
+  copies_none h = rw (drop_of_length-le l h)
 
-  pub windings_next : i < length l → all_windings lower upper (drop i l) ≡ windings lower upper (get_or l i nan) ++ all_windings lower upper (drop (i + 1) l)
+  pub windings_left : i < length l → all_windings lower upper (drop i l) ≡ windings lower upper (get_or l i nan) ++ all_windings lower upper (drop (i + 1) l)
   unfolding all_windings
-  windings_next h = rw (add-one, drop-cons l i nan h)
+  windings_left h = rw (add-one, drop-cons l i nan h)
 
-  pub windings_end : length l ≤ i → all_windings lower upper (drop i l) ≡ []
+  pub windings_none : length l ≤ i → all_windings lower upper (drop i l) ≡ []
   unfolding all_windings
-  windings_end h = rw (drop_of_length-le l h)
+  windings_none h = rw (drop_of_length-le l h)
+
+-- ---- the same of the angles between two places, and of the first roots
+
+module _ (lower upper : Float) (l : List Float) (i n : ℕ) where
+  pub copies_next : i < n → n ≤ length l → all_copies lower upper (slice i n l) ≡ copies lower upper (get_or l i nan) ++ all_copies lower upper
+      (slice (i + 1) n l)
+  unfolding all_copies
+  copies_next h b = rw (add-one, slice-cons i n l nan h b)
+
+  pub copies_end : i ≡ n → all_copies lower upper (slice i n l) ≡ []
+  unfolding all_copies
+  copies_end e = rw (e, slice_empty n l)
+
+windings_append : (lower upper : Float) (l m : List Float) → all_windings lower upper (l ++ m) ≡ all_windings lower upper l ++ all_windings lower upper m
+unfolding all_windings
+windings_append lower upper [] m = refl
+windings_append lower upper (x ∷ l) m =
+    ap (λ (z : List Float). windings lower upper x ++ z) (windings_append lower upper l m)
+    ∙ sym (append_assoc (windings lower upper x) (all_windings lower upper l) (all_windings lower upper m))
+
+single : (lower upper root : Float) → windings lower upper root ≡ all_windings lower upper (root ∷ [])
+unfolding all_windings
+single lower upper root = sym (append-nil (windings lower upper root))
+
+-- one more root
+pub windings_more : (lower upper : Float) (l : List Float) (i : ℕ) → i < length l
+    → all_windings lower upper (take i l) ++ windings lower upper (get_or l i nan) ≡ all_windings lower upper (take (i + 1) l)
+windings_more lower upper l i h =
+    ap (λ (z : List Float). all_windings lower upper (take i l) ++ z) (single lower upper (get_or l i nan))
+    ∙ sym (windings_append lower upper (take i l) (get_or l i nan ∷ []))
+    ∙ ap (all_windings lower upper) (rw add-one (sym (take-suc l i nan h)))
 
 -- ---- samples
 

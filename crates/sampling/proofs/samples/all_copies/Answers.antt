@@ -2,7 +2,7 @@
 use native.Mathlib.Omega.{arith}
 use borrow.Author.Rules.{rules}
 use Rattle.sampling.proofs.Grown.{leads_all, leads_next, leads_end}
-use Rattle.sampling.proofs.Laws.Samples.{copies_next, copies_end}
+use Rattle.sampling.proofs.Laws.Samples.{copies_left, copies_none}
 use Rattle.sampling.proofs.samples.all_copies.Goals as goal
 
 pub loop-angle-init : goal.loop-angle-init
@@ -10,8 +10,8 @@ loop-angle-init c = leads_all
 
 pub loop-angle-preserved : goal.loop-angle-preserved
 loop-angle-preserved c = let a = c.args in
-    leads_next c.loop-angle.invariant (copies_next a.lower a.upper a.angles.now c.loop-angle.angle-index (search rules)) c.copies-cuts.ensures
+    leads_next c.loop-angle.invariant (copies_left a.lower a.upper a.angles.now c.loop-angle.angle-index (search rules)) c.copies-cuts.ensures
 
 pub returns : goal.returns
 returns c = let a = c.args in
-    leads_end c.loop-angle.invariant (copies_end a.lower a.upper a.angles.now c.loop-angle.angle-index (omega arith))
+    leads_end c.loop-angle.invariant (copies_none a.lower a.upper a.angles.now c.loop-angle.angle-index (omega arith))
