@@ -48,6 +48,7 @@ fn case(rt: &HostRuntime, s: &[u8], at: usize, k: usize)
     print(rt, &input[..size]);
 }
 
+// No `for`, since a line says where the next one begins.
 fn cases(rt: &HostRuntime, s: &[u8]) {
     let mut at = 0;
     while at < s.len()

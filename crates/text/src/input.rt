@@ -6,7 +6,8 @@ use crate::report::deliver;
 use std::io;
 use std::io::Read;
 
-// Reads until buf is full or the input ends; how many bytes were read.
+// Reads until buf is full or the input ends; how many bytes were read. No `for`, since each turn goes
+// as far as the read before it did; std's `read_exact` says nothing of what came before the end.
 pub fn read<R: Read>(reader: &mut R, buf: &mut [u8]) -> io::Result<usize>
     ensures within { IfOk result (λ n. n ≤ length buf.new) }
     ensures bytes { IfOk result (λ n. Gives n (R.remaining reader.old) (R.remaining reader.new) buf.new) }

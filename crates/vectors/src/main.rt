@@ -86,7 +86,7 @@ const NAMES: [(u8, &str); 32] = [
     (b'0', "page"),
 ];
 
-// The samples of a mark.
+// The samples of a mark. No `for`, since a line says where the next one begins.
 fn counted(s: &[u8], mark: u8) -> Tally {
     let mut samples = 0;
     let mut differing = 0;
