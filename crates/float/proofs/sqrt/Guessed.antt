@@ -1,12 +1,11 @@
 -- Patterns and their values, for the guess of `sqrt`: which patterns may be read, and which value has given digits at a given place.
-use Rattle.std.proofs.Common.{◌≡◌, ℕ, ◌+◌, ◌*◌, ◌/◌, ◌%◌, ◌^◌, ◌<◌, ◌≤◌, min, Bool, true, false, not, T, sym, ap, ◌∙◌, subst, zero-add, arith}
-use mathlib.Core.Bool.{false≢true}
+use Rattle.std.proofs.Common.{◌≡◌, ℕ, ◌+◌, ◌*◌, ◌/◌, ◌%◌, ◌^◌, ◌<◌, ◌≤◌, min, Bool, false, not, T, sym, ap, ◌∙◌, subst, zero-add, arith}
 use lib.Dec.{nleb→lt}
-use lib.Ieee.{Float, nan, inf, fin, binary64, units, is_nan, nan_bits, fits, to_bits, of_bits, le, eq}
+use lib.Ieee.{Float, nan, inf, fin, binary64, units, is_nan, nan_bits, fits, to_bits, of_bits}
 use lib.Ieee.Bits.{of_bits-to_bits, to_bits-of_bits, nan_bits_is}
 use lib.Ieee.Exact.{HasValue}
 use Rattle.float.specs.Number.{negative}
-use Rattle.float.specs.Laws.Tests.{sign_bit, eq_self}
+use Rattle.float.specs.Laws.Tests.{sign_bit}
 use Rattle.float.proofs.Pattern.{units_is, no_nan}
 
 -- ---- a pattern up to infinity's is no NaN's, and is that of what is read from it
@@ -24,18 +23,6 @@ read n h = (number, subst (λ (b : ℕ). b < 2 ^ 63) (sym (to_bits-of_bits binar
 
     small : (n : ℕ) → n ≤ 2047 * 2 ^ 52 → n < 2 ^ 63
     small n h = omega arith
-
--- ---- tests that a NaN fails
-pub above_no_nan : (x y : Float) → le x y ≡ true → T (not (is_nan y))
-unfolding le is_nan
-above_no_nan nan nan h = absurd (false≢true h)
-above_no_nan (inf s) nan h = absurd (false≢true h)
-above_no_nan (fin s m e) nan h = absurd (false≢true h)
-above_no_nan x (inf t) h = tt
-above_no_nan x (fin t n d) h = tt
-
-pub equals_itself : (x : Float) → eq x x ≡ true → T (not (is_nan x))
-equals_itself x h = subst T (sym (sym (eq_self x) ∙ h)) tt
 
 -- ---- the sign's bit is clear in what has no sign
 pub no_sign_bit : (x : Float) (a c : ℕ) → HasValue x false a c → T (fits binary64 x) → T (not (is_nan x)) → to_bits binary64 x < 2 ^ 63

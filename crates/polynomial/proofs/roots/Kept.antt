@@ -16,7 +16,7 @@ use Rattle.polynomial.specs.Cuts.{put}
 use Rattle.polynomial.specs.Roots.{crosses, bisected}
 use Rattle.polynomial.specs.Promises.Inside.{crossed}
 use Rattle.polynomial.specs.Promises.Front.{Front}
-use Rattle.polynomial.specs.Promises.Insert.{grown, put_answer, put_room}
+use Rattle.polynomial.specs.Promises.Insert.{grown, put_answer}
 use Rattle.polynomial.specs.Laws.Cuts.{put_most, put_longer}
 use Rattle.polynomial.specs.Laws.Held.{drop_past}
 use Rattle.polynomial.specs.declared.roots.Interval.{Interval}

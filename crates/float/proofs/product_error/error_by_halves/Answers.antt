@@ -1,5 +1,5 @@
 -- `float::product_error::error_by_halves` meets its contract, by `dekker-is-fused`: the code's constant is 2 ^ -200.
-use Rattle.std.proofs.Common.{◌≡◌, true, T, refl, sym, ap₂, ◌∙◌, lit≤, rules}
+use Rattle.std.proofs.Common.{◌≡◌, true, T, sym, ap₂, ◌∙◌, lit≤, rules}
 use lib.Ieee.{Float, binary64, fits, of_bits}
 use Rattle.float.specs.Number.{◌⊕◌, ◌⊖◌, ◌⊗◌}
 use Rattle.float.specs.ProductError.{product_error}
