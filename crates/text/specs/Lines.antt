@@ -1,5 +1,5 @@
 -- Lines of words: a mark, k times a space (32) and 16 digits, and a line's end (10). Definitions only.
-use Rattle.std.specs.Prelude.{ℕ, zero, suc, ◌+◌, ◌*◌, ◌/◌, ◌%◌, Bool, true, ◌&&◌, List, [], ◌∷◌, leb, eqb, length, get_or}
+use Rattle.std.specs.Prelude.{ℕ, zero, suc, ◌+◌, ◌-◌, ◌*◌, ◌/◌, ◌%◌, Bool, true, ◌&&◌, List, [], ◌∷◌, leb, eqb, length, get_or}
 use Rattle.digits.specs.Hex.{digits, value}
 
 -- Whether k words stand at `at`, a space before each.
@@ -16,3 +16,11 @@ is_line s at k =
 unfoldable pub bytes : List ℕ → ℕ → ℕ → ℕ → List ℕ
 bytes s at i zero = []
 bytes s at i (suc n) = value s (at + 17 * (i / 8) + 2 * (i % 8)) 2 ∷ bytes s at (suc i) n
+
+-- How many words a line of its length has.
+unfoldable pub count : List ℕ → ℕ
+count line = (length line - 2) / 17
+
+-- Whether the words of a line from number `first` on hold n bytes.
+unfoldable pub fit : List ℕ → ℕ → ℕ → Bool
+fit line first n = leb first (count line) && leb n (8 * (count line - first))

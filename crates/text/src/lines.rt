@@ -1,10 +1,12 @@
 // A line of words: a mark of one byte, then words of a space and 16 capital hexadecimal digits each,
 // then its end. A line of k words has 17 * k + 2 bytes, and its word i the digits from 17 * i + 2 on.
-ghost use Rattle.std.specs.Prelude.{◌≡◌, if◌then◌else◌, ◌+◌, ◌*◌, ◌≤◌, nat_le, IfSome, length, replicate};
+ghost use Rattle.std.specs.Prelude.{◌≡◌, [], if◌then◌else◌, ◌+◌, ◌*◌, ◌<◌, ◌≤◌, nat_le, nat_lt, length, replicate, take};
+ghost use Rattle.std.specs.Prelude.{Some, None, option_copied, is_some};
 ghost use Rattle.std.proofs.lemmas.List.Edits.{sets};
+ghost use Rattle.digits.specs.Hex as Hex;
 ghost use Rattle.text.specs.Lines as Lines;
 
-use digits::hex::{byte, is_word};
+use digits::hex;
 
 // Room for a program's text, 3 MiB.
 pub fn room() -> [u8; 3145728]
@@ -13,30 +15,49 @@ pub fn room() -> [u8; 3145728]
     [0; 3145728]
 }
 
-// Whether k words stand at `at`, a space before each.
+// Whether s, behind the mark, begins with k words, a space before each.
 #[tactic(auto, unfolding(crate::specs::Lines::are_words))]
-fn are_words(s: &[u8], at: usize, k: usize) -> bool
-    requires { at + 17 * k ≤ length s.now }
-    ensures { result ≡ Lines.are_words s.now at k }
+fn are_words(s: &[u8], k: usize) -> bool
+    requires { 17 * k + 1 ≤ length s.now }
+    ensures { result ≡ Lines.are_words s.now 1 k }
 {
     let mut good = true;
     for i in 0..k {
-        good &= s[at + 17 * i] == b' ' && is_word(s, at + 17 * i + 1);
+        good &= s[17 * i + 1] == b' ' && hex::is_word(s, 17 * i + 2);
     }
     good
 }
 
-// k where a line of k words begins at `at`.
+// The line of k words with which s begins.
 #[tactic(auto, unfolding(crate::specs::Lines::is_line))]
-pub fn line(s: &[u8], at: usize, k: usize) -> Option<usize>
-    requires { (at ≤ length s.now) × (k ≤ 65536) }
-    ensures value { result ≡ (if Lines.is_line s.now at k then Some k else None) }
-    ensures result_in_bounds { IfSome result (λ k. at + 17 * k + 2 ≤ length s.now) }
+pub fn line(s: &[u8], k: usize) -> Option<&[u8]>
+    requires { k ≤ 65536 }
+    ensures { option_copied result ≡ (if Lines.is_line s.now 0 k then Some (take (17 * k + 2) s.now) else None) }
 {
-    let whole = at + 17 * k + 2 <= s.len()
-        && s[at + 17 * k + 1] == b'\n'
-        && are_words(s, at + 1, k);
-    whole.then_some(k)
+    let end = 17 * k + 1;
+    if s.len() <= end || s[end] != b'\n' || !are_words(s, k) {
+        return None;
+    }
+    Some(&s[..end + 1])
+}
+
+// How many words a line of so many bytes has.
+#[tactic(auto, unfolding(crate::specs::Lines::count))]
+fn count(line: &[u8]) -> usize
+    ensures { result ≡ Lines.count line.now }
+{
+    line.len().saturating_sub(2) / 17
+}
+
+// The word i of a line, or of what is as long as one; none behind the last.
+#[tactic(auto, unfolding(crate::specs::Lines::count))]
+pub fn word(line: &[u8], i: usize) -> Option<u64>
+    ensures { result ≡ (if nat_lt i (Lines.count line.now) then Some (Hex.value line.now (17 * i + 2) 16) else None) }
+{
+    if count(line) <= i {
+        return None;
+    }
+    Some(hex::word(line, 17 * i + 2))
 }
 
 // A count that is stored, where it is at most the most that there can be.
@@ -46,13 +67,28 @@ pub fn held(w: u64, most: usize) -> Option<usize>
     usize::try_from(w).ok().filter(|n| *n <= most)
 }
 
-// The first n bytes of k words, eight to a word, whose digits stand 17 bytes apart from `at` on, in
-// the first places of out.
-pub fn bytes(s: &[u8], at: usize, k: usize, n: usize, out: &mut [u8])
-    requires { (at + 17 * k ≤ length s.now) × (n ≤ 8 * k) × (n ≤ length out.old) }
-    ensures { out.new ≡ sets out.old 0 (Lines.bytes s.now at 0 n) }
+// The bytes of k words whose digits stand from `at` on, 17 bytes apart, eight to a word, in out.
+fn spell(line: &[u8], at: usize, k: usize, out: &mut [u8])
+    requires { (0 < k → at + 17 * k ≤ length line.now) × (length out.old ≤ 8 * k) }
+    ensures { out.new ≡ sets out.old 0 (Lines.bytes line.now at 0 (length out.old)) }
 {
-    for (i, b) in out[..n].iter_mut().enumerate() {
-        *b = byte(s, at + 17 * (i / 8) + 2 * (i % 8));
+    for (i, b) in out.iter_mut().enumerate() {
+        *b = hex::byte(line, at + 17 * (i / 8) + 2 * (i % 8));
     }
+}
+
+// The bytes of a line's words from number `first` on, eight to a word, in out; none where they are
+// fewer than out holds, which is left.
+#[tactic(auto, unfolding(crate::specs::Lines::count, crate::specs::Lines::fit))]
+pub fn bytes(line: &[u8], first: usize, out: &mut [u8]) -> Option<()>
+    ensures value { is_some result ≡ Lines.fit line.now first (length out.old) }
+    ensures out_after { out.new ≡ sets out.old 0
+        (if Lines.fit line.now first (length out.old) then Lines.bytes line.now (17 * first + 2) 0 (length out.old) else []) }
+{
+    let k = count(line).checked_sub(first)?;
+    if 8 * k < out.len() {
+        return None;
+    }
+    spell(line, 17 * first + 2, k, out);
+    Some(())
 }
