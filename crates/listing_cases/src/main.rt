@@ -7,12 +7,11 @@
 // 65,536 bytes (32), and one more (too long).
 #![tactic(auto)]
 
-ghost use Rattle.std.specs.Prelude.{◌+◌, ◌*◌, ◌≤◌, ◌<◌, IfSome, length};
+ghost use Rattle.std.specs.Prelude.{◌≤◌, ◌<◌, IfSome, length};
 
-use digits::hex::word;
 use listing::check_text::check_text;
 use text::input::with_input;
-use text::lines::{bytes, held, line};
+use text::lines::{bytes, held, line, word};
 use text::report::deliver;
 
 fn print(rt: &HostRuntime, input: &[u8]) {
@@ -22,40 +21,34 @@ fn print(rt: &HostRuntime, input: &[u8]) {
     }
 }
 
-// The number of words of the line at `at`.
-fn words(s: &[u8], at: usize) -> Option<usize>
-    requires { at < length s.now }
-    ensures { IfSome result (λ k. (2 ≤ k) × (at + 17 * k + 2 ≤ length s.now)) }
+// The line of a stored input with which s begins: the mark, the size, the count of words and these.
+fn case(s: &[u8]) -> Option<&[u8]>
+    ensures { IfSome result (λ l. (0 < length l.now) × (length l.now ≤ length s.now)) }
 {
-    if s.len() - at < 36 {
-        return None;
-    }
-    let stored = held(word(s, at + 19), 8192).unwrap_or(8193);
-    line(s, at, stored + 2)
+    let stored = held(word(s, 1)?, 8192).unwrap_or(8193);
+    line(s, stored + 2)
 }
 
-// The input of the line of k words at `at`; one byte more than Check looks at stands for any more.
-fn case(rt: &HostRuntime, s: &[u8], at: usize, k: usize)
-    requires { (2 ≤ k) × (at + 17 * k + 2 ≤ length s.now) }
+// Stores the input of a line in front of out, whose bytes are zero; how many bytes it has, where one
+// more than Check looks at stands for any more.
+fn input_of(line: &[u8], out: &mut [u8; 65537]) -> Option<usize>
+    ensures { IfSome result (λ size. size ≤ 65537) }
 {
-    let stored = 8 * (k - 2);
-    if 65537 < stored {
-        return;
-    }
-    let size = held(word(s, at + 2), 65536).unwrap_or(65537);
-    let mut input = [0u8; 65537];
-    bytes(s, at + 36, k - 2, stored, &mut input);
-    print(rt, &input[..size]);
+    let size = held(word(line, 0)?, 65536).unwrap_or(65537);
+    let stored = held(word(line, 1)?, 8192)?;
+    bytes(line, 2, &mut out[..8 * stored])?;
+    Some(size)
 }
 
-// No `for`, since a line says where the next one begins.
+// One after the other, to the first line that is none.
 fn cases(rt: &HostRuntime, s: &[u8]) {
-    let mut at = 0;
-    while at < s.len()
-        && let Some(k) = words(s, at)
-    {
-        case(rt, s, at, k);
-        at += 17 * k + 2;
+    let mut rest = s;
+    while let Some(line) = case(rest) {
+        let mut input = [0; 65537];
+        if let Some(size) = input_of(line, &mut input) {
+            print(rt, &input[..size]);
+        }
+        rest = &rest[line.len()..];
     }
 }
 

@@ -1,6 +1,6 @@
 // A line of words: a mark of one byte, then words of a space and 16 capital hexadecimal digits each,
 // then its end. A line of k words has 17 * k + 2 bytes, and its word i the digits from 17 * i + 2 on.
-ghost use Rattle.std.specs.Prelude.{◌≡◌, [], if◌then◌else◌, ◌+◌, ◌*◌, ◌<◌, ◌≤◌, nat_le, nat_lt, length, replicate, take};
+ghost use Rattle.std.specs.Prelude.{◌≡◌, [], if◌then◌else◌, ◌+◌, ◌*◌, ◌<◌, ◌≤◌, nat_le, nat_lt, IfSome, length, replicate, take};
 ghost use Rattle.std.specs.Prelude.{Some, None, option_copied, is_some};
 ghost use Rattle.std.proofs.lemmas.List.Edits.{sets};
 ghost use Rattle.digits.specs.Hex as Hex;
@@ -32,7 +32,8 @@ fn are_words(s: &[u8], k: usize) -> bool
 #[tactic(auto, unfolding(crate::specs::Lines::is_line))]
 pub fn line(s: &[u8], k: usize) -> Option<&[u8]>
     requires { k ≤ 65536 }
-    ensures { option_copied result ≡ (if Lines.is_line s.now 0 k then Some (take (17 * k + 2) s.now) else None) }
+    ensures value { option_copied result ≡ (if Lines.is_line s.now 0 k then Some (take (17 * k + 2) s.now) else None) }
+    ensures in_bounds { IfSome result (λ l. (0 < length l.now) × (length l.now ≤ length s.now)) }
 {
     let end = 17 * k + 1;
     if s.len() <= end || s[end] != b'\n' || !are_words(s, k) {
@@ -62,7 +63,8 @@ pub fn word(line: &[u8], i: usize) -> Option<u64>
 
 // A count that is stored, where it is at most the most that there can be.
 pub fn held(w: u64, most: usize) -> Option<usize>
-    ensures { result ≡ (if nat_le w most then Some w else None) }
+    ensures value { result ≡ (if nat_le w most then Some w else None) }
+    ensures upper_bound { IfSome result (λ n. n ≤ most) }
 {
     usize::try_from(w).ok().filter(|n| *n <= most)
 }

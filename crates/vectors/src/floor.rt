@@ -1,14 +1,14 @@
 // The float floor's functions by their letters, on words: a float by its bits, a test by 1 or 0,
 // and floor's whole number in two's complement. A letter stays a byte and no enum: reading it would
 // be the same match once more.
-ghost use Rattle.std.specs.Prelude.{◌+◌, ◌*◌, ◌≤◌, IfSome, length};
+ghost use Rattle.std.specs.Prelude.{◌≤◌, IfSome};
 
-use digits::hex::word;
 use float::number::{bits, of_bits};
+use text::lines::word;
 
 // How many words the line of a letter has: the operands, and the result.
 pub(crate) fn words(letter: u8) -> Option<usize>
-    ensures { IfSome result (λ n. n ≤ 4) }
+    ensures { IfSome result (λ n. (2 ≤ n) × (n ≤ 4)) }
 {
     match letter {
         b'B' | b'F' | b'P' | b'A' | b'C' | b'L' | b'S' => Some(2),
@@ -68,19 +68,14 @@ fn two(letter: u8, a: u64, b: u64) -> u64 {
     crate::angles::two(letter, a, b)
 }
 
-// Whether the sample of n words at `at` has the result that the library gives; none where there are
-// too few. Its line has 17 * n + 2 bytes: the letter, n times a space and a word, and the end.
-pub(crate) fn agrees(s: &[u8], at: usize, n: usize) -> Option<bool>
-    requires { at + 17 * n + 2 ≤ length s.now }
-{
-    let letter = s[at];
-    match n {
-        0 | 1 => None,
-        2 => Some(one(letter, word(s, at + 2)) == word(s, at + 19)),
-        3 => Some(two(letter, word(s, at + 2), word(s, at + 19)) == word(s, at + 36)),
-        _ => {
-            let found = three(word(s, at + 2), word(s, at + 19), word(s, at + 36));
-            Some(found == word(s, at + 53))
-        }
-    }
+// Whether the sample of a letter and its line of n words has the result that the library gives; none
+// where there are too few words.
+pub(crate) fn agrees(letter: u8, line: &[u8]) -> Option<bool> {
+    let n = words(letter)?;
+    let result = match n {
+        2 => one(letter, word(line, 0)?),
+        3 => two(letter, word(line, 0)?, word(line, 1)?),
+        _ => three(word(line, 0)?, word(line, 1)?, word(line, 2)?),
+    };
+    Some(result == word(line, n - 1)?)
 }

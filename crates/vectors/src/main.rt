@@ -86,24 +86,22 @@ const NAMES: [(u8, &str); 32] = [
     (b'0', "page"),
 ];
 
-// The samples of a mark. No `for`, since a line says where the next one begins.
+// The samples of a mark, and what stands from the first line on that is none.
 fn counted(s: &[u8], mark: u8) -> Tally {
     let mut samples = 0;
     let mut differing = 0;
-    let mut at = 0;
-    while at < s.len()
-        && let Some(n) = line(s, at)
-    {
-        if s[at] == mark {
+    let mut rest = s;
+    while let Some((m, sample)) = line(rest) {
+        if m == mark {
             samples += 1;
-            differing += u64::from(agrees(s, at, n) != Some(true));
+            differing += u64::from(agrees(m, sample) != Some(true));
         }
-        at += 17 * n + 2;
+        rest = &rest[sample.len()..];
     }
     Tally {
         samples,
         differing,
-        unread: s.len() - at,
+        unread: rest.len(),
     }
 }
 

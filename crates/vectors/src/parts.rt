@@ -1,10 +1,10 @@
 // A stored sample of module 4, worked out anew: the operands of the function that its mark names, and
 // the numbers of its answer. A mark stays a byte and no enum: reading it would be the same match once
 // more.
-ghost use Rattle.std.specs.Prelude.{◌+◌, ◌*◌, ◌≤◌, length};
+ghost use Rattle.std.specs.Prelude.{◌+◌, ◌≤◌};
 
-use digits::hex::word;
 use std::array::from_fn;
+use text::lines::word;
 
 // How many operands the function of a mark has, and how many numbers its answer has.
 fn shape(mark: u8) -> (usize, usize)
@@ -37,18 +37,14 @@ fn number(mark: u8, [a, b, c, d, e, f]: [u64; 6], i: u64) -> u64 {
     }
 }
 
-// Whether the sample of n words at `at` has the numbers that the library gives. Its line has
-// 17 * n + 2 bytes: the mark, n times a space and a word, and the end.
-pub(crate) fn agrees(s: &[u8], at: usize, n: usize) -> bool
-    requires { at + 17 * n + 2 ≤ length s.now }
-{
-    let mark = s[at];
-    let first = from_fn(|i| if i < n { word(s, at + 17 * i + 2) } else { 0 });
-    let (operands, _) = shape(mark);
-    for i in operands..n {
-        if number(mark, first, (i - operands) as u64) != word(s, at + 17 * i + 2) {
-            return false;
+// Whether the sample of a mark and its line has the numbers that the library gives.
+pub(crate) fn agrees(mark: u8, line: &[u8]) -> Option<bool> {
+    let first = from_fn(|i| word(line, i).unwrap_or(0));
+    let (operands, numbers) = shape(mark);
+    for i in 0..numbers {
+        if number(mark, first, i as u64) != word(line, operands + i)? {
+            return Some(false);
         }
     }
-    true
+    Some(true)
 }

@@ -1,12 +1,11 @@
 // A stored call of the operation Roots, made anew.
-ghost use Rattle.std.specs.Prelude.{◌+◌, ◌*◌, ◌<◌, ◌≤◌, IfSome, length};
+ghost use Rattle.std.specs.Prelude.{◌≤◌, IfSome};
 
 use crate::calls::number;
-use digits::hex::word;
 use float::number::{bits, of_bits};
 use polynomial::operation::roots;
 use std::array::from_fn;
-use text::lines::held;
+use text::lines::{held, word};
 
 // The number of roots in an expected answer: none where it is below 0.
 fn stored_roots(answer: u64) -> Option<usize>
@@ -18,19 +17,12 @@ fn stored_roots(answer: u64) -> Option<usize>
     held(answer, 512)
 }
 
-// The words that the line at `at` has by its counts, where these are not too large.
-pub(crate) fn words(s: &[u8], at: usize) -> Option<usize>
-    requires { at < length s.now }
+// The words that the line with which s begins has by its counts, where these are not too large.
+pub(crate) fn words(s: &[u8]) -> Option<usize>
     ensures { IfSome result (λ n. n ≤ 1094) }
 {
-    if s.len() - at < 19 {
-        return None;
-    }
-    let n = held(word(s, at + 2), 64)?;
-    if s.len() - at < 17 * n + 104 {
-        return None;
-    }
-    let m = stored_roots(word(s, at + 17 * n + 87))?;
+    let n = held(word(s, 0)?, 64)?;
+    let m = stored_roots(word(s, n + 5)?)?;
     Some(n + m + m + 6)
 }
 
@@ -39,34 +31,34 @@ fn rubbish(i: usize) -> u64 {
     0xc3a5_5a3c_0000_0000 ^ i as u64
 }
 
-// Whether each place, by its bits, holds what it is to hold: one of m words, which stand 17 bytes
-// apart from `at` on, or what it held before.
+// Whether each place, by its bits, holds what it is to hold: one of m words of a line, from number
+// `first` on, or what it held before.
 fn hold<T, B: Fn(&T) -> u64, H: Fn(usize) -> u64>(
     places: &[T],
     bits: B,
-    s: &[u8],
-    at: usize,
+    line: &[u8],
+    first: usize,
     m: usize,
     before: H,
 ) -> bool
-    requires words { at + 17 * m ≤ length s.now }
+    requires words { (first ≤ 65536) × (m ≤ 512) }
     requires bits { B.IsAlwaysCallable bits }
     requires before { H.IsAlwaysCallable before }
 {
     for (i, place) in places.iter().enumerate() {
         let wanted = if i < m {
-            word(s, at + 17 * i)
+            word(line, first + i)
         } else {
-            before(i)
+            Some(before(i))
         };
-        if bits(place) != wanted {
+        if Some(bits(place)) != wanted {
             return false;
         }
     }
     true
 }
 
-// What a line says of its call beside the coefficients, the roots and the kinds.
+// What a line says of its call beside the coefficients and the roots.
 #[derive(Clone, Copy)]
 struct Stored {
     lower: u64,
@@ -79,9 +71,10 @@ struct Stored {
 }
 
 // Whether the call on these coefficients has the expected answer, and every place of the slices and
-// behind them what it is to hold. m roots stand at `at`, their kinds behind them.
-fn replays(s: &[u8], at: usize, m: usize, c: &[f64], call: Stored) -> bool
-    requires { at + 17 * (m + m) ≤ length s.now }
+// behind them what it is to hold. The words of m roots begin with number `first`, those of their kinds
+// behind them.
+fn replays(line: &[u8], first: usize, m: usize, c: &[f64], call: Stored) -> bool
+    requires { (first ≤ 128) × (m ≤ 512) }
 {
     let mut result: [f64; 512] = from_fn(|i| of_bits(rubbish(i)));
     let mut kinds = [165; 512];
@@ -93,40 +86,27 @@ fn replays(s: &[u8], at: usize, m: usize, c: &[f64], call: Stored) -> bool
         &mut kinds[..call.bytes],
     ));
     found == call.answer
-        && hold(&result, |x| bits(*x), s, at, m, rubbish)
-        && hold(&kinds, |kind| u64::from(*kind), s, at + 17 * m, m, |_| 165)
+        && hold(&result, |x| bits(*x), line, first, m, rubbish)
+        && hold(&kinds, |kind| u64::from(*kind), line, first + m, m, |_| 165)
 }
 
-// The same for the call of n floats and m roots at `at`.
-fn answers(s: &[u8], at: usize, n: usize, m: usize) -> Option<bool>
-    requires { (n ≤ 64) × (at + 17 * (n + m + m) + 104 ≤ length s.now) }
+// The same for a call of n floats.
+fn answers(line: &[u8], n: usize) -> Option<bool>
+    requires { n ≤ 64 }
 {
-    let after = at + 17 * n + 19;
     let call = Stored {
-        lower: word(s, after),
-        upper: word(s, after + 17),
-        places: held(word(s, after + 34), 512)?,
-        bytes: held(word(s, after + 51), 512)?,
-        answer: word(s, after + 68),
+        lower: word(line, n + 1)?,
+        upper: word(line, n + 2)?,
+        places: held(word(line, n + 3)?, 512)?,
+        bytes: held(word(line, n + 4)?, 512)?,
+        answer: word(line, n + 5)?,
     };
-    let c: [f64; 64] = from_fn(|i| {
-        if i < n {
-            of_bits(word(s, at + 17 * i + 19))
-        } else {
-            0.0
-        }
-    });
-    Some(replays(s, after + 85, m, &c[..n], call))
+    let m = stored_roots(call.answer)?;
+    let c: [f64; 64] = from_fn(|i| of_bits(word(line, i + 1).unwrap_or(0)));
+    Some(replays(line, n + 6, m, &c[..n], call))
 }
 
-// Whether Roots answers as stored, for a call whose line has k words.
-pub(crate) fn agrees(s: &[u8], at: usize, k: usize) -> Option<bool>
-    requires { at + 17 * k + 2 ≤ length s.now }
-{
-    if k < 6 {
-        return None;
-    }
-    let n = held(word(s, at + 2), 64)?;
-    let rest = k.checked_sub(n + 6)?;
-    answers(s, at, n, rest / 2)
+// Whether Roots answers as a line says.
+pub(crate) fn agrees(line: &[u8]) -> Option<bool> {
+    answers(line, held(word(line, 0)?, 64)?)
 }

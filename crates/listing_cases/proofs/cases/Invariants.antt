@@ -1,9 +1,6 @@
--- A line lies within the slice.
-use Rattle.std.proofs.Common.{◌≤◌, ◌-◌, length}
+-- Each line takes bytes of what is left.
+use Rattle.std.proofs.Common.{length}
 use Rattle.listing_cases.proofs.cases.Given as goal
 
-abbrev pub invariant-loop-at : goal.invariant-loop-at
-invariant-loop-at l = l.at ≤ length l.s
-
-abbrev pub decreases-loop-at : goal.decreases-loop-at
-decreases-loop-at l = length l.s - l.at
+abbrev pub decreases-loop-line : goal.decreases-loop-line
+decreases-loop-line l = length l.rest
