@@ -46,6 +46,7 @@ pub fn samples<W: Write>(to: &mut W, name: &[u8], t: Tally) -> io::Result<()>
 }
 
 // The bytes of the input that are no sample, in a line.
+#[tactic(auto, using(crate::proofs::Printed::whole_is_decimal))]
 pub fn unread<W: Write>(to: &mut W, n: usize) -> io::Result<()>
     ensures { OnOk result (Appends (W.contents to.old) (W.contents to.new) (Numbered.numbered (codes "unread ") n)) }
 {
