@@ -1,6 +1,5 @@
 // Digits in a base of at most 16, written from the right: the decimal and the hexadecimal ones.
-ghost use Rattle.std.specs.Prelude.{◌≡◌, ◌+◌, ◌≤◌, ◌<◌, length};
-ghost use Rattle.std.proofs.lemmas.List.Edits.{sets};
+ghost use Rattle.std.specs.Prelude.{◌≡◌, ◌≤◌, ◌<◌, length};
 ghost use Rattle.digits.specs.Decimal as Decimal;
 ghost use Rattle.digits.specs.Hex as Hex;
 ghost use Rattle.digits.specs.Promises.Based as Based;
@@ -17,14 +16,15 @@ pub fn figure(d: u64) -> u8
     }
 }
 
-// The k lowest digits of n, from `at` on.
-pub(crate) fn put_based<const BASE: u64>(out: &mut [u8], at: usize, k: usize, n: u64)
-    requires within { at + k ≤ length out.old }
-    requires base { (2 ≤ BASE) × (BASE ≤ 16) }
-    ensures { out.new ≡ sets out.old at (Based.digits BASE k n) }
+// The lowest digits of n, as many as the slice has places.
+#[tactic(auto, using(crate::proofs::FromRight::digit_more), unfolding(crate::specs::Promises::Based::digits))]
+pub(crate) fn put_based<const BASE: u64>(out: &mut [u8], n: u64)
+    requires { (2 ≤ BASE) × (BASE ≤ 16) }
+    ensures { out.new ≡ Based.digits BASE (length out.old) n }
 {
     let mut left = n;
-    for i in (at..at + k).rev() {
+    // by the index: what is written through `iter_mut().rev()` is not known afterwards, and so in `put_before`
+    for i in (0..out.len()).rev() {
         out[i] = figure(left % BASE);
         left /= BASE;
     }

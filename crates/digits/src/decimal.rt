@@ -1,17 +1,16 @@
 // Whole numbers in decimal, in ASCII, written from the right.
-ghost use Rattle.std.specs.Prelude.{◌≡◌, ◌+◌, ◌≤◌, ◌<◌, length};
-ghost use Rattle.std.proofs.lemmas.List.Edits.{sets};
+ghost use Rattle.std.specs.Prelude.{◌≡◌, ◌-◌, ◌<◌, length};
 ghost use Rattle.digits.specs.Decimal as Decimal;
 ghost use Rattle.digits.specs.Promises.Columns as Columns;
 
 use crate::based::{figure, put_based};
 
-// The k lowest digits of n, from `at` on.
-pub fn put_digits(out: &mut [u8], at: usize, k: usize, n: u64)
-    requires { at + k ≤ length out.old }
-    ensures { out.new ≡ sets out.old at (Decimal.digits k n) }
+// The lowest digits of n, as many as the slice has places.
+#[tactic(auto, using(crate::specs::Laws::Based::decimal_is))]
+pub fn put_digits(out: &mut [u8], n: u64)
+    ensures { out.new ≡ Decimal.digits (length out.old) n }
 {
-    put_based::<10>(out, at, k, n);
+    put_based::<10>(out, n);
 }
 
 // The byte before the digits that are left.
@@ -26,25 +25,26 @@ fn mark(neg: bool, n: u64) -> u8
     }
 }
 
-// The digits that are left, a minus and blanks, in k columns from `at` on.
-fn put_before(out: &mut [u8], at: usize, k: usize, neg: bool, n: u64)
-    requires { at + k ≤ length out.old }
-    ensures { out.new ≡ sets out.old at (Columns.before k neg n) }
+// The digits that are left, a minus and blanks, in all places of the slice.
+#[tactic(auto, using(crate::proofs::FromRight::column_more), unfolding(crate::specs::Promises::Columns::before))]
+fn put_before(out: &mut [u8], neg: bool, n: u64)
+    ensures { out.new ≡ Columns.before (length out.old) neg n }
 {
     let mut minus = neg;
     let mut left = n;
-    for i in (at..at + k).rev() {
+    for i in (0..out.len()).rev() {
         out[i] = mark(minus, left);
         minus &= 0 < left;
         left /= 10;
     }
 }
 
-// The digits of n, at least one, a minus before them and blanks, in six columns from `at` on.
-pub fn put_signed(out: &mut [u8], at: usize, neg: bool, n: u64)
-    requires { at + 6 ≤ length out.old }
-    ensures { out.new ≡ sets out.old at (Columns.number 5 neg n) }
+// The digits of n, at least one, a minus before them and blanks, in all places of the slice.
+pub fn put_signed(out: &mut [u8], neg: bool, n: u64)
+    requires { 0 < length out.old }
+    ensures { out.new ≡ Columns.number (length out.old - 1) neg n }
 {
-    put_before(out, at, 5, neg, n / 10);
-    out[at + 5] = figure(n % 10);
+    let end = out.len() - 1;
+    put_before(&mut out[..end], neg, n / 10);
+    out[end] = figure(n % 10);
 }

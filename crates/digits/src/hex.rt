@@ -1,7 +1,6 @@
 // Capital hexadecimal digits in ASCII, the highest first.
 ghost use Rattle.std.specs.Prelude.{◌≡◌, ◌+◌, ◌≤◌, ◌<◌, length};
 ghost use Rattle.std.specs.List.{list_all};
-ghost use Rattle.std.proofs.lemmas.List.Edits.{sets};
 ghost use Rattle.digits.specs.Hex as Hex;
 
 use crate::based::put_based;
@@ -69,10 +68,10 @@ pub fn byte(s: &[u8], at: usize) -> u8
     value(&s[at..at + 2]) as u8
 }
 
-// The 16 digits of w, written from `at` on.
-pub fn put_word(out: &mut [u8], at: usize, w: u64)
-    requires { at + 16 ≤ length out.old }
-    ensures { out.new ≡ sets out.old at (Hex.spelled 16 w) }
+// The lowest digits of w, as many as the slice has places.
+#[tactic(auto, using(crate::specs::Laws::Based::spelled_is))]
+pub fn put_word(out: &mut [u8], w: u64)
+    ensures { out.new ≡ Hex.spelled (length out.old) w }
 {
-    put_based::<16>(out, at, 16, w);
+    put_based::<16>(out, w);
 }

@@ -1,7 +1,6 @@
-// Digits and other runs of bytes, written into lent slices: hexadecimal, decimal, in columns.
+// Digits, written into lent slices: hexadecimal, decimal, in columns.
 #![tactic(auto)]
 
 pub mod based;
 pub mod decimal;
 pub mod hex;
-pub mod runs;

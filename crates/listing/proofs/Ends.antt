@@ -1,6 +1,6 @@
 -- What each way through the two programs' functions gives is the definition's text.
-use Rattle.std.proofs.Common.{ℕ, ◌*◌, ◌≤◌, ◌<◌, arith, ◌≡◌, sym, List, ◌++◌, length, lt-ltb, le-ltb}
-use Rattle.sheet.specs.Refusals.{Answer, accepted, refused}
+use Rattle.std.proofs.Common.{ℕ, ◌*◌, ◌/◌, ◌≤◌, ◌<◌, arith, ◌≡◌, sym, List, [], ◌++◌, length, length-take-le, take, lt-ltb, le-ltb}
+use Rattle.sheet.specs.Refusals.{accepted, refused}
 use Rattle.sheet.specs.Sampling.{answer, sheet, output_after}
 use Rattle.sheet.specs.Sheet.{sheet_size}
 use Rattle.sheet.specs.Edition.{newest}
@@ -9,24 +9,31 @@ use Rattle.sheet.specs.Laws.Accepted.{answer_passed, answer_count}
 use Rattle.sheet.specs.Laws.Demands.{checked_length}
 use Rattle.sheet.specs.Check as Check
 use Rattle.text.specs.Numbered.{numbered}
-use Rattle.listing.specs.Listing.{places, most, refused_word, too_long, head, count, lines, check_text, make_output, make_error, filled}
+use Rattle.listing.specs.Listing.{places, most, accepted_word, refused_word, too_long, head, lines, check_text, make_output, make_error, filled}
+use Rattle.listing.proofs.Lines.{alone, lines_front}
 
 -- ---- check_text
-pub long_is : (s : List ℕ) → most < length s → check_text s ≡ too_long ++ lines s 0 0
+pub long_is : (s : List ℕ) → most < length s → check_text s ≡ too_long ++ lines [] 0 0
 unfolding check_text lines
 long_is s h = rw (lt-ltb most (length s) h)
 
-pub report_is : (s t : List ℕ) (n : ℕ) (a : Answer) → length s ≤ most → a ≡ Check.answer newest s places → t ≡ head a → n ≡ count a
-    → check_text s ≡ t ++ lines s 0 n
-unfolding check_text
-report_is s t n a h e f g = rw (le-ltb most (length s) h, f, g, e)
-
 -- the items that are listed stand in the sheet
-pub count_fits : (s : List ℕ) (a : Answer) → length s ≤ most → a ≡ Check.answer newest s places → (count a ≤ 8192) × (8 * count a ≤ length s)
-count_fits s (accepted n) h e =
-    let l = checked_length newest s places n (sym e) in
-    (omega arith, omega arith)
-count_fits s (refused k) h e = (omega arith, omega arith)
+pub count_fits : (s : List ℕ) (n : ℕ) → length s ≤ most → accepted n ≡ Check.answer newest s places → 8 * n ≤ length s
+count_fits s n h e = omega (arith, checked_length newest s places n (sym e))
+
+pub items_whole : (s : List ℕ) (n : ℕ) → length s ≤ most → accepted n ≡ Check.answer newest s places → 8 * n ≡ length (take (8 * n) s)
+items_whole s n h e = sym (length-take-le (8 * n) s (count_fits s n h e))
+
+pub accepted_is : (s : List ℕ) (n : ℕ) → length s ≤ most → accepted n ≡ Check.answer newest s places
+    → check_text s ≡ numbered accepted_word n ++ lines (take (8 * n) s) 0 (length (take (8 * n) s) / 8)
+unfolding check_text
+accepted_is s n h e =
+    let l : length (take (8 * n) s) / 8 ≡ n = omega (arith, items_whole s n h e) in
+    rw (le-ltb most (length s) h, ← e, l, lines_front s n)
+
+pub refused_is : (s : List ℕ) (k : ℕ) → length s ≤ most → refused k ≡ Check.answer newest s places → check_text s ≡ head (refused k)
+unfolding check_text
+refused_is s k h e = rw (le-ltb most (length s) h, ← e) (alone (head (refused k)) s)
 
 -- ---- make_text
 module _ (r output error : List ℕ) where

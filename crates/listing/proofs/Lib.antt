@@ -1,4 +1,4 @@
--- `Lines`: stores of lines; `Ends`: what each way through gives; `Pages`: the same of pages.
+-- `Lines`: lines one after the other; `Ends`: what each way through gives; `Pages`: the same of pages.
 
 pub mod Lines
 pub mod Ends

@@ -1,8 +1,10 @@
 -- Pages stored one after the other, a form feed between, are those of the definition; what each way through `pages_text` gives is the definition's text.
-use Rattle.std.proofs.Common.{ℕ, suc, ◌+◌, ◌*◌, ◌-◌, ◌≤◌, ◌<◌, arith, ◌≡◌, sym, ap, ◌∙◌, List, ◌∷◌, ◌++◌, length, set, lt-ltb, le-ltb}
-use Rattle.std.proofs.lemmas.List.{append-nil}
-use Rattle.std.proofs.lemmas.List.Edits.{sets}
-use Rattle.digits.specs.Laws.Stores.{joined}
+use Rattle.std.proofs.Common.{ℕ, suc, ◌+◌, ◌*◌, ◌-◌, ◌≤◌, ◌<◌, arith, ◌≡◌, sym, ap, ◌∙◌, List, [], ◌∷◌, ◌++◌, length, set, take, drop, lt-ltb, le-ltb}
+use Rattle.std.proofs.Common.{append_assoc, length-append, length-drop}
+use Rattle.std.proofs.lemmas.List.{append-nil, drop_all, length-take}
+use Rattle.std.proofs.Math.Seq.{take-suc-set}
+use Rattle.std.proofs.lemmas.Slice.{take-put_mid}
+use borrow.Rule.Slice.PartMut.{put_mid}
 use Rattle.sheet.specs.Edition.{newest}
 use Rattle.sheet.specs.Refusals.{accepted, refused}
 use Rattle.sheet.specs.Check as Check
@@ -15,42 +17,49 @@ use Rattle.listing.specs.Pages.{pages_from, all_pages, pages_text}
 use Rattle.listing.specs.Laws.Pages.{full_page}
 
 module _ (s : List ℕ) (n : ℕ) (p : Paged s n) where
-  -- a turn stores the first of the pages that are left, and the form feed behind it
-  pub pages_turn : (t : List ℕ) (k last : ℕ) → 1 ≤ k → k < last → last ≡ pages n
-      → sets (set (sets t (3966 * (k - 1)) (text s k)) (3966 * (k - 1) + 3965) 12) (3966 * (k + 1 - 1)) (pages_from s (k + 1) (suc (last - (k + 1))))
-      ≡ sets t (3966 * (k - 1)) (pages_from s k (suc (last - k)))
+  -- a turn writes the first of the pages that are left, and the form feed behind it
+  pub pages_turn : (out page : List ℕ) (k last : ℕ) → 1 ≤ k → k < last → last ≡ pages n → 3966 * k ≤ length out → page ≡ text s k
+      → take (3966 * (k + 1 - 1)) (set (put_mid (3966 * (k - 1)) (3966 * (k - 1) + 3965 - 3966 * (k - 1)) out page) (3966 * (k - 1) + 3965) 12)
+      ++ pages_from s (k + 1) (suc (last - (k + 1)))
+      ≡ take (3966 * (k - 1)) out ++ pages_from s k (suc (last - k))
   unfolding pages_from
-  pages_turn t k last l h e =
+  pages_turn out page k last l h e r g =
       let at = 3966 * (k - 1) in
       let rest = pages_from s (suc k) (suc (last - suc k)) in
+      let with_page = put_mid at (at + 3965 - at) out page in
       let f : last - k ≡ suc (last - suc k) = omega arith in
-      let g : k + 1 ≡ suc k = omega arith in
-      let z = full_page s n p k l (omega arith) in
-      let i : 3966 * (suc k - 1) ≡ suc (at + 3965) = omega arith in
-      rw (f, g, i) (joined (text s k) (12 ∷ rest) t at (at + 3965) (rw z))
+      let z : k + 1 ≡ suc k = omega arith in
+      let y : 3966 * (suc k - 1) ≡ suc (at + 3965) = omega arith in
+      let long : length page ≡ 3965 = rw g (full_page s n p k l (omega arith)) in
+      let w : at + 3965 < length with_page = simp (length-append, length-take, length-drop) (omega arith) in
+      rw (
+        z,
+        y,
+        take-suc-set with_page (at + 3965) 12 w,
+        take-put_mid at (at + 3965 - at) out page (at + 3965) (omega arith) (omega arith),
+        f,
+        g,
+      )
+      (append_assoc (take at out ++ text s k) (12 ∷ []) rest ∙ append_assoc (take at out) (text s k) (12 ∷ rest))
 
   -- the last one
-  pub pages_done : (t : List ℕ) (k last : ℕ) → last ≤ k → k ≤ last
-      → sets t (3966 * (last - 1)) (text s last) ≡ sets t (3966 * (k - 1)) (pages_from s k (suc (last - k)))
+  pub pages_done : (out page : List ℕ) (k last : ℕ) → last ≡ pages n → length out ≡ 65 * (n + pages n) + (pages n - 1) → page ≡ text s last → last ≤ k → k ≤ last
+      → put_mid (3966 * (last - 1)) (length out - 3966 * (last - 1)) out page ≡ take (3966 * (k - 1)) out ++ pages_from s k (suc (last - k))
   unfolding pages_from
-  pages_done t k last h l =
+  pages_done out page k last d o g h l =
+      let b = 3966 * (last - 1) in
       let e : k ≡ last = omega arith in
       let f : last - last ≡ 0 = omega arith in
-      rw (e, f)
+      rw (e, f, drop_all (length out - b) (drop b out) (simp length-drop (omega arith)), append-nil page, g)
 
-  pub pages_all : (t : List ℕ) (last : ℕ) → last ≡ pages n → sets t (3966 * (1 - 1)) (pages_from s 1 (suc (last - 1))) ≡ sets t 0 (all_pages s)
-  pages_all t last e =
+  pub pages_all : (last : ℕ) → last ≡ pages n → pages_from s 1 (suc (last - 1)) ≡ all_pages s
+  pages_all last e =
       let f : suc (last - 1) ≡ pages n = omega arith in
-      ap (λ (k : ℕ). sets t 0 (pages_from s 1 k)) (f ∙ ap pages (sym (listed_count s n p)))
+      ap (λ (k : ℕ). pages_from s 1 k) (f ∙ ap pages (sym (listed_count s n p)))
 
 -- ---- pages_text
 
--- a line by itself
-pub alone : (t s : List ℕ) → t ++ lines s 0 0 ≡ t
-unfolding lines
-alone t s = append-nil t
-
-pub too_long_is : (s : List ℕ) → most < length s → pages_text s ≡ too_long ++ lines s 0 0
+pub too_long_is : (s : List ℕ) → most < length s → pages_text s ≡ too_long ++ lines [] 0 0
 unfolding pages_text lines
 too_long_is s h = rw (lt-ltb most (length s) h)
 

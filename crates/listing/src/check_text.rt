@@ -1,38 +1,14 @@
 // What `check_sheet` prints of its input.
 ghost use Rattle.std.specs.Prelude.{◌≡◌, ◌≤◌, ◌<◌, length, MatchOption};
-ghost use Rattle.std.proofs.lemmas.List.Edits.{sets};
 ghost use Rattle.sheet.specs.Edition.{newest};
 ghost use Rattle.sheet.specs.Check as Check;
+ghost use Rattle.sheet.specs.Refusals as Refusals;
 ghost use Rattle.listing.specs.Listing as Listing;
 
-use crate::printed::print;
+use crate::printed::{print, print_numbered};
 use polynomial::refusals::Numbered;
 use sheet::check::check;
 use sheet::refusals::Fault;
-use text::decimal::put_number;
-
-// The first line, written in the first bytes; how many it has.
-fn put_head(line: &mut [u8], a: Result<usize, Fault>) -> usize
-    requires { 32 ≤ length line.old }
-    ensures value { result ≡ length (Listing.head (Check.answer_of a)) }
-    ensures line_after { line.new ≡ sets line.old 0 (Listing.head (Check.answer_of a)) }
-    ensures upper_bound { result ≤ length line.old }
-{
-    match a {
-        Ok(n) => put_number(line, b"accepted ", n as u64),
-        Err(f) => put_number(line, b"refused ", u64::from(f.number())),
-    }
-}
-
-// How many items are listed.
-fn count(a: Result<usize, Fault>) -> usize
-    ensures { result ≡ Listing.count (Check.answer_of a) }
-{
-    match a {
-        Ok(n) => n,
-        Err(_) => 0,
-    }
-}
 
 // What Check, lent 4,096 places, says of at most 65,536 bytes; none of more, which are too long.
 pub(crate) fn checked(input: &[u8]) -> Option<Result<usize, Fault>>
@@ -46,15 +22,26 @@ pub(crate) fn checked(input: &[u8]) -> Option<Result<usize, Fault>>
     Some(check(input, &mut work))
 }
 
+// The line of a refusal.
+#[tactic(auto, using(crate::proofs::Lines::alone))]
+pub(crate) fn print_refusal(text: &mut [u8], f: Fault) -> Option<usize>
+    ensures value { result ≡ Listing.printed (Listing.head (Refusals.refused (Refusals.fault_number f))) (length text.old) }
+    ensures text_after { text.new ≡ Listing.after (Listing.head (Refusals.refused (Refusals.fault_number f))) text.old }
+{
+    print_numbered(text, b"refused ", u64::from(f.number()), b"")
+}
+
 // The text, in the first bytes of what is lent; how many bytes it has, where as many are lent.
+#[tactic(auto, using(crate::proofs::Ends::long_is, crate::proofs::Ends::count_fits, crate::proofs::Ends::items_whole, crate::proofs::Ends::accepted_is, crate::proofs::Ends::refused_is))]
 pub fn check_text(input: &[u8], text: &mut [u8]) -> Option<usize>
     ensures value { result ≡ Listing.printed (Listing.check_text input.now) (length text.old) }
     ensures text_after { text.new ≡ Listing.after (Listing.check_text input.now) text.old }
 {
     let Some(checked) = checked(input) else {
-        return print(text, b"too long\n", input, 0);
+        return print(text, b"too long\n", b"");
     };
-    let mut head = [0u8; 32];
-    let size = put_head(&mut head, checked);
-    print(text, &head[..size], input, count(checked))
+    match checked {
+        Ok(n) => print_numbered(text, b"accepted ", n as u64, &input[..8 * n]),
+        Err(f) => print_refusal(text, f),
+    }
 }

@@ -1,74 +1,59 @@
 // What `show_pages` prints of its input.
-ghost use Rattle.std.specs.Prelude.{◌≡◌, ◌+◌, ◌*◌, ◌-◌, ◌≤◌, ◌<◌, length};
-ghost use Rattle.std.proofs.lemmas.List.Edits.{sets};
-ghost use Rattle.sheet.specs.Refusals as Refusals;
+ghost use Rattle.std.specs.Prelude.{◌≡◌, ◌+◌, ◌*◌, ◌-◌, length};
 ghost use Rattle.page.specs.Page as Page;
-ghost use Rattle.page.specs.Promises.Sheets as Sheets;
 ghost use Rattle.listing.specs.Listing as Listing;
 ghost use Rattle.listing.specs.Pages as Pages;
 
-use crate::check_text::checked;
+use crate::check_text::{checked, print_refusal};
 use crate::printed::print;
 use page::lines::LINE;
-use page::page::{PER_PAGE, pages, put_page};
-use polynomial::refusals::Numbered;
-use sheet::refusals::Fault;
-use text::decimal::put_number;
+use page::page::{PER_PAGE, Paged};
 
 // A full page, and the same with the form feed behind it.
 const FULL: usize = LINE * (PER_PAGE + 1);
 
 const NEXT: usize = FULL + 1;
 
-// The pages of a sheet with n angles, of which there are `last`, written from the start on.
-fn put_pages(text: &mut [u8], sheet: &[u8], n: usize, last: usize)
-    requires paged { Sheets.Paged sheet.now n }
-    requires last_value { (last ≡ Page.pages n) × (65 * (n + last) + (last - 1) ≤ length text.old) }
-    ensures { text.new ≡ sets text.old 0 (Pages.all_pages sheet.now) }
+// All pages, a form feed between.
+fn put_pages(text: &mut [u8], paged: Paged)
+    requires { length text.old ≡ 65 * (paged.n + Page.pages paged.n) + (Page.pages paged.n - 1) }
+    ensures { text.new ≡ Pages.all_pages paged.entry.sheet.now }
 {
+    let last = paged.pages();
     for k in 1..last {
         let at = NEXT * (k - 1);
-        put_page(text, at, sheet, n, k);
+        paged.put_page(&mut text[at..at + FULL], k);
         text[at + FULL] = 12;
     }
-    put_page(text, NEXT * (last - 1), sheet, n, last);
+    paged.put_page(&mut text[NEXT * (last - 1)..], last);
 }
 
-// All pages of a checked sheet with n angles, where they have room; how many bytes they are.
-fn print_pages(text: &mut [u8], sheet: &[u8], n: usize) -> Option<usize>
-    requires { Sheets.Paged sheet.now n }
-    ensures value { result ≡ Listing.printed (Pages.all_pages sheet.now) (length text.old) }
-    ensures text_after { text.new ≡ Listing.after (Pages.all_pages sheet.now) text.old }
+// All pages, where they have room; how many bytes they are.
+#[tactic(auto, using(crate::specs::Laws::Pages::length_all))]
+fn print_pages(text: &mut [u8], paged: Paged) -> Option<usize>
+    ensures value { result ≡ Listing.printed (Pages.all_pages paged.entry.sheet.now) (length text.old) }
+    ensures text_after { text.new ≡ Listing.after (Pages.all_pages paged.entry.sheet.now) text.old }
 {
-    let last = pages(n);
-    let size = LINE * (n + last) + (last - 1);
+    let last = paged.pages();
+    let size = LINE * (paged.n + last) + (last - 1);
     if text.len() < size {
         return None;
     }
-    put_pages(text, sheet, n, last);
+    put_pages(&mut text[..size], paged);
     Some(size)
 }
 
-// The line of a refusal.
-fn print_refusal(text: &mut [u8], f: Fault) -> Option<usize>
-    ensures value { result ≡ Listing.printed (Listing.head (Refusals.refused (Refusals.fault_number f))) (length text.old) }
-    ensures text_after { text.new ≡ Listing.after (Listing.head (Refusals.refused (Refusals.fault_number f))) text.old }
-{
-    let mut line = [0u8; 32];
-    let size = put_number(&mut line, b"refused ", u64::from(f.number()));
-    print(text, &line[..size], b"", 0)
-}
-
 // The text, in the first bytes of what is lent; how many bytes it has, where as many are lent.
+#[tactic(auto, using(crate::proofs::Pages::too_long_is, crate::proofs::Pages::shown_is, crate::proofs::Pages::refused_is))]
 pub fn pages_text(input: &[u8], text: &mut [u8]) -> Option<usize>
     ensures value { result ≡ Listing.printed (Pages.pages_text input.now) (length text.old) }
     ensures text_after { text.new ≡ Listing.after (Pages.pages_text input.now) text.old }
 {
     let Some(checked) = checked(input) else {
-        return print(text, b"too long\n", input, 0);
+        return print(text, b"too long\n", b"");
     };
     match checked {
-        Ok(n) => print_pages(text, input, n),
+        Ok(n) => print_pages(text, Paged { sheet: input, n }),
         Err(f) => print_refusal(text, f),
     }
 }

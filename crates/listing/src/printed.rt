@@ -1,43 +1,63 @@
 // A first line and a line for each item, in lent bytes.
-ghost use Rattle.std.specs.Prelude.{◌≡◌, ◌++◌, ◌∷◌, [], ◌+◌, ◌*◌, ◌≤◌, length};
-ghost use Rattle.std.proofs.lemmas.List.Edits.{sets};
+ghost use Rattle.std.specs.Prelude.{◌≡◌, ◌++◌, ◌∷◌, [], ◌*◌, ◌/◌, ◌≤◌, length};
 ghost use Rattle.digits.specs.Hex as Hex;
+ghost use Rattle.text.specs.Numbered as Numbered;
 ghost use Rattle.listing.specs.Listing as Listing;
 
 use digits::hex::put_word;
-use digits::runs::put;
 use sheet::bytes::word;
+use text::decimal::put_number;
 
-// The 16 digits of w and the line's end, written from `at` on.
-fn put_line(text: &mut [u8], at: usize, w: u64)
-    requires { at + 17 ≤ length text.old }
-    ensures { text.new ≡ sets text.old at (Hex.spelled 16 w ++ (10 ∷ [])) }
+// The bytes of a line: 16 digits and the line's end.
+const LINE: usize = 17;
+
+// The 16 digits of w and the line's end.
+fn put_line(line: &mut [u8], w: u64)
+    requires { length line.old ≡ 17 }
+    ensures { line.new ≡ Hex.spelled 16 w ++ (10 ∷ []) }
 {
-    put_word(text, at, w);
-    text[at + 16] = b'\n';
+    put_word(&mut line[..16], w);
+    line[16] = b'\n';
 }
 
-// The lines of a sheet's first n items, written from `at` on.
-fn put_lines(text: &mut [u8], at: usize, s: &[u8], n: usize)
-    requires { (at + 17 * n ≤ length text.old) × (8 * n ≤ length s.now) }
-    ensures { text.new ≡ sets text.old at (Listing.lines s.now 0 n) }
+// The lines of items, of eight bytes each.
+fn put_lines(text: &mut [u8], items: &[u8])
+    requires { length text.old ≡ 17 * (length items.now / 8) }
+    ensures { text.new ≡ Listing.lines items.now 0 (length items.now / 8) }
 {
-    for i in 0..n {
-        put_line(text, at + 17 * i, word(s, 8 * i));
+    // text by the index: what is written through `chunks_exact_mut` is not known afterwards
+    for (i, item) in items.chunks_exact(8).enumerate() {
+        let line = &mut text[LINE * i..LINE * (i + 1)];
+        put_line(line, word(item, 0));
     }
 }
 
-// The first line and those of the first n items, where they have room; how many bytes they are.
-pub(crate) fn print(text: &mut [u8], head: &[u8], s: &[u8], n: usize) -> Option<usize>
-    requires { (length head.now ≤ 32) × (n ≤ 8192) × (8 * n ≤ length s.now) }
-    ensures value { result ≡ Listing.printed (head.now ++ Listing.lines s.now 0 n) (length text.old) }
-    ensures text_after { text.new ≡ Listing.after (head.now ++ Listing.lines s.now 0 n) text.old }
+// The first line and those of the items, where they have room; how many bytes they are.
+#[tactic(auto, using(crate::proofs::Lines::fits_both, crate::proofs::Lines::fails, crate::proofs::Lines::length_text))]
+pub(crate) fn print(text: &mut [u8], head: &[u8], items: &[u8]) -> Option<usize>
+    requires { (length head.now ≤ 32) × (length items.now ≤ 65536) }
+    ensures value { result ≡ Listing.printed (head.now ++ Listing.lines items.now 0 (length items.now / 8)) (length text.old) }
+    ensures text_after { text.new ≡ Listing.after (head.now ++ Listing.lines items.now 0 (length items.now / 8)) text.old }
 {
-    let size = head.len() + 17 * n;
+    let more = LINE * (items.len() / 8);
+    let size = head.len() + more;
     if text.len() < size {
         return None;
     }
-    put(text, 0, head);
-    put_lines(text, head.len(), s, n);
+    let (first, rest) = text.split_at_mut(head.len());
+    first.copy_from_slice(head);
+    put_lines(&mut rest[..more], items);
     Some(size)
+}
+
+// The same where the first line has a word and a number.
+#[tactic(auto, using(crate::proofs::Lines::front))]
+pub(crate) fn print_numbered(text: &mut [u8], word: &[u8], k: u64, items: &[u8]) -> Option<usize>
+    requires { (length word.now ≤ 11) × (length items.now ≤ 65536) }
+    ensures value { result ≡ Listing.printed (Numbered.numbered word.now k ++ Listing.lines items.now 0 (length items.now / 8)) (length text.old) }
+    ensures text_after { text.new ≡ Listing.after (Numbered.numbered word.now k ++ Listing.lines items.now 0 (length items.now / 8)) text.old }
+{
+    let mut head = [0u8; 32];
+    let size = put_number(&mut head, word, k);
+    print(text, &head[..size], items)
 }

@@ -14,7 +14,7 @@ use Rattle.float.specs.Promises.Jam.{jam}
 use Rattle.float.specs.Laws.Near.{Cmp, cmp}
 use Rattle.float.specs.Laws.Cut.{closest_jam}
 use Rattle.page.specs.Decimal.{billion, billionths}
-use Rattle.page.specs.Promises.Decimal.{held, Billionths}
+use Rattle.page.specs.Promises.Decimal.{Billionths, Beyond}
 
 -- ---- rounding
 -- to the nearest fourth part, as the program rounds
@@ -47,11 +47,11 @@ cut_below n s h l =
 -- ---- the float
 -- below the limit the place says how far to cut
 pub below : (x : Float) (s : Bool) (q k : ℕ) → k ≤ 1041 → HasValue x s (q * 2 ^ k) (2 ^ 1074)
-    → Billionths x s (held (closest (q * billion) (2 ^ (1074 - k))))
+    → Billionths x s (closest (q * billion) (2 ^ (1074 - k)))
 below nan s q k h v = v
 below (inf t) s q k h v = v
 below (fin t m e) s q k h v =
-    (sym v.0, ap held (closest_same (q * billion) (2 ^ (1074 - k)) (m * up e * billion) (down e) (pow_pos (1074 - k)) (down_pos e) same))
+    (sym v.0, closest_same (q * billion) (2 ^ (1074 - k)) (m * up e * billion) (down e) (pow_pos (1074 - k)) (down_pos e) same)
   where
     one : 2 ^ (1074 - k) * 2 ^ k ≡ 2 ^ 1074
     one = sym (pow-add 2 (1074 - k) k) ∙ ap (λ (j : ℕ). 2 ^ j) (whole k h)
@@ -68,14 +68,11 @@ below (fin t m e) s q k h v =
         (scale (m * up e) (2 ^ (1074 - k)) (2 ^ k) billion q (down e) (ap (λ (y : ℕ). m * up e * y) one ∙ v.1))
 
 -- from 2 ^ 20 on there are too many
-pub beyond : (x : Float) (s : Bool) (q k : ℕ) → 1042 ≤ k → 2 ^ 52 ≤ q → HasValue x s (q * 2 ^ k) (2 ^ 1074) → Billionths x s 1000000000000000
+pub beyond : (x : Float) (s : Bool) (q k : ℕ) → 1042 ≤ k → 2 ^ 52 ≤ q → HasValue x s (q * 2 ^ k) (2 ^ 1074) → Beyond x
 beyond nan s q k h f v = v
 beyond (inf t) s q k h f v = v
-beyond (fin t m e) s q k h f v = (sym v.0, many (billionths m e) large)
+beyond (fin t m e) s q k h f v = large
   where
-    many : (n : ℕ) → 1000000000000000 ≤ n → 1000000000000000 ≡ held n
-    many n h = omega arith
-
     -- P is as many units as there are in 1
     big : (P w d a : ℕ) → 0 < P → 2 ^ 20 * P * d ≤ w * d → a * P ≡ w * d → 1000000000000000 * d ≤ a * billion
     big P w d a l h e =
@@ -102,9 +99,8 @@ left q s a b w h l e f g =
 pub scaled_is : (q s lo : ℕ) → 33 ≤ s → lo ≡ jam (q * billion) (s - 2) → (lo + lo / 4 % 2 + 1) / 4 ≡ closest (q * billion) (2 ^ s)
 scaled_is q s lo l e = quarter lo ∙ ap (λ (w : ℕ). closest w 4) e ∙ cut (q * billion) s (omega arith)
 
--- a number that is held at 10 ^ 15, and one that is below
-pub held_at : (x : Float) (s : Bool) (n : ℕ) → Billionths x s (held n) → 1000000000000000 ≤ n → Billionths x s 1000000000000000
-held_at x s n b h = let e : held n ≡ 1000000000000000 = omega arith in rw e at b
-
-pub held_below : (x : Float) (s : Bool) (n : ℕ) → Billionths x s (held n) → n < 1000000000000000 → Billionths x s n
-held_below x s n b h = let e : held n ≡ n = omega arith in rw e at b
+-- 10 ^ 15 of them and more
+pub many : (x : Float) (s : Bool) (n : ℕ) → Billionths x s n → 1000000000000000 ≤ n → Beyond x
+many nan s n b h = b
+many (inf t) s n b h = b
+many (fin t m e) s n b h = omega (arith, b.1)

@@ -1,6 +1,5 @@
 // An angle in radians with nine decimals, in 16 columns.
-ghost use Rattle.std.specs.Prelude.{◌≡◌, ◌+◌, ◌*◌, ◌^◌, ◌≤◌, ◌<◌, T, length, replicate, MatchOption};
-ghost use Rattle.std.proofs.lemmas.List.Edits.{sets};
+ghost use Rattle.std.specs.Prelude.{◌≡◌, ◌*◌, ◌^◌, ◌≤◌, ◌<◌, T, length, replicate, MatchOption};
 ghost use Rattle.std.specs.Float.Ieee.Nearest.{closest};
 ghost use Rattle.std.specs.Float.Ieee.Scale.{finite};
 ghost use Rattle.page.specs.Decimal as Decimal;
@@ -9,7 +8,6 @@ ghost use Rattle.page.specs.Promises.Decimal as Promise;
 
 use crate::refusals::Refusal;
 use digits::decimal::{put_digits, put_signed};
-use digits::runs::fill;
 use float::mul_add::split;
 use float::number::is_finite;
 use float::wide::jam;
@@ -17,8 +15,12 @@ use float::wide::jam;
 // A billion.
 const BILLION: u64 = 1000000000;
 
+// From so many billionths on x is too long for its columns, whatever its sign.
+const MOST: u64 = 1000000000000000;
+
 // q * 10^9 / 2^s to the nearest whole number, ties to even: the product is cut two digits below the
-// point, with the last one set where anything but zeros was cut off.
+// point, with the last one set where anything but zeros was cut off. `Parts` does not say that q is
+// below 2^53, since a rounded one has that too; the one call does.
 fn scaled(q: u64, s: u64) -> u64
     requires { (q < 2 ^ 53) × (33 ≤ s) }
     ensures { result ≡ closest (q * Decimal.billion) (2 ^ s) }
@@ -34,75 +36,61 @@ pub struct Fixed {
     pub n: u64,
 }
 
-// From 2^20 on there are more than the columns hold.
-fn billionths(x: f64) -> Fixed
+// None from 10^15 on; from 2^20 on |x| has more.
+#[tactic(auto, using(crate::proofs::Rounding::below, crate::proofs::Rounding::beyond, crate::proofs::Rounding::many))]
+fn billionths(x: f64) -> Option<Fixed>
     requires { T (finite x) }
-    ensures { Promise.Billionths x result.neg result.n }
+    ensures { MatchOption result (Promise.Beyond x) (λ b. Promise.Billionths x b.neg b.n) }
 {
     let p = split(x);
     if p.k >= 1042 {
-        return Fixed {
-            neg: p.neg,
-            n: 1000000000000000,
-        };
+        return None;
     }
     let n = scaled(p.q, 1074 - p.k);
-    if n >= 1000000000000000 {
-        return Fixed {
-            neg: p.neg,
-            n: 1000000000000000,
-        };
-    }
-    Fixed { neg: p.neg, n }
+    (n < MOST).then_some(Fixed { neg: p.neg, n })
 }
 
 // How many billionths are too long for 16 columns.
 fn limit(neg: bool) -> u64
     ensures { result ≡ Promise.limit neg }
 {
-    if neg {
-        100000000000000
-    } else {
-        1000000000000000
-    }
+    if neg { MOST / 10 } else { MOST }
 }
 
 // n billionths in 16 columns: six for what stands before the point, the point, nine digits.
-fn put_pointed(out: &mut [u8], at: usize, neg: bool, n: u64)
-    requires { at + 16 ≤ length out.old }
-    ensures { out.new ≡ sets out.old at (Promise.laid neg n) }
+fn put_pointed(out: &mut [u8], b: Fixed)
+    requires { length out.old ≡ 16 }
+    ensures { out.new ≡ Promise.laid b.neg b.n }
 {
-    put_signed(out, at, neg, n / BILLION);
-    out[at + 6] = b'.';
-    put_digits(out, at + 7, 9, n % BILLION);
+    put_signed(&mut out[..6], b.neg, b.n / BILLION);
+    out[6] = b'.';
+    put_digits(&mut out[7..], b.n % BILLION);
 }
 
 // The billionths that the columns of x show, if it is finite and not too long for them.
+#[tactic(auto, using(crate::proofs::Shown::not_finite, crate::proofs::Shown::beyond, crate::proofs::Shown::over, crate::proofs::Shown::fit))]
 fn shown(x: f64) -> Option<Fixed>
     ensures { MatchOption result (Decimal.decimal x ≡ replicate 16 42) (λ b. Decimal.decimal x ≡ Promise.laid b.neg b.n) }
 {
     if !is_finite(x) {
         return None;
     }
-    let b = billionths(x);
-    if b.n >= limit(b.neg) {
-        return None;
-    }
-    Some(b)
+    billionths(x).filter(|b| b.n < limit(b.neg))
 }
 
 // The 16 columns of x.
-pub(crate) fn put_decimal(out: &mut [u8], at: usize, x: f64)
-    requires { at + 16 ≤ length out.old }
-    ensures { out.new ≡ sets out.old at (Decimal.decimal x) }
+pub(crate) fn put_decimal(out: &mut [u8], x: f64)
+    requires { length out.old ≡ 16 }
+    ensures { out.new ≡ Decimal.decimal x }
 {
     match shown(x) {
-        Some(b) => put_pointed(out, at, b.neg, b.n),
-        None => fill(out, at, 16, b'*'),
+        Some(b) => put_pointed(out, b),
+        None => out.fill(b'*'),
     }
 }
 
 // The 16 columns of x in the first bytes of what is lent; where these are fewer, they are left.
+#[tactic(auto, unfolding(sheet::specs::Refusals::need))]
 pub fn decimal_text(x: f64, text: &mut [u8]) -> Result<usize, Refusal>
     ensures result_value { Operation.answer_of result ≡ Operation.decimal_answer (length text.old) }
     ensures text_after { text.new ≡ Operation.text_after (Operation.answer_of result) (Decimal.decimal x) text.old }
@@ -110,6 +98,6 @@ pub fn decimal_text(x: f64, text: &mut [u8]) -> Result<usize, Refusal>
     if text.len() < 16 {
         return Err(Refusal::Short);
     }
-    put_decimal(text, 0, x);
+    put_decimal(&mut text[..16], x);
     Ok(16)
 }

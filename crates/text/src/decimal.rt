@@ -4,19 +4,18 @@ ghost use Rattle.std.proofs.lemmas.List.Edits.{sets};
 ghost use Rattle.digits.specs.Decimal as Decimal;
 ghost use Rattle.text.specs.Numbered as Numbered;
 
-use digits::runs::put;
 use itoa::Buffer;
 
-// The digits of n, written from `at` on; how many they are.
-fn put_decimal(out: &mut [u8], at: usize, n: u64) -> usize
-    requires { at + 20 ≤ length out.old }
+// The digits of n, written in the first bytes; how many they are.
+fn put_decimal(out: &mut [u8], n: u64) -> usize
+    requires { 20 ≤ length out.old }
     ensures value { result ≡ length (Decimal.whole n) }
-    ensures out_after { out.new ≡ sets out.old at (Decimal.whole n) }
+    ensures out_after { out.new ≡ sets out.old 0 (Decimal.whole n) }
     ensures upper_bound { result ≤ 20 }
 {
     let mut buffer = Buffer::new();
     let digits = buffer.format(n).as_bytes();
-    put(out, at, digits);
+    out[..digits.len()].copy_from_slice(digits);
     digits.len()
 }
 
@@ -27,9 +26,8 @@ pub fn put_number(out: &mut [u8], word: &[u8], n: u64) -> usize
     ensures out_after { out.new ≡ sets out.old 0 (Numbered.numbered word.now n) }
     ensures upper_bound { result ≤ length out.old }
 {
-    put(out, 0, word);
-    let k = put_decimal(out, word.len(), n);
-    let end = word.len() + k;
+    out[..word.len()].copy_from_slice(word);
+    let end = word.len() + put_decimal(&mut out[word.len()..], n);
     out[end] = b'\n';
     end + 1
 }

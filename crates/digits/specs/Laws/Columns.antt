@@ -19,7 +19,7 @@ unfolding before
 length_before zero s n = refl
 length_before (suc k) s n = rw (length-append, length_before k (s && ltb 0 n) (n / 10)) (omega arith)
 
-replicate_last : (k b : ℕ) → replicate k b ++ (b ∷ []) ≡ replicate (suc k) b
+pub replicate_last : (k b : ℕ) → replicate k b ++ (b ∷ []) ≡ replicate (suc k) b
 replicate_last zero b = refl
 replicate_last (suc k) b = ap (λ (l : List ℕ). b ∷ l) (replicate_last k b)
 

@@ -1,6 +1,9 @@
 -- Runs of stores one after the other are one.
 use Rattle.std.specs.Prelude.{ℕ, suc, ◌+◌, ◌-◌, ◌≤◌, ◌<◌, ◌≡◌, refl, ◌≢◌, List, [], ◌∷◌, ◌++◌, length, set, take, drop}
-use Rattle.std.proofs.Common.{arith, add-zero, zero-add, append_assoc, subst, sym, ◌∙◌}
+use Rattle.std.proofs.Common.{arith, add-zero, zero-add, append_assoc, subst, sym, ap, ◌∙◌, drop_at, drop-drop, take-append-drop}
+use Rattle.std.specs.List.{between}
+use Rattle.std.proofs.lemmas.List.{drop-take, take_at}
+use Rattle.std.proofs.lemmas.List.Edits.{length-between}
 use Rattle.std.proofs.lemmas.List.Edits.{sets, sets-eq, paste_all}
 use Rattle.std.proofs.lemmas.Slice.{put_mid-paste}
 use borrow.Rule.Slice.PartMut.{put_mid}
@@ -46,3 +49,21 @@ module _ {A : Type 0} where
       put_mid-paste i k l ys a (length a) e (sym f) refl
       ∙ paste_all l i a (length a) refl
       ∙ sym (sets-eq a l i h ∙ append_assoc (take i l) a (drop (i + length a) l))
+
+  -- a run stored at the start of a part
+  pub stored_in : (t l : List A) (i e : ℕ) → e ≤ length l → i + length t ≤ e → put_mid i (e - i) l (sets (between i e l) 0 t) ≡ sets l i t
+  stored_in t l i e h g =
+      let rest = drop i l in
+      let n = e - i - length t in
+      let m : e - i ≡ length t + n = omega arith in
+      let a : sets (between i e l) 0 t ≡ t ++ drop (length t) (between i e l) =
+      stored t (between i e l) (length t) refl (rw (length-between l i e h) (omega arith)) in
+      let b : drop (length t) (between i e l) ≡ take n (drop (length t) rest) =
+      ap (λ (j : ℕ). drop (length t) (take j rest)) m ∙ drop-take (length t) n rest in
+      let c : drop (e - i) rest ≡ drop n (drop (length t) rest) = ap (λ (j : ℕ). drop j rest) m ∙ sym (drop-drop n (length t) rest) in
+      let d : drop (length t) rest ≡ drop (i + length t) l = drop-drop (length t) i l in
+      rw (a, b, c, append_assoc, take-append-drop n (drop (length t) rest), d) (sym (sets-eq t l i (omega arith) ∙ append_assoc (take i l) t (drop (i + length t) l)))
+
+  -- a part behind a known front, written over
+  pub replaced : (p q r ys : List A) (a k : ℕ) → length p ≡ a → length q ≡ k → put_mid a k (p ++ (q ++ r)) ys ≡ p ++ (ys ++ r)
+  replaced p q r ys a k e f = rw (take_at p (q ++ r) a e, drop_at p (q ++ r) a e, drop_at q r k f)

@@ -1,8 +1,7 @@
--- What is still to be stored, stored now, gives what is asked.
-use Rattle.std.proofs.Common.{◌≡◌, ◌-◌}
-use Rattle.std.proofs.lemmas.List.Edits.{sets}
+-- The columns that are left, before those that stand, are those that are asked.
+use Rattle.std.proofs.Common.{◌≡◌, ◌++◌, length, drop}
 use Rattle.digits.specs.Promises.Columns as Columns
 use Rattle.digits.proofs.decimal.put_before.Given as goal
 
 abbrev pub invariant-loop-i : goal.invariant-loop-i
-invariant-loop-i l = sets l.out l.at (Columns.before (l.i - l.at) l.minus l.left) ≡ sets l.fn.out l.at (Columns.before l.k l.neg l.n)
+invariant-loop-i l = Columns.before l.i l.minus l.left ++ drop l.i l.out ≡ Columns.before (length l.fn.out) l.neg l.n

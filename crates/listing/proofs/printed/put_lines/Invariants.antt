@@ -1,8 +1,13 @@
--- The lines that are left, stored now, give what is asked.
-use Rattle.std.proofs.Common.{◌≡◌, ◌+◌, ◌*◌, ◌-◌}
-use Rattle.std.proofs.lemmas.List.Edits.{sets}
+-- The lines that stand, before those of the items that are left, are those that are asked.
+use Rattle.std.proofs.Common.{◌≡◌, ◌+◌, ◌*◌, ◌/◌, ◌++◌, length, take}
 use Rattle.listing.specs.Listing.{lines}
 use Rattle.listing.proofs.printed.put_lines.Given as goal
 
 abbrev pub invariant-loop-i : goal.invariant-loop-i
-invariant-loop-i l = sets l.text (l.at + 17 * l.i) (lines l.s l.i (l.n - l.i)) ≡ sets l.initial.text l.at (lines l.s 0 l.n)
+invariant-loop-i l = let k = l.i-iterator.count in
+    let rest = l.i-iterator.iter.rest.now in
+    record {
+      size : l.i-iterator.iter.size ≡ 8;
+      left : k + length rest / 8 ≡ length l.items / 8;
+      stands : take (17 * k) l.text ++ lines rest 0 (length rest / 8) ≡ lines l.items 0 (length l.items / 8);
+    }
