@@ -3,19 +3,12 @@
 // than 65,536 bytes. One byte more is read, which tells such input.
 #![tactic(auto)]
 
-use listing::check_text::check_text;
+use listing::check_text::deliver_check;
 use text::input::with_input;
-use text::report::deliver;
-
-// So many bytes always suffice: `room_suffices` of listing's Laws.
-fn answer(rt: &HostRuntime, input: &[u8]) {
-    let mut text = [0u8; 147456];
-    if let Some(n) = check_text(input, &mut text) {
-        deliver(rt, &mut rt.stdout(), &text[..n]);
-    }
-}
 
 fn main(rt: HostRuntime) {
     let mut buffer = [0u8; 65537];
-    with_input(&rt, &mut buffer, |input| answer(&rt, input));
+    with_input(&rt, &mut buffer, |input| {
+        deliver_check(&rt, &mut rt.stdout(), input);
+    });
 }

@@ -1,5 +1,6 @@
 -- What each way through the two programs' functions gives is the definition's text.
-use Rattle.std.proofs.Common.{ℕ, ◌*◌, ◌/◌, ◌≤◌, ◌<◌, arith, ◌≡◌, sym, List, [], ◌++◌, length, length-take-le, take, lt-ltb, le-ltb}
+use Rattle.std.proofs.Common.{ℕ, ◌*◌, ◌/◌, ◌≤◌, ◌<◌, arith, ◌≡◌, refl, sym, List, [], ◌++◌, length, length-take-le, take, drop, lt-ltb, le-ltb, leb, cond, Bool, true, false, Some, None}
+use Rattle.std.proofs.lemmas.List.{take_at}
 use Rattle.sheet.specs.Refusals.{accepted, refused}
 use Rattle.sheet.specs.Sampling.{answer, sheet, output_after}
 use Rattle.sheet.specs.Sheet.{sheet_size}
@@ -9,7 +10,7 @@ use Rattle.sheet.specs.Laws.Accepted.{answer_passed, answer_count}
 use Rattle.sheet.specs.Laws.Demands.{checked_length}
 use Rattle.sheet.specs.Check as Check
 use Rattle.text.specs.Numbered.{numbered}
-use Rattle.listing.specs.Listing.{places, most, accepted_word, refused_word, too_long, head, lines, check_text, make_output, make_error, filled}
+use Rattle.listing.specs.Listing.{places, most, accepted_word, refused_word, too_long, head, lines, check_text, make_output, make_error, filled, printed, after}
 use Rattle.listing.proofs.Lines.{alone, lines_front}
 
 -- ---- check_text
@@ -60,3 +61,13 @@ module _ (r output error : List ℕ) where
       → (output_after (refused k) r output ≡ filled (make_output r (length output)) output)
       × (filled (numbered refused_word k) error ≡ filled (make_error r (length output)) error)
   refused_filled k e = (rw e, rw e)
+
+-- what was printed stands in front of what was lent
+pub written_whole : (t old : List ℕ) (n : ℕ) → Some n ≡ printed t (length old) → take n (after t old) ≡ t
+written_whole t old n e = go (leb (length t) (length old)) refl e
+  where
+    go : (b : Bool) → b ≡ leb (length t) (length old) → Some n ≡ cond b (Some (length t)) None → take n (cond b (t ++ drop (length t) old) old) ≡ t
+    go true f g =
+        let h : n ≡ length t = cc in
+        rw h (take_at t (drop (length t) old) (length t) refl)
+    go false f g = cc

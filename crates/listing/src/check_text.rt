@@ -1,5 +1,6 @@
 // What `check_sheet` prints of its input.
-ghost use Rattle.std.specs.Prelude.{◌≡◌, ◌≤◌, ◌<◌, length, MatchOption};
+ghost use Rattle.std.specs.Prelude.{◌≡◌, ◌≤◌, ◌<◌, length, IsTrue, MatchOption};
+ghost use Rattle.std.specs.Io.KnownBytes.{Appends};
 ghost use Rattle.sheet.specs.Edition.{newest};
 ghost use Rattle.sheet.specs.Check as Check;
 ghost use Rattle.sheet.specs.Refusals as Refusals;
@@ -9,6 +10,8 @@ use crate::printed::{print, print_numbered};
 use polynomial::refusals::Numbered;
 use sheet::check::check;
 use sheet::refusals::Fault;
+use std::io::Write;
+use text::report::deliver;
 
 // What Check, lent 4,096 places, says of at most 65,536 bytes; none of more, which are too long.
 pub(crate) fn checked(input: &[u8]) -> Option<Result<usize, Fault>>
@@ -44,4 +47,17 @@ pub fn check_text(input: &[u8], text: &mut [u8]) -> Option<usize>
         Ok(n) => print_numbered(text, b"accepted ", n as u64, &input[..8 * n]),
         Err(f) => print_refusal(text, f),
     }
+}
+
+// Writes the text; whether all of it was written. So many bytes always suffice, by `room_suffices` of the
+// Laws.
+#[tactic(auto, using(crate::proofs::Ends::written_whole))]
+pub fn deliver_check<W: Write>(rt: &impl Eprint, to: &mut W, input: &[u8]) -> bool
+    ensures { IsTrue result → Appends (W.contents to.old) (W.contents to.new) (Listing.check_text input.now) }
+{
+    let mut text = [0u8; 147456];
+    let Some(n) = check_text(input, &mut text) else {
+        return false;
+    };
+    deliver(rt, to, &text[..n])
 }

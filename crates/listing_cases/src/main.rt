@@ -9,17 +9,9 @@
 
 ghost use Rattle.std.specs.Prelude.{◌≤◌, ◌<◌, IfSome, length};
 
-use listing::check_text::check_text;
+use listing::check_text::deliver_check;
 use text::input::with_input;
 use text::lines::{bytes, held, line, word};
-use text::report::deliver;
-
-fn print(rt: &HostRuntime, input: &[u8]) {
-    let mut text = [0u8; 147456];
-    if let Some(n) = check_text(input, &mut text) {
-        deliver(rt, &mut rt.stdout(), &text[..n]);
-    }
-}
 
 // The line of a stored input with which s begins: the mark, the size, the count of words and these.
 fn case(s: &[u8]) -> Option<&[u8]>
@@ -46,7 +38,7 @@ fn cases(rt: &HostRuntime, s: &[u8]) {
     while let Some(line) = case(rest) {
         let mut input = [0; 65537];
         if let Some(size) = input_of(line, &mut input) {
-            print(rt, &input[..size]);
+            deliver_check(rt, &mut rt.stdout(), &input[..size]);
         }
         rest = &rest[line.len()..];
     }
