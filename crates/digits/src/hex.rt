@@ -32,6 +32,7 @@ fn are_digits(bytes: &[u8]) -> bool
 }
 
 // Whether the 16 bytes at `at` are digits.
+#[tactic(auto, using(crate::proofs::Spelled::digits_of_part))]
 pub fn is_word(s: &[u8], at: usize) -> bool
     requires { at + 16 ≤ length s.now }
     ensures { result ≡ Hex.digits s.now at 16 }
@@ -40,7 +41,7 @@ pub fn is_word(s: &[u8], at: usize) -> bool
 }
 
 // The number that digits stand for.
-#[tactic(auto, unfolding(crate::specs::Hex::value))]
+#[tactic(auto, using(crate::proofs::Spelled::more_fits), unfolding(crate::specs::Hex::value))]
 fn value(digits: &[u8]) -> u64
     requires { length digits.now ≤ 16 }
     ensures { result ≡ Hex.value digits.now 0 (length digits.now) }
@@ -53,6 +54,7 @@ fn value(digits: &[u8]) -> u64
 }
 
 // The number that the 16 digits at `at` stand for.
+#[tactic(auto, using(crate::proofs::Spelled::value_of_part))]
 pub fn word(s: &[u8], at: usize) -> u64
     requires { at + 16 ≤ length s.now }
     ensures { result ≡ Hex.value s.now at 16 }
@@ -61,6 +63,7 @@ pub fn word(s: &[u8], at: usize) -> u64
 }
 
 // The byte that the two digits at `at` stand for.
+#[tactic(auto, using(crate::proofs::Spelled::value_of_part, crate::proofs::Spelled::value_below))]
 pub fn byte(s: &[u8], at: usize) -> u8
     requires { at + 2 ≤ length s.now }
     ensures { result ≡ Hex.value s.now at 2 }

@@ -17,6 +17,7 @@ fn each<F: Fn(f64) -> f64>(hs: &mut [f64], step: F)
     }
 }
 
+#[tactic(auto, using(crate::proofs::Places::mapped))]
 #[unsafe(no_mangle)]
 pub extern "C" fn bench_each_plain(hs: &mut [f64], x: f64, c: f64)
     ensures { hs.new ≡ map (Steps.plain x c) hs.old }
@@ -24,6 +25,7 @@ pub extern "C" fn bench_each_plain(hs: &mut [f64], x: f64, c: f64)
     each(hs, |h| h * x + c);
 }
 
+#[tactic(auto, using(crate::proofs::Places::mapped))]
 #[unsafe(no_mangle)]
 pub extern "C" fn bench_each_mul_add(hs: &mut [f64], x: f64, c: f64)
     ensures { hs.new ≡ map (Steps.fused x c) hs.old }
@@ -31,6 +33,7 @@ pub extern "C" fn bench_each_mul_add(hs: &mut [f64], x: f64, c: f64)
     each(hs, |h| mul_add(h, x, c));
 }
 
+#[tactic(auto, using(crate::proofs::Places::mapped))]
 #[unsafe(no_mangle)]
 pub extern "C" fn bench_each_sqrt(hs: &mut [f64], c: f64)
     ensures { hs.new ≡ map (Steps.root c) hs.old }
@@ -38,6 +41,7 @@ pub extern "C" fn bench_each_sqrt(hs: &mut [f64], c: f64)
     each(hs, |h| sqrt(h + c));
 }
 
+#[tactic(auto, using(crate::proofs::Places::mapped))]
 #[unsafe(no_mangle)]
 pub extern "C" fn bench_each_product_error(hs: &mut [f64], x: f64, c: f64)
     ensures { hs.new ≡ map (Steps.error x c) hs.old }

@@ -15,6 +15,7 @@ pub struct Made {
 }
 
 // Both texts, each in the first bytes of what is lent. Sampling is lent 4,096 places.
+#[tactic(auto, using(sheet::specs::Laws::Accepted::answer_room, crate::proofs::Ends::sheet_whole, crate::proofs::Ends::refused_filled))]
 pub fn make_text(request: &[u8], output: &mut [u8], error: &mut [u8]) -> Made
     requires { 32 ≤ length error.old }
     ensures output_value { result.output ≡ length (Listing.make_output request.now (length output.old)) }

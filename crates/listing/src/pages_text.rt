@@ -15,6 +15,7 @@ const FULL: usize = LINE * (PER_PAGE + 1);
 const NEXT: usize = FULL + 1;
 
 // All pages, a form feed between.
+#[tactic(auto, using(crate::proofs::Pages::pages_turn, crate::proofs::Pages::pages_done, crate::proofs::Pages::pages_all))]
 fn put_pages(text: &mut [u8], paged: Paged)
     requires { length text.old ≡ 65 * (paged.n + Page.pages paged.n) + (Page.pages paged.n - 1) }
     ensures { text.new ≡ Pages.all_pages paged.entry.sheet.now }

@@ -6,6 +6,7 @@ use mathlib.Core.Bool.{Bool, true, false, false≢true}
 use lib.ListN.{replicate}
 use lib.Ieee.{Float, nan, inf, fin}
 use lib.Ieee.Scale.{finite}
+use Rattle.std.proofs.Common.{List, [], ◌∷◌, length, set}
 use Rattle.page.specs.Decimal.{billionths, decimal}
 use Rattle.page.specs.Promises.Decimal.{laid, limit, Billionths, Beyond}
 use Rattle.page.specs.Laws.Decimal.{laid_is, too_long}
@@ -38,3 +39,9 @@ unfolding decimal
 fit nan s n b h = absurd b
 fit (inf t) s n b h = absurd b
 fit (fin t m e) s n b h = rw (← b.0, ← b.1) (sym (laid_is s n h))
+
+-- ---- what is written
+pub point : (p : List ℕ) → length p ≡ 1 → set p 0 46 ≡ 46 ∷ []
+point [] h = let w : ⊥ = omega arith in absurd w
+point (x ∷ []) h = refl
+point (x ∷ (y ∷ p)) h = let w : ⊥ = omega arith in absurd w

@@ -21,6 +21,7 @@ const MOST: u64 = 1000000000000000;
 // q * 10^9 / 2^s to the nearest whole number, ties to even: the product is cut two digits below the
 // point, with the last one set where anything but zeros was cut off. `Parts` does not say that q is
 // below 2^53, since a rounded one has that too; the one call does.
+#[tactic(auto, using(crate::proofs::Rounding::left, crate::proofs::Rounding::scaled_is))]
 fn scaled(q: u64, s: u64) -> u64
     requires { (q < 2 ^ 53) × (33 ≤ s) }
     ensures { result ≡ closest (q * Decimal.billion) (2 ^ s) }
@@ -58,13 +59,16 @@ fn limit(neg: bool) -> u64
 }
 
 // n billionths in 16 columns: six for what stands before the point, the point, nine digits.
+#[tactic(auto, using(crate::proofs::Shown::point))]
 fn put_pointed(out: &mut [u8], b: Fixed)
     requires { length out.old ≡ 16 }
     ensures { out.new ≡ Promise.laid b.neg b.n }
 {
-    put_signed(&mut out[..6], b.neg, b.n / BILLION);
-    out[6] = b'.';
-    put_digits(&mut out[7..], b.n % BILLION);
+    let (whole, rest) = out.split_at_mut(6);
+    let (point, decimals) = rest.split_at_mut(1);
+    put_signed(whole, b.neg, b.n / BILLION);
+    point[0] = b'.';
+    put_digits(decimals, b.n % BILLION);
 }
 
 // The billionths that the columns of x show, if it is finite and not too long for them.

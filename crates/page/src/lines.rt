@@ -13,6 +13,7 @@ use sheet::bytes::word;
 pub const LINE: usize = 65;
 
 // The line of an angle, by its bits.
+#[tactic(auto, using(crate::proofs::Stores::line_is))]
 fn put_line(line: &mut [u8], place: u64, angle: u64)
     requires { (length line.old ≡ 65) × (place < 1000000) }
     ensures { line.new ≡ Page.line place angle }
@@ -53,6 +54,7 @@ fn put_name(out: &mut [u8], name: &[u8])
 }
 
 // The first line of a page.
+#[tactic(auto, using(crate::proofs::Stores::head_is))]
 pub(crate) fn put_head(line: &mut [u8], name: &[u8])
     requires { (length name.now ≤ 32) × (length line.old ≡ 65) }
     ensures { line.new ≡ Page.name_line name.now }

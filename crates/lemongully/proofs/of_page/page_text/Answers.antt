@@ -18,9 +18,3 @@ signed_number-requires c = let a = c.args in small _ (λ n e.
       c.well_formed,
     ))
 
-pub returns : goal.returns
-returns c = let a = c.args in
-    let e = c.page_text.ensures in
-    let n = to_z-of_z w64 c.signed_number.result (record { sfits = c.signed_number.type_inv }) ∙ c.signed_number.ensures ∙ signed_page c.page_text.result in
-    let o = e.text_after ∙ ap (λ (v : Answer). text_after v (text a.sheet.now a.page) a.text.now) e.result_value in
-    record { value = n ∙ ap signed e.result_value; text_after = o; work_after = e.work_after }

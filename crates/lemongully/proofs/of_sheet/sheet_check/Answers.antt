@@ -15,7 +15,3 @@ pub signed_number-requires : goal.signed_number-requires
 signed_number-requires c = small _ (λ n e.
     omega (arith, checked_length newest c.args.sheet.now (length c.args.work.now) n (sym c.check.ensures.result_value ∙ ap answer_of e), c.well_formed))
 
-pub returns : goal.returns
-returns c = let e = c.check.ensures in
-    let n = to_z-of_z w64 c.signed_number.result (record { sfits = c.signed_number.type_inv }) ∙ c.signed_number.ensures ∙ signed_checked c.check.result in
-    record { value = n ∙ ap signed e.result_value; work_after = e.work_after }

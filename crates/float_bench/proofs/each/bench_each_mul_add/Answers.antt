@@ -1,7 +1,0 @@
-use Rattle.std.proofs.Common.{rules}
-use Rattle.float_bench.specs.Steps.{fused}
-use Rattle.float_bench.proofs.Places.{mapped}
-use Rattle.float_bench.proofs.each.bench_each_mul_add.Goals as goal
-
-pub returns : goal.returns
-returns c = mapped _ (fused c.args.x c.args.c) (λ x y h. search rules) c.args.hs.now _ c.each.ensures
