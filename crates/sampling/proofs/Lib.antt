@@ -3,6 +3,8 @@
 -- `Laws`: theorems that upper crates cite.
 pub mod Laws
 mod Grown
+mod Curves
 mod Literals
+mod Lengths
 mod Laid
 mod CriticalSlices

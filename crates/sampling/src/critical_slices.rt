@@ -29,6 +29,7 @@ pub struct Chart {
 }
 
 // The chart of a part of joint 1's interval.
+#[tactic(auto, unfolding(crate::specs::CriticalSlices::chart, crate::proofs::Literals::of_bits))]
 pub(crate) fn chart_of(lower: f64, upper: f64) -> Chart
     ensures { result ≡ Of.chart lower upper }
 {
@@ -52,6 +53,7 @@ fn angles(work: &mut [f64], cuts: Option<usize>, origin: f64, roots: &[f64]) -> 
 }
 
 // An inner call of the root finder.
+#[tactic(auto, using(crate::proofs::Lengths::pow_mono), unfolding(crate::specs::CriticalSlices::chart_roots))]
 fn chart_roots(work: &mut [f64], cuts: Option<usize>, c: Chart, p: &[Compensated]) -> Option<usize>
     requires { (length p.now ≤ 9) × Bounded c }
     ensures { Grown (Of.chart_roots c p.now) work.old cuts work.new result }
@@ -66,6 +68,7 @@ fn chart_roots(work: &mut [f64], cuts: Option<usize>, c: Chart, p: &[Compensated
 }
 
 // p * p + q * q - r * r, of as many coefficients each.
+#[tactic(auto, using(crate::proofs::Lengths::lengths), unfolding(crate::specs::CriticalSlices::squares, crate::proofs::Literals::of_bits))]
 fn squares(p: &[Compensated], q: &[Compensated], r: &[Compensated]) -> Coefficients
     requires { (0 < length p.now) × (length p.now ≤ 5) × (length q.now ≡ length p.now) × (length r.now ≡ length p.now) }
     ensures { result.items ≡ Of.squares p.now q.now r.now }
@@ -75,6 +78,7 @@ fn squares(p: &[Compensated], q: &[Compensated], r: &[Compensated]) -> Coefficie
 }
 
 // The polynomial of a curve's vertical tangencies.
+#[tactic(auto, unfolding(crate::specs::CriticalSlices::tangency))]
 fn tangency(k: Numerators) -> Coefficients
     ensures { result.items ≡ Of.tangency (polynomials_of k) }
 {
@@ -85,6 +89,7 @@ fn tangency(k: Numerators) -> Coefficients
 }
 
 // The polynomial of the intersections of two curves.
+#[tactic(auto, using(crate::proofs::Lengths::lengths), unfolding(crate::specs::CriticalSlices::intersection))]
 fn intersection(k: Numerators, l: Numerators) -> Coefficients
     ensures { result.items ≡ Of.intersection (polynomials_of k) (polynomials_of l) }
 {

@@ -17,6 +17,7 @@ use polynomial::angle::wrapped_angle;
 // The most crossings that are deferred together: joint 6's, and those of its phases with joint 4.
 pub(crate) const CROSSINGS: usize = 14;
 
+// Its room is asked for as that of `Angles` is: an Option from each would be pushed in ten places.
 pub(crate) type Deferred = ArrayVec<Pending, CROSSINGS>;
 
 // A polynomial's sine and cosine, and the cosine of the angle between its phase and a crossing.
