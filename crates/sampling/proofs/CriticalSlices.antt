@@ -13,11 +13,10 @@ use Rattle.polynomial.specs.declared.compensated.Compensated.{Compensated}
 use Rattle.polynomial.specs.declared.curve.Curve.{Curve}
 use Rattle.std.specs.Prelude.{Option}
 use Rattle.polynomial.specs.declared.curve.Numerators.{Numerators}
-use Rattle.sampling.specs.CriticalSlices.{angles, chart_roots, critical, Polynomials, polynomials, all_polynomials, tangency, intersection}
+use Rattle.sampling.specs.CriticalSlices.{Chart, angles, chart_roots, critical, Polynomials, polynomials, all_polynomials, tangency, intersection}
 use Rattle.sampling.proofs.Laws.CriticalSlices.{roots_append, critical_more}
 use Rattle.sampling.specs.Promises.Grown.{Grown}
 use Rattle.sampling.specs.Promises.Numerators.{polynomials_of, meetings}
-use Rattle.sampling.specs.declared.critical_slices.Chart.{Chart}
 use Rattle.sampling.proofs.Grown.{then}
 
 module _ (origin : Float) (l : List Float) (i : ℕ) where

@@ -3,7 +3,7 @@
 ghost use Rattle.std.specs.Prelude.{◌≡◌, ◌≤◌, ◌<◌, length, map};
 ghost use mathlib.Core.List.{flat_map};
 ghost use Rattle.sampling.specs.Promises.Curves.{most_curves};
-ghost use Rattle.sampling.specs.Promises.Charts.{Bounded};
+ghost use Rattle.sampling.specs.Promises.Charts.{Bounded, plain};
 ghost use Rattle.sampling.specs.Promises.Grown.{Grown};
 ghost use Rattle.sampling.specs.CriticalSlices as Of;
 ghost use Rattle.sampling.specs.Promises.Numerators.{polynomials_of, meetings};
@@ -20,25 +20,25 @@ use polynomial::compensated::{Coefficients, Compensated};
 use polynomial::curve::{Curve, Numerators};
 use polynomial::roots::roots;
 
-// The chart u = tan((q1 - origin) / 2): its origin and its bounds.
+// The chart u = tan((q1 - origin) / 2): its origin and its bounds, which the root finder takes.
 #[derive(Clone, Copy)]
 pub struct Chart {
     pub origin: f64,
-    pub lower: f64,
-    pub upper: f64,
+    pub bounds: Bounds,
 }
 
 // The chart of a part of joint 1's interval.
 #[tactic(auto, unfolding(crate::specs::CriticalSlices::chart, crate::proofs::Literals::of_bits))]
 pub(crate) fn chart_of(lower: f64, upper: f64) -> Chart
-    ensures { result ≡ Of.chart lower upper }
+    requires { Bounded (Of.chart lower upper) }
+    ensures { plain result ≡ Of.chart lower upper }
 {
     let origin = middle(lower, upper);
-    Chart {
-        origin,
+    let bounds = Bounds {
         lower: tan((lower - origin) / 2.0),
         upper: tan((upper - origin) / 2.0),
-    }
+    };
+    Chart { origin, bounds }
 }
 
 // The angles of the roots.
@@ -55,15 +55,11 @@ fn angles(work: &mut [f64], cuts: Option<usize>, origin: f64, roots: &[f64]) -> 
 // An inner call of the root finder.
 #[tactic(auto, using(crate::proofs::Lengths::pow_mono), unfolding(crate::specs::CriticalSlices::chart_roots))]
 fn chart_roots(work: &mut [f64], cuts: Option<usize>, c: Chart, p: &[Compensated]) -> Option<usize>
-    requires { (length p.now ≤ 9) × Bounded c }
-    ensures { Grown (Of.chart_roots c p.now) work.old cuts work.new result }
+    requires { length p.now ≤ 9 }
+    ensures { Grown (Of.chart_roots (plain c) p.now) work.old cuts work.new result }
 {
     let mut found = [0.0; 512];
-    let bounds = Bounds {
-        lower: c.lower,
-        upper: c.upper,
-    };
-    let m = roots(p, bounds, &mut found);
+    let m = roots(p, c.bounds, &mut found);
     angles(work, cuts, c.origin, &found[..m])
 }
 
@@ -113,8 +109,7 @@ fn meetings(
     earlier: &[Numerators],
     k: Numerators,
 ) -> Option<usize>
-    requires { Bounded c }
-    ensures { Grown (flat_map (Of.chart_roots c) (meetings (map polynomials_of earlier.now) (polynomials_of k))) work.old cuts
+    ensures { Grown (flat_map (Of.chart_roots (plain c)) (meetings (map polynomials_of earlier.now) (polynomials_of k))) work.old cuts
         work.new result }
 {
     let mut state = cuts;
@@ -132,8 +127,8 @@ pub(crate) fn critical(
     c: Chart,
     curves: &[Curve],
 ) -> Option<usize>
-    requires { (length curves.now ≤ most_curves) × Bounded c }
-    ensures { Grown (Of.critical c curves.now) work.old cuts work.new result }
+    requires { length curves.now ≤ most_curves }
+    ensures { Grown (Of.critical (plain c) curves.now) work.old cuts work.new result }
 {
     let mut known: ArrayVec<Numerators, CURVES> = ArrayVec::new();
     let mut state = cuts;
