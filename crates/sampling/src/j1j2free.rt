@@ -17,7 +17,7 @@ use crate::job::{Job, Joint};
 use crate::limits::limits;
 use crate::lists::{Halves, Lists, Plan};
 use crate::pose::Matrix;
-use crate::samples::all_copies;
+use crate::samples::{Interval, all_copies};
 use crate::work::push;
 use float::number::middle;
 use polynomial::angle::wrapped_angle;
@@ -93,7 +93,7 @@ fn half_cuts(
     let first = push(work, Some(0), lower);
     let ends = push(work, first, upper);
     let cuts = critical(work, ends, c, curves);
-    all_copies(work, cuts, lower, upper, bends)
+    all_copies(work, cuts, Interval { lower, upper }, bends)
 }
 
 // Where the second half's list starts: behind the first, or, where that has too few places, at the

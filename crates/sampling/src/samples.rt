@@ -1,7 +1,8 @@
 // From the boundary angles of one free joint to its samples, from `sample_angles` of
 // src/singularity/continuum.rs.
-ghost use Rattle.std.specs.Prelude.{◌≡◌, [], ◌∷◌, ◌≤◌, length, take, get_or};
+ghost use Rattle.std.specs.Prelude.{◌≡◌, ◌&&◌, [], ◌∷◌, ◌≤◌, length, take, get_or};
 ghost use Rattle.std.specs.Float.{nan};
+ghost use Rattle.std.specs.Float.Ieee.{le};
 ghost use Rattle.polynomial.specs.Promises.Held.{Kept};
 ghost use Rattle.sampling.specs.Promises.Grown.{Grown};
 ghost use Rattle.sampling.specs.Samples as Of;
@@ -12,19 +13,29 @@ use crate::work::push;
 use float::number::{abs, is_finite, maximum, middle, minimum};
 use float::trig::TWO_PI;
 
+// The angles from one to another, both among them.
+#[derive(Clone, Copy)]
+pub struct Interval {
+    pub lower: f64,
+    pub upper: f64,
+}
+
+impl Interval {
+    #[inline]
+    fn contains(self, angle: f64) -> bool
+        ensures { result ≡ (le self.lower angle && le angle self.upper) }
+    {
+        (self.lower <= angle) & (angle <= self.upper)
+    }
+}
+
 // An angle counts where it lies in the interval.
 #[inline]
 #[tactic(auto, unfolding(crate::specs::Samples::inside))]
-fn inside(
-    work: &mut [f64],
-    cuts: Option<usize>,
-    lower: f64,
-    upper: f64,
-    angle: f64,
-) -> Option<usize>
-    ensures { Grown (Of.inside lower upper angle) work.old cuts work.new result }
+fn inside(work: &mut [f64], cuts: Option<usize>, interval: Interval, angle: f64) -> Option<usize>
+    ensures { Grown (Of.inside interval.lower interval.upper angle) work.old cuts work.new result }
 {
-    if (lower <= angle) & (angle <= upper) {
+    if interval.contains(angle) {
         return push(work, cuts, angle);
     }
     cuts
@@ -33,37 +44,30 @@ fn inside(
 // An angle, a turn below, as it is and a turn above. Mostly the two outer ones lie outside.
 #[inline]
 #[tactic(auto, unfolding(crate::specs::Samples::inside, crate::specs::Samples::copies, crate::proofs::Literals::of_bits))]
-fn copies(
-    work: &mut [f64],
-    cuts: Option<usize>,
-    lower: f64,
-    upper: f64,
-    angle: f64,
-) -> Option<usize>
-    ensures { Grown (Of.copies lower upper angle) work.old cuts work.new result }
+fn copies(work: &mut [f64], cuts: Option<usize>, interval: Interval, angle: f64) -> Option<usize>
+    ensures { Grown (Of.copies interval.lower interval.upper angle) work.old cuts work.new result }
 {
     let below = angle + -1.0 * TWO_PI;
     let above = angle + 1.0 * TWO_PI;
-    if !(lower <= below) & !(above <= upper) {
-        return inside(work, cuts, lower, upper, angle + 0.0 * TWO_PI);
+    if !(interval.lower <= below) & !(above <= interval.upper) {
+        return inside(work, cuts, interval, angle + 0.0 * TWO_PI);
     }
-    let first = inside(work, cuts, lower, upper, below);
-    let second = inside(work, first, lower, upper, angle + 0.0 * TWO_PI);
-    inside(work, second, lower, upper, above)
+    let first = inside(work, cuts, interval, below);
+    let second = inside(work, first, interval, angle + 0.0 * TWO_PI);
+    inside(work, second, interval, above)
 }
 
 // The copies of each angle.
 pub(crate) fn all_copies(
     work: &mut [f64],
     mut cuts: Option<usize>,
-    lower: f64,
-    upper: f64,
+    interval: Interval,
     angles: &[f64],
 ) -> Option<usize>
-    ensures { Grown (Of.all_copies lower upper angles.now) work.old cuts work.new result }
+    ensures { Grown (Of.all_copies interval.lower interval.upper angles.now) work.old cuts work.new result }
 {
     for angle in angles {
-        cuts = copies(work, cuts, lower, upper, *angle);
+        cuts = copies(work, cuts, interval, *angle);
     }
     cuts
 }
@@ -71,33 +75,27 @@ pub(crate) fn all_copies(
 // A root counts if it is finite.
 #[inline]
 #[tactic(auto, unfolding(crate::specs::Samples::windings))]
-fn windings(
-    work: &mut [f64],
-    cuts: Option<usize>,
-    lower: f64,
-    upper: f64,
-    root: f64,
-) -> Option<usize>
-    ensures { Grown (Of.windings lower upper root) work.old cuts work.new result }
+fn windings(work: &mut [f64], cuts: Option<usize>, interval: Interval, root: f64) -> Option<usize>
+    ensures { Grown (Of.windings interval.lower interval.upper root) work.old cuts work.new result }
 {
     if is_finite(root) {
-        return copies(work, cuts, lower, upper, root);
+        return copies(work, cuts, interval, root);
     }
     cuts
 }
 
-// The windings of each root.
+// The windings of each root. The loop of `all_copies` with another step: a closure for the step would
+// promise `Grown` of a list that is told by what it answers for each angle, and each caller show which.
 fn all_windings(
     work: &mut [f64],
     mut cuts: Option<usize>,
-    lower: f64,
-    upper: f64,
+    interval: Interval,
     roots: &[f64],
 ) -> Option<usize>
-    ensures { Grown (Of.all_windings lower upper roots.now) work.old cuts work.new result }
+    ensures { Grown (Of.all_windings interval.lower interval.upper roots.now) work.old cuts work.new result }
 {
     for root in roots {
-        cuts = windings(work, cuts, lower, upper, *root);
+        cuts = windings(work, cuts, interval, *root);
     }
     cuts
 }
@@ -114,11 +112,13 @@ pub(crate) fn interval_cuts(
     let Some((a, b)) = range else {
         return Some(0);
     };
-    let lower = near + a;
-    let upper = near + b;
-    let first = push(work, Some(0), lower);
-    let ends = push(work, first, upper);
-    all_windings(work, ends, lower, upper, roots)
+    let interval = Interval {
+        lower: near + a,
+        upper: near + b,
+    };
+    let first = push(work, Some(0), interval.lower);
+    let ends = push(work, first, interval.upper);
+    all_windings(work, ends, interval, roots)
 }
 
 // How far inside a pair of neighbouring cuts the outer samples lie.
