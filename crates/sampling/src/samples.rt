@@ -9,7 +9,7 @@ ghost use Rattle.sampling.specs.Samples as Of;
 
 use crate::continuum::ROOT_ROUNDOFF;
 use crate::intervals::Range;
-use crate::work::push;
+use crate::work::Cuts;
 use float::number::{abs, is_finite, maximum, middle, minimum};
 use float::trig::TWO_PI;
 
@@ -32,72 +32,59 @@ impl Interval {
 // An angle counts where it lies in the interval.
 #[inline]
 #[tactic(auto, unfolding(crate::specs::Samples::inside))]
-fn inside(work: &mut [f64], cuts: Option<usize>, interval: Interval, angle: f64) -> Option<usize>
-    ensures { Grown (Of.inside interval.lower interval.upper angle) work.old cuts work.new result }
+fn inside(cuts: &mut Cuts, interval: Interval, angle: f64)
+    ensures { Grown (Of.inside interval.lower interval.upper angle) cuts.old cuts.new }
 {
     if interval.contains(angle) {
-        return push(work, cuts, angle);
+        cuts.push(angle);
     }
-    cuts
 }
 
 // An angle, a turn below, as it is and a turn above. Mostly the two outer ones lie outside.
 #[inline]
 #[tactic(auto, unfolding(crate::specs::Samples::inside, crate::specs::Samples::copies, crate::proofs::Literals::of_bits))]
-fn copies(work: &mut [f64], cuts: Option<usize>, interval: Interval, angle: f64) -> Option<usize>
-    ensures { Grown (Of.copies interval.lower interval.upper angle) work.old cuts work.new result }
+fn copies(cuts: &mut Cuts, interval: Interval, angle: f64)
+    ensures { Grown (Of.copies interval.lower interval.upper angle) cuts.old cuts.new }
 {
     let below = angle + -1.0 * TWO_PI;
     let above = angle + 1.0 * TWO_PI;
     if !(interval.lower <= below) & !(above <= interval.upper) {
-        return inside(work, cuts, interval, angle + 0.0 * TWO_PI);
+        inside(cuts, interval, angle + 0.0 * TWO_PI);
+        return;
     }
-    let first = inside(work, cuts, interval, below);
-    let second = inside(work, first, interval, angle + 0.0 * TWO_PI);
-    inside(work, second, interval, above)
+    inside(cuts, interval, below);
+    inside(cuts, interval, angle + 0.0 * TWO_PI);
+    inside(cuts, interval, above);
 }
 
 // The copies of each angle.
-pub(crate) fn all_copies(
-    work: &mut [f64],
-    mut cuts: Option<usize>,
-    interval: Interval,
-    angles: &[f64],
-) -> Option<usize>
-    ensures { Grown (Of.all_copies interval.lower interval.upper angles.now) work.old cuts work.new result }
+pub(crate) fn all_copies(cuts: &mut Cuts, interval: Interval, angles: &[f64])
+    ensures { Grown (Of.all_copies interval.lower interval.upper angles.now) cuts.old cuts.new }
 {
     for angle in angles {
-        cuts = copies(work, cuts, interval, *angle);
+        copies(cuts, interval, *angle);
     }
-    cuts
 }
 
 // A root counts if it is finite.
 #[inline]
 #[tactic(auto, unfolding(crate::specs::Samples::windings))]
-fn windings(work: &mut [f64], cuts: Option<usize>, interval: Interval, root: f64) -> Option<usize>
-    ensures { Grown (Of.windings interval.lower interval.upper root) work.old cuts work.new result }
+fn windings(cuts: &mut Cuts, interval: Interval, root: f64)
+    ensures { Grown (Of.windings interval.lower interval.upper root) cuts.old cuts.new }
 {
     if is_finite(root) {
-        return copies(work, cuts, interval, root);
+        copies(cuts, interval, root);
     }
-    cuts
 }
 
 // The windings of each root. The loop of `all_copies` with another step: a closure for the step would
 // promise `Grown` of a list that is told by what it answers for each angle, and each caller show which.
-fn all_windings(
-    work: &mut [f64],
-    mut cuts: Option<usize>,
-    interval: Interval,
-    roots: &[f64],
-) -> Option<usize>
-    ensures { Grown (Of.all_windings interval.lower interval.upper roots.now) work.old cuts work.new result }
+fn all_windings(cuts: &mut Cuts, interval: Interval, roots: &[f64])
+    ensures { Grown (Of.all_windings interval.lower interval.upper roots.now) cuts.old cuts.new }
 {
     for root in roots {
-        cuts = windings(work, cuts, interval, *root);
+        windings(cuts, interval, *root);
     }
-    cuts
 }
 
 // The cuts of one interval, in the front of the slice.
@@ -116,9 +103,11 @@ pub(crate) fn interval_cuts(
         lower: near + a,
         upper: near + b,
     };
-    let first = push(work, Some(0), interval.lower);
-    let ends = push(work, first, interval.upper);
-    all_windings(work, ends, interval, roots)
+    let mut cuts = Cuts::new(work);
+    cuts.push(interval.lower);
+    cuts.push(interval.upper);
+    all_windings(&mut cuts, interval, roots);
+    cuts.count
 }
 
 // How far inside a pair of neighbouring cuts the outer samples lie.

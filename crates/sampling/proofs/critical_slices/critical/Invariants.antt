@@ -10,5 +10,5 @@ abbrev pub invariant-loop-curve : goal.invariant-loop-curve
 invariant-loop-curve l = record {
   long : length l.known.items ≡ l.curve-index;
   kept : Known l.c.origin l.known.items (take l.curve-index l.curves);
-  grown : Grown (Of.critical (plain l.c) (take l.curve-index l.curves)) l.initial.work l.initial.state l.work l.state;
+  grown : Grown (Of.critical (plain l.c) (take l.curve-index l.curves)) l.initial.cuts l.cuts;
 }

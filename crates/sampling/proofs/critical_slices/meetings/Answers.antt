@@ -14,4 +14,4 @@ pub loop-e-preserved : goal.loop-e-preserved
 loop-e-preserved c =
     let a = c.args in
     met_grown (plain a.c) a.earlier.now c.loop-e.e-index _ a.k c.loop-e-test.true _ (c.as_slice.ensures.value ∙ c.intersection-both.ensures) c.loop-e.invariant
-    c.chart_roots-state.ensures
+    c.chart_roots.ensures

@@ -9,4 +9,4 @@ use Rattle.sampling.proofs.critical_slices.meetings.Given as goal
 abbrev pub invariant-loop-e : goal.invariant-loop-e
 invariant-loop-e l =
     Grown (flat_map (Of.chart_roots (plain l.c)) (meetings (map polynomials_of (take l.e-index l.earlier)) (polynomials_of l.k)))
-    l.initial.work l.initial.state l.work l.state
+    l.initial.cuts l.cuts

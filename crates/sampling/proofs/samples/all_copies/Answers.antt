@@ -10,7 +10,7 @@ loop-angle-init c = leads_all
 
 pub loop-angle-preserved : goal.loop-angle-preserved
 loop-angle-preserved c = let a = c.args in
-    leads_next c.loop-angle.invariant (copies_left a.interval.lower a.interval.upper a.angles.now c.loop-angle.angle-index (search rules)) c.copies-cuts.ensures
+    leads_next c.loop-angle.invariant (copies_left a.interval.lower a.interval.upper a.angles.now c.loop-angle.angle-index (search rules)) c.copies.ensures
 
 pub returns : goal.returns
 returns c = let a = c.args in

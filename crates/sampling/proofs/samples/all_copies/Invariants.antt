@@ -5,4 +5,4 @@ use Rattle.sampling.proofs.samples.all_copies.Given as goal
 
 abbrev pub invariant-loop-angle : goal.invariant-loop-angle
 invariant-loop-angle l =
-    Leads (all_copies l.interval.lower l.interval.upper l.angles) (all_copies l.interval.lower l.interval.upper (drop l.angle-index l.angles)) l.initial.work l.initial.cuts l.work l.cuts
+    Leads (all_copies l.interval.lower l.interval.upper l.angles) (all_copies l.interval.lower l.interval.upper (drop l.angle-index l.angles)) l.initial.cuts l.cuts

@@ -10,7 +10,7 @@ loop-root-init c = leads_all
 
 pub loop-root-preserved : goal.loop-root-preserved
 loop-root-preserved c = let a = c.args in
-    leads_next c.loop-root.invariant (windings_left a.interval.lower a.interval.upper a.roots.now c.loop-root.root-index (search rules)) c.windings-cuts.ensures
+    leads_next c.loop-root.invariant (windings_left a.interval.lower a.interval.upper a.roots.now c.loop-root.root-index (search rules)) c.windings.ensures
 
 pub returns : goal.returns
 returns c = let a = c.args in

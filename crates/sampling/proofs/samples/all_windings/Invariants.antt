@@ -5,4 +5,4 @@ use Rattle.sampling.proofs.samples.all_windings.Given as goal
 
 abbrev pub invariant-loop-root : goal.invariant-loop-root
 invariant-loop-root l =
-    Leads (all_windings l.interval.lower l.interval.upper l.roots) (all_windings l.interval.lower l.interval.upper (drop l.root-index l.roots)) l.initial.work l.initial.cuts l.work l.cuts
+    Leads (all_windings l.interval.lower l.interval.upper l.roots) (all_windings l.interval.lower l.interval.upper (drop l.root-index l.roots)) l.initial.cuts l.cuts
