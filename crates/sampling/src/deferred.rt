@@ -56,6 +56,7 @@ fn angles_of_one(p: Pending) -> [f64; 2]
 }
 
 // The four angles of two deferred crossings.
+#[tactic(auto, unfolding(crate::specs::Promises::Deferred::angles_of, float::specs::Trig::acos))]
 fn angles_of_two(p: Pending, q: Pending) -> [f64; 4]
     ensures { result ≡ Of.angles_of p ++ Of.angles_of q }
 {

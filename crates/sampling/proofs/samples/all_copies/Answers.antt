@@ -1,12 +1,9 @@
 -- `sampling::samples::all_copies` meets its contract. The loop's invariant: where those of the angles that are left come to a slice, all come to it.
 use native.Mathlib.Omega.{arith}
 use borrow.Author.Rules.{rules}
-use Rattle.sampling.proofs.Grown.{leads_all, leads_next, leads_end}
+use Rattle.sampling.proofs.Grown.{leads_next, leads_end}
 use Rattle.sampling.proofs.Laws.Samples.{copies_left, copies_none}
 use Rattle.sampling.proofs.samples.all_copies.Goals as goal
-
-pub loop-angle-init : goal.loop-angle-init
-loop-angle-init c = leads_all
 
 pub loop-angle-preserved : goal.loop-angle-preserved
 loop-angle-preserved c = let a = c.args in
