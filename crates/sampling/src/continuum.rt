@@ -52,7 +52,7 @@ impl Mul<f64> for Trig {
     }
 }
 
-// Grown two polynomials coefficient by coefficient.
+// Adds two polynomials coefficient by coefficient.
 impl Add for Trig {
     type Output = Trig;
 

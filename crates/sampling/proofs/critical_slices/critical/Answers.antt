@@ -22,7 +22,7 @@ loop-curve-preserved c =
       long = omega arith;
       kept = known_more a.c.origin c.loop-curve.known.items _ a.curves.now j c.polynomials-k.result _ c.loop-curve-test.true c.polynomials-k.ensures
           c.push.ensures.items i.kept;
-      grown = critical_grown (plain a.c) a.curves.now c.loop-curve.known.items j _ c.loop-curve-test.true i.kept c.polynomials-k.result c.polynomials-k.ensures _
-          (c.as_slice.ensures.value ∙ c.tangency-own.ensures) i.grown c.chart_roots.ensures
+      grown = critical_grown (plain a.c) a.curves.now c.loop-curve.known.items j _ c.loop-curve-test.true i.kept c.polynomials-k.result
+          c.polynomials-k.ensures _ (c.as_slice.ensures.value ∙ c.tangency-own.ensures) i.grown c.chart_roots.ensures
           (rw (← c.as_slice-in-loop-curve.ensures.value) c.meetings.ensures);
     }
