@@ -4,13 +4,21 @@ use Rattle.std.specs.Float.Ieee.{neg}
 use Rattle.float.specs.Number.{◌⊕◌, ◌⊗◌, middle, zero_float, one_float, two_float}
 use Rattle.float.specs.Trig.{P, sin, cos, atan}
 use Rattle.polynomial.specs.Angle.{wrapped_angle}
-use Rattle.polynomial.specs.Compensated.{from, plus, times}
+use Rattle.polynomial.specs.Compensated as Compensated
+use Rattle.polynomial.specs.Compensated.{from}
 use Rattle.polynomial.specs.Cuts.{cuts}
 use Rattle.polynomial.specs.Polynomial.{add, multiply}
 use Rattle.polynomial.specs.Roots.{roots}
 use Rattle.polynomial.specs.declared.compensated.Compensated.{Compensated}
 use Rattle.polynomial.specs.declared.curve.Harmonic.{Harmonic}
 use Rattle.polynomial.specs.declared.curve.Curve.{Curve}
+
+-- harmonics added, and scaled by a factor, coefficient by coefficient
+unfoldable pub plus : Harmonic → Harmonic → Harmonic
+plus a b = record { constant = a.constant ⊕ b.constant; cosine = a.cosine ⊕ b.cosine; sine = a.sine ⊕ b.sine }
+
+unfoldable pub times : Harmonic → Float → Harmonic
+times a factor = record { constant = a.constant ⊗ factor; cosine = a.cosine ⊗ factor; sine = a.sine ⊗ factor }
 
 -- A harmonic of J1 as a polynomial numerator in u = tan((q1 - origin) / 2), over the denominator 1 + u ^ 2.
 unfoldable pub numerator : Harmonic → Float → List Compensated
@@ -19,7 +27,10 @@ numerator h origin =
     let c = cos origin in
     let rotated-cosine = h.cosine ⊗ c ⊕ h.sine ⊗ s in
     let rotated-sine = neg h.cosine ⊗ s ⊕ h.sine ⊗ c in
-    plus (from h.constant) (from rotated-cosine) ∷ from (two_float ⊗ rotated-sine) ∷ plus (from h.constant) (from (neg rotated-cosine)) ∷ []
+    Compensated.plus (from h.constant) (from rotated-cosine) ∷
+    from (two_float ⊗ rotated-sine) ∷
+    Compensated.plus (from h.constant) (from (neg rotated-cosine)) ∷
+    []
 
 -- the three harmonics of a curve
 abbrev pub harmonic_a : Curve → Harmonic
@@ -36,7 +47,7 @@ harmonic_c k = record { constant = k.c0; cosine = k.c1; sine = k.c2 }
 -- each coefficient times a factor
 unfoldable pub times_each : List Compensated → Compensated → List Compensated
 times_each [] f = []
-times_each (c ∷ cs) f = times c f ∷ times_each cs f
+times_each (c ∷ cs) f = Compensated.times c f ∷ times_each cs f
 
 -- 1 + u ^ 2
 abbrev pub denominator : List Compensated
@@ -44,7 +55,7 @@ denominator = from one_float ∷ from zero_float ∷ from one_float ∷ []
 
 -- (1 + u ^ 2) ^ 2 * norm ^ 2
 unfoldable pub target : Float → List Compensated
-target norm = times_each (multiply denominator denominator) (times (from norm) (from norm))
+target norm = times_each (multiply denominator denominator) (Compensated.times (from norm) (from norm))
 
 unfoldable pub norm_polynomial : Harmonic → Harmonic → Float → Float → List Compensated
 norm_polynomial x y norm origin =

@@ -6,6 +6,7 @@ use crate::arithmetic::{add, multiply};
 use crate::compensated::{Coefficients, Compensated};
 use arrayvec::ArrayVec;
 use float::trig::sin_cos;
+use std::ops::{Add, Mul};
 
 // Constant, cosine and sine coefficients of a first harmonic in J1.
 #[derive(Clone, Copy)]
@@ -13,6 +14,38 @@ pub struct Harmonic {
     pub constant: f64,
     pub cosine: f64,
     pub sine: f64,
+}
+
+// Adds corresponding coefficients.
+impl Add for Harmonic {
+    type Output = Harmonic;
+
+    ghost add_gives = { λ a b r. r ≡ Of.plus a b };
+
+    #[tactic(auto, unfolding(crate::specs::Curve::plus))]
+    fn add(self, other: Harmonic) -> Harmonic {
+        Harmonic {
+            constant: self.constant + other.constant,
+            cosine: self.cosine + other.cosine,
+            sine: self.sine + other.sine,
+        }
+    }
+}
+
+// Scales every coefficient.
+impl Mul<f64> for Harmonic {
+    type Output = Harmonic;
+
+    ghost mul_gives = { λ a factor r. r ≡ Of.times a factor };
+
+    #[tactic(auto, unfolding(crate::specs::Curve::times))]
+    fn mul(self, factor: f64) -> Harmonic {
+        Harmonic {
+            constant: self.constant * factor,
+            cosine: self.cosine * factor,
+            sine: self.sine * factor,
+        }
+    }
 }
 
 // A boundary A(q1) cos(t) + B(q1) sin(t) + C(q1) = 0, with t = q2 + q3: the harmonics a, b and c,

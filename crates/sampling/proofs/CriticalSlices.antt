@@ -1,7 +1,7 @@
 -- Laws of the cuts that curves give, for the loops over them: one more root, one more curve.
 use Prim.Native.Nat.{ℕ, ◌+◌, ◌≤◌, ◌<◌}
 use native.Mathlib.Numerals.{add-one}
-use mathlib.Core.Path.{◌≡◌, refl, sym, ap, subst, ◌∙◌}
+use mathlib.Core.Path.{◌≡◌, sym, ap, subst, ◌∙◌}
 use mathlib.Core.List.{List, [], ◌∷◌, ◌++◌, map, flat_map, map-append, append-nil}
 use lib.ListN.{length, take, drop, get_or, drop_of_length-le}
 use lib.Seq.{drop-cons, take-suc}
@@ -11,13 +11,12 @@ use Rattle.float.specs.Trig.{atan}
 use Rattle.polynomial.specs.Curve.{numerator, harmonic_a, harmonic_b, harmonic_c}
 use Rattle.polynomial.specs.declared.compensated.Compensated.{Compensated}
 use Rattle.polynomial.specs.declared.curve.Curve.{Curve}
-use Rattle.std.specs.Prelude.{Option}
+use Rattle.sampling.specs.declared.work.Cuts.{Cuts}
 use Rattle.polynomial.specs.declared.curve.Numerators.{Numerators}
-use Rattle.sampling.specs.CriticalSlices.{angles, chart_roots, critical, Polynomials, polynomials, all_polynomials, tangency, intersection}
+use Rattle.sampling.specs.CriticalSlices.{Chart, angles, chart_roots, critical, Polynomials, polynomials, all_polynomials, tangency, intersection}
 use Rattle.sampling.proofs.Laws.CriticalSlices.{roots_append, critical_more}
 use Rattle.sampling.specs.Promises.Grown.{Grown}
 use Rattle.sampling.specs.Promises.Numerators.{polynomials_of, meetings}
-use Rattle.sampling.specs.declared.critical_slices.Chart.{Chart}
 use Rattle.sampling.proofs.Grown.{then}
 
 module _ (origin : Float) (l : List Float) (i : ℕ) where
@@ -68,13 +67,13 @@ module _ (c : Chart) (l : List Numerators) (i : ℕ) (d k : Numerators) (h : i <
       let y = map-append (λ (z : Polynomials). intersection z (polynomials_of k)) (map polynomials_of (take i l)) (polynomials_of e ∷ []) in
       rw (add-one, take-suc l i d h, x, f) y
 
-  pub met_grown : {w w' w'' : List Float} {s s' s'' : Option ℕ} → Grown (flat_map (chart_roots c) (met i)) w s w' s' → Grown (chart_roots c p) w' s' w'' s''
-      → Grown (flat_map (chart_roots c) (met (i + 1))) w s w'' s''
+  pub met_grown : {w w' w'' : Cuts} → Grown (flat_map (chart_roots c) (met i)) w w' → Grown (chart_roots c p) w' w''
+      → Grown (flat_map (chart_roots c) (met (i + 1))) w w''
   unfolding flat_map
-  met_grown {w} {w'} {w''} {s} {s'} {s''} x y =
+  met_grown {w} {w'} {w''} x y =
       let e = ap (flat_map (chart_roots c)) met_more ∙ roots_append c (met i) (p ∷ [])
       ∙ ap (λ (z : List Float). flat_map (chart_roots c) (met i) ++ z) (append-nil (chart_roots c p)) in
-      subst (λ (z : List Float). Grown z w s w'' s'') (sym e) (then x y)
+      subst (λ (z : List Float). Grown z w w'') (sym e) (then x y)
 
 -- ---- a curve more: alone, and with each earlier one
 
@@ -89,12 +88,10 @@ module _ (c : Chart) (l : List Curve) (r : List Numerators) (j : ℕ) (d : Curve
   met_own : meetings (map polynomials_of r) (polynomials_of k) ≡ meetings (all_polynomials c.origin (take j l)) own
   met_own = λ i. meetings (known.are i) (numerators_are k (get_or l j d) c.origin e i)
 
-  pub critical_grown : {w w' w'' w''' : List Float} {s s' s'' s''' : Option ℕ} → Grown (critical c (take j l)) w s w' s'
-      → Grown (chart_roots c p) w' s' w'' s''
-      → Grown (flat_map (chart_roots c) (meetings (map polynomials_of r) (polynomials_of k))) w'' s'' w''' s'''
-      → Grown (critical c (take (j + 1) l)) w s w''' s'''
-  critical_grown {w} {w'} {w''} {w'''} {s} {s'} {s''} {s'''} x y z =
+  pub critical_grown : {w w' w'' w''' : Cuts} → Grown (critical c (take j l)) w w' → Grown (chart_roots c p) w' w''
+      → Grown (flat_map (chart_roots c) (meetings (map polynomials_of r) (polynomials_of k))) w'' w''' → Grown (critical c (take (j + 1) l)) w w'''
+  critical_grown {w} {w'} {w''} {w'''} x y z =
       let new = chart_roots c p ++ flat_map (chart_roots c) (meetings (map polynomials_of r) (polynomials_of k)) in
       let e : critical c (take (j + 1) l) ≡ critical c (take j l) ++ new =
       rw (add-one, take-suc l j d h, front_own, met_own) (critical_more c (take j l) (get_or l j d)) in
-      subst (λ (g : List Float). Grown g w s w''' s''') (sym e) (then x (then y z))
+      subst (λ (g : List Float). Grown g w w''') (sym e) (then x (then y z))

@@ -3,6 +3,7 @@ use Rattle.std.specs.Prelude.{None, Some, Bool, not, ◌||◌, cond, List, [], �
 use Rattle.std.specs.Float.Ieee.{neg, le}
 use Rattle.float.specs.Number.{◌⊕◌, ◌⊗◌, zero_float, one_float}
 use Rattle.float.specs.Trig.{P, sin_cos}
+use Rattle.polynomial.specs.Curve as Harmonics
 use Rattle.polynomial.specs.declared.curve.Harmonic.{Harmonic}
 use Rattle.polynomial.specs.declared.curve.Curve.{Curve}
 use Rattle.sampling.specs.Limits.{centered, limits_of}
@@ -21,11 +22,11 @@ along v = record { constant = zero_float; cosine = v.x; sine = v.y }
 unfoldable pub across : Vector → Harmonic
 across v = record { constant = zero_float; cosine = v.y; sine = neg v.x }
 
-unfoldable pub plus : Harmonic → Harmonic → Harmonic
-plus a b = record { constant = a.constant ⊕ b.constant; cosine = a.cosine ⊕ b.cosine; sine = a.sine ⊕ b.sine }
+abbrev pub plus : Harmonic → Harmonic → Harmonic
+plus = Harmonics.plus
 
-unfoldable pub times : Harmonic → Float → Harmonic
-times a factor = record { constant = a.constant ⊗ factor; cosine = a.cosine ⊗ factor; sine = a.sine ⊗ factor }
+abbrev pub times : Harmonic → Float → Harmonic
+times = Harmonics.times
 
 -- A(q1) cos(t) + B(q1) sin(t) + C(q1) = 0
 unfoldable pub curve : Harmonic → Harmonic → Harmonic → Curve

@@ -12,10 +12,14 @@ use Rattle.polynomial.specs.Curve.{numerator, harmonic_a, harmonic_b, harmonic_c
 use Rattle.polynomial.specs.declared.compensated.Compensated.{Compensated}
 use Rattle.polynomial.specs.declared.curve.Curve.{Curve}
 use Rattle.sampling.specs.Pairs.{order}
-use Rattle.sampling.specs.declared.critical_slices.Chart.{Chart}
 
 -- The chart u = tan((q1 - origin) / 2) of a half of joint 1's interval: its origin and its bounds. A half, so that u
 -- stays within ±1: over a whole turn the tangent has its pole, and large u spoil the coefficients.
+pub record Chart : Type 0 where
+  pub origin : Float
+  pub lower : Float
+  pub upper : Float
+
 unfoldable pub chart : Float → Float → Chart
 chart lower upper =
     let origin = middle lower upper in

@@ -10,10 +10,9 @@ use Rattle.polynomial.specs.declared.curve.Curve.{Curve}
 use Rattle.sampling.specs.Bends.{harmonic, narrow}
 use Rattle.sampling.specs.BendSlices.{fold}
 use Rattle.sampling.specs.Boundaries.{across}
-use Rattle.sampling.specs.CriticalSlices.{chart, all_polynomials, calls}
+use Rattle.sampling.specs.CriticalSlices.{Chart, chart, all_polynomials, calls}
 use Rattle.sampling.specs.J1j2free.{folded, curves, on_interval}
 use Rattle.sampling.specs.Angles.{first_free, second_free, by_kind}
-use Rattle.sampling.specs.declared.critical_slices.Chart.{Chart}
 use Rattle.sampling.specs.declared.j1j2free.Folded.{Folded}
 use Rattle.sampling.specs.declared.job.Job.{Job}
 use Rattle.sampling.specs.declared.marks.Marks.{Marks}

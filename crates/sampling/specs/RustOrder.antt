@@ -7,11 +7,10 @@ use Rattle.polynomial.specs.Cuts.{cuts}
 use Rattle.polynomial.specs.declared.compensated.Compensated.{Compensated}
 use Rattle.polynomial.specs.declared.curve.Curve.{Curve}
 use Rattle.sampling.specs.Samples.{all_copies}
-use Rattle.sampling.specs.CriticalSlices.{chart, chart_roots, polynomials, tangency, intersection}
+use Rattle.sampling.specs.CriticalSlices.{Chart, chart, chart_roots, polynomials, tangency, intersection}
 use Rattle.sampling.specs.Slices.{slices}
 use Rattle.sampling.specs.J1j2free.{folded, curves, bends, on_interval}
 use Rattle.sampling.specs.Angles.{first_free, second_free, by_kind}
-use Rattle.sampling.specs.declared.critical_slices.Chart.{Chart}
 use Rattle.sampling.specs.declared.j1j2free.Folded.{Folded}
 use Rattle.sampling.specs.declared.job.Job.{Job}
 use Rattle.sampling.specs.SampleAngles as SampleAngles

@@ -4,4 +4,7 @@ use arrayvec::ArrayVec;
 // The most that are found: 282 boundary angles of one free joint, 256 bends of two.
 pub(crate) const ANGLES: usize = 300;
 
+// A function that adds some asks for their room, and says how many it adds at most: a fact of each
+// call, which no type of the list has. Where each gave a list of its own, every call would be followed
+// by an extension that can fail.
 pub(crate) type Angles = ArrayVec<f64, ANGLES>;

@@ -70,14 +70,11 @@ fn arm_axis(m: Matrix, q5: SinCos, q6: SinCos) -> Vector
 
 // The two angles at which joint 1 points along a vector, or against it.
 #[tactic(auto, unfolding(crate::specs::BendSlices::axis_angles, crate::proofs::Literals::of_bits))]
-fn axis_angles(v: Vector, out: &mut Angles)
-    requires { array_vec_len out.old + 2 ≤ 300 }
-    ensures items { Extends out.old (Of.axis_angles v) out.new }
-    ensures most { array_vec_len out.new ≤ array_vec_len out.old + 2 }
+fn axis_angles(v: Vector) -> [f64; 2]
+    ensures { result ≡ Of.axis_angles v }
 {
     let angle = atan2(v.y, v.x);
-    out.push(angle);
-    out.push(wrapped_angle(angle + P));
+    [angle, wrapped_angle(angle + P)]
 }
 
 #[tactic(auto, unfolding(crate::specs::BendSlices::axes_range))]
@@ -87,8 +84,10 @@ fn axes_range(m: Matrix, q5: SinCos, range: Range, out: &mut Angles)
     ensures most { array_vec_len out.new ≤ array_vec_len out.old + 4 }
 {
     if let Some((lower, upper)) = range {
-        axis_angles(arm_axis(m, q5, sin_cos(lower)), out);
-        axis_angles(arm_axis(m, q5, sin_cos(upper)), out);
+        let first = axis_angles(arm_axis(m, q5, sin_cos(lower)));
+        let second = axis_angles(arm_axis(m, q5, sin_cos(upper)));
+        out.try_extend_from_slice(&first).unwrap();
+        out.try_extend_from_slice(&second).unwrap();
     }
 }
 

@@ -2,6 +2,7 @@
 ghost use Rattle.std.specs.Prelude.{◌≡◌, ◌+◌, ◌≤◌};
 ghost use Rattle.arrayvec.specs.ArrayVec.{array_vec_len, Extends};
 ghost use Rattle.sampling.specs.J1j2free.{curves};
+ghost use Rattle.sampling.specs.Promises.Curves.{AtEnds};
 ghost use Rattle.sampling.specs.Boundaries as Of;
 
 use crate::intervals::Range;
@@ -54,30 +55,6 @@ pub(crate) fn across(v: Vector) -> Harmonic
     }
 }
 
-// Adds corresponding coefficients of two J1 harmonics.
-#[tactic(auto, unfolding(crate::specs::Boundaries::plus))]
-fn plus(a: Harmonic, b: Harmonic) -> Harmonic
-    ensures { result ≡ Of.plus a b }
-{
-    Harmonic {
-        constant: a.constant + b.constant,
-        cosine: a.cosine + b.cosine,
-        sine: a.sine + b.sine,
-    }
-}
-
-// Scales every coefficient of a J1 harmonic.
-#[tactic(auto, unfolding(crate::specs::Boundaries::times))]
-fn times(a: Harmonic, factor: f64) -> Harmonic
-    ensures { result ≡ Of.times a factor }
-{
-    Harmonic {
-        constant: a.constant * factor,
-        cosine: a.cosine * factor,
-        sine: a.sine * factor,
-    }
-}
-
 // A(q1) cos(t) + B(q1) sin(t) + C(q1) = 0.
 #[tactic(auto, unfolding(crate::specs::Boundaries::curve))]
 fn curve_of(a: Harmonic, b: Harmonic, c: Harmonic) -> Curve
@@ -123,9 +100,9 @@ fn fourth_curve(z: Vector, angle: f64) -> Curve
     ensures { result ≡ Of.fourth_curve z angle }
 {
     let t = sin_cos(angle);
-    let a = times(along(z), -t.sine);
+    let a = along(z) * -t.sine;
     let b = level(z.z * t.sine);
-    let c = times(across(z), t.cosine);
+    let c = across(z) * t.cosine;
     curve_of(a, b, c)
 }
 
@@ -143,7 +120,7 @@ fn sixth_curve(m: Matrix, angle: f64) -> Curve
 {
     let t = sin_cos(angle);
     let a = level(m.y.z * t.cosine + m.x.z * t.sine);
-    let b = plus(times(along(m.y), t.cosine), times(along(m.x), t.sine));
+    let b = along(m.y) * t.cosine + along(m.x) * t.sine;
     let c = level(0.0);
     curve_of(a, b, c)
 }
@@ -154,15 +131,9 @@ fn corner_curve(m: Matrix, sign: f64, q4: f64, q6: f64) -> Curve
     ensures { result ≡ Of.corner_curve m sign q4 q6 }
 {
     let t = sin_cos(q4 + sign * q6);
-    let a = plus(
-        times(along(m.y), -t.cosine),
-        times(along(m.x), -sign * t.sine),
-    );
+    let a = along(m.y) * -t.cosine + along(m.x) * (-sign * t.sine);
     let b = level(m.y.z * t.cosine + sign * m.x.z * t.sine);
-    let c = plus(
-        times(across(m.x), sign * t.cosine),
-        times(across(m.y), -t.sine),
-    );
+    let c = across(m.x) * (sign * t.cosine) + across(m.y) * -t.sine;
     curve_of(a, b, c)
 }
 
@@ -178,78 +149,33 @@ pub(crate) fn wrist_limits(limited: bool, j: Joint) -> Range
     limits_of(c, j.sign, j.offset)
 }
 
-// Both ends of joint 2's interval.
-#[tactic(auto, unfolding(crate::specs::Boundaries::second_curves))]
-fn second_curves(q3: f64, range: Range, out: &mut Curves)
-    requires { array_vec_len out.old + 2 ≤ CURVES }
-    ensures items { Extends out.old (Of.second_curves q3 range) out.new }
+// The curves of both ends of a range. Here a function is told its room, as the lists of `angles` and
+// `deferred` are: that is a fact of each call, which no type of the list has.
+fn at_ends<F: Fn(f64) -> Curve>(range: Range, curve: F, out: &mut Curves)
+    requires callable { F.IsAlwaysCallable curve }
+    requires room { array_vec_len out.old + 2 ≤ CURVES }
+    ensures items { AtEnds (F.post curve) range out.old.items out.new.items }
     ensures most { array_vec_len out.new ≤ array_vec_len out.old + 2 }
 {
     if let Some((lower, upper)) = range {
-        out.push(second_curve(q3, lower));
-        out.push(second_curve(q3, upper));
-    }
-}
-
-#[tactic(auto, unfolding(crate::specs::Boundaries::pole_curves, crate::proofs::Literals::of_bits))]
-fn pole_curves(z: Vector, out: &mut Curves)
-    requires { array_vec_len out.old + 2 ≤ CURVES }
-    ensures items { Extends out.old (Of.pole_curves z) out.new }
-    ensures len { array_vec_len out.new ≡ array_vec_len out.old + 2 }
-{
-    out.push(bend_curve(z, -1.0));
-    out.push(bend_curve(z, 1.0));
-}
-
-#[tactic(auto, unfolding(crate::specs::Boundaries::fourth_curves))]
-fn fourth_curves(z: Vector, range: Range, out: &mut Curves)
-    requires { array_vec_len out.old + 2 ≤ CURVES }
-    ensures items { Extends out.old (Of.fourth_curves z range) out.new }
-    ensures most { array_vec_len out.new ≤ array_vec_len out.old + 2 }
-{
-    if let Some((lower, upper)) = range {
-        out.push(fourth_curve(z, lower));
-        out.push(fourth_curve(z, upper));
-    }
-}
-
-#[tactic(auto, unfolding(crate::specs::Boundaries::fifth_curves))]
-fn fifth_curves(z: Vector, range: Range, out: &mut Curves)
-    requires { array_vec_len out.old + 2 ≤ CURVES }
-    ensures items { Extends out.old (Of.fifth_curves z range) out.new }
-    ensures most { array_vec_len out.new ≤ array_vec_len out.old + 2 }
-{
-    if let Some((lower, upper)) = range {
-        out.push(fifth_curve(z, lower));
-        out.push(fifth_curve(z, upper));
-    }
-}
-
-#[tactic(auto, unfolding(crate::specs::Boundaries::sixth_curves))]
-fn sixth_curves(m: Matrix, range: Range, out: &mut Curves)
-    requires { array_vec_len out.old + 2 ≤ CURVES }
-    ensures items { Extends out.old (Of.sixth_curves m range) out.new }
-    ensures most { array_vec_len out.new ≤ array_vec_len out.old + 2 }
-{
-    if let Some((lower, upper)) = range {
-        out.push(sixth_curve(m, lower));
-        out.push(sixth_curve(m, upper));
+        out.push(curve(lower));
+        out.push(curve(upper));
     }
 }
 
 // Each end of joint 4's limits with each of joint 6's.
 #[tactic(auto, unfolding(crate::specs::Boundaries::signed_corners))]
-fn signed_corners(m: Matrix, sign: f64, fourth: (f64, f64), sixth: (f64, f64), out: &mut Curves)
-    requires { array_vec_len out.old + 4 ≤ CURVES }
-    ensures items { Extends out.old (Of.signed_corners m sign fourth.0 fourth.1 sixth.0 sixth.1) out.new }
-    ensures len { array_vec_len out.new ≡ array_vec_len out.old + 4 }
+fn signed_corners(m: Matrix, sign: f64, fourth: (f64, f64), sixth: (f64, f64)) -> [Curve; 4]
+    ensures { result ≡ Of.signed_corners m sign fourth.0 fourth.1 sixth.0 sixth.1 }
 {
     let (a, b) = fourth;
     let (c, d) = sixth;
-    out.push(corner_curve(m, sign, a, c));
-    out.push(corner_curve(m, sign, a, d));
-    out.push(corner_curve(m, sign, b, c));
-    out.push(corner_curve(m, sign, b, d));
+    [
+        corner_curve(m, sign, a, c),
+        corner_curve(m, sign, a, d),
+        corner_curve(m, sign, b, c),
+        corner_curve(m, sign, b, d),
+    ]
 }
 
 #[tactic(auto, unfolding(crate::specs::Boundaries::corner_curves, crate::proofs::Literals::of_bits))]
@@ -259,8 +185,10 @@ fn corner_curves(m: Matrix, range4: Range, range6: Range, out: &mut Curves)
     ensures most { array_vec_len out.new ≤ array_vec_len out.old + 8 }
 {
     if let (Some(fourth), Some(sixth)) = (range4, range6) {
-        signed_corners(m, -1.0, fourth, sixth, out);
-        signed_corners(m, 1.0, fourth, sixth, out);
+        out.try_extend_from_slice(&signed_corners(m, -1.0, fourth, sixth))
+            .unwrap();
+        out.try_extend_from_slice(&signed_corners(m, 1.0, fourth, sixth))
+            .unwrap();
     }
 }
 
@@ -270,12 +198,13 @@ pub(crate) fn boundaries(t: &Folded) -> Curves
     ensures { result.items ≡ curves t.now }
 {
     let m = t.matrix;
+    let poles = Some((-1.0, 1.0));
     let mut out = ArrayVec::new();
-    second_curves(t.q3, t.range2, &mut out);
-    pole_curves(m.z, &mut out);
-    fourth_curves(m.z, t.range4, &mut out);
-    fifth_curves(m.z, t.range5, &mut out);
-    sixth_curves(m, t.range6, &mut out);
+    at_ends(t.range2, |angle| second_curve(t.q3, angle), &mut out);
+    at_ends(poles, |cosine| bend_curve(m.z, cosine), &mut out);
+    at_ends(t.range4, |angle| fourth_curve(m.z, angle), &mut out);
+    at_ends(t.range5, |angle| fifth_curve(m.z, angle), &mut out);
+    at_ends(t.range6, |angle| sixth_curve(m, angle), &mut out);
     corner_curves(m, t.range4, t.range6, &mut out);
     out
 }

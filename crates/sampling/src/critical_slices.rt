@@ -1,15 +1,15 @@
 // The cuts of joint 1 at the intersections and the vertical tangencies of curves, from
-// src/singularity/j1j2free.rs, put into the cuts in a lent slice.
+// src/singularity/j1j2free.rs.
 ghost use Rattle.std.specs.Prelude.{◌≡◌, ◌≤◌, ◌<◌, length, map};
 ghost use mathlib.Core.List.{flat_map};
 ghost use Rattle.sampling.specs.Promises.Curves.{most_curves};
-ghost use Rattle.sampling.specs.Promises.Charts.{Bounded};
+ghost use Rattle.sampling.specs.Promises.Charts.{Bounded, plain};
 ghost use Rattle.sampling.specs.Promises.Grown.{Grown};
 ghost use Rattle.sampling.specs.CriticalSlices as Of;
 ghost use Rattle.sampling.specs.Promises.Numerators.{polynomials_of, meetings};
 
 use crate::boundaries::CURVES;
-use crate::work::push;
+use crate::work::Cuts;
 use arrayvec::ArrayVec;
 use float::arc::atan;
 use float::number::middle;
@@ -20,52 +20,49 @@ use polynomial::compensated::{Coefficients, Compensated};
 use polynomial::curve::{Curve, Numerators};
 use polynomial::roots::roots;
 
-// The chart u = tan((q1 - origin) / 2): its origin and its bounds.
+// The chart u = tan((q1 - origin) / 2): its origin and its bounds, which the root finder takes.
 #[derive(Clone, Copy)]
 pub struct Chart {
     pub origin: f64,
-    pub lower: f64,
-    pub upper: f64,
+    pub bounds: Bounds,
 }
 
 // The chart of a part of joint 1's interval.
+#[tactic(auto, unfolding(crate::specs::CriticalSlices::chart, crate::proofs::Literals::of_bits))]
 pub(crate) fn chart_of(lower: f64, upper: f64) -> Chart
-    ensures { result ≡ Of.chart lower upper }
+    requires { Bounded (Of.chart lower upper) }
+    ensures { plain result ≡ Of.chart lower upper }
 {
     let origin = middle(lower, upper);
-    Chart {
-        origin,
+    let bounds = Bounds {
         lower: tan((lower - origin) / 2.0),
         upper: tan((upper - origin) / 2.0),
-    }
+    };
+    Chart { origin, bounds }
 }
 
 // The angles of the roots.
-fn angles(work: &mut [f64], cuts: Option<usize>, origin: f64, roots: &[f64]) -> Option<usize>
-    ensures { Grown (Of.angles origin roots.now) work.old cuts work.new result }
+fn angles(cuts: &mut Cuts, origin: f64, roots: &[f64])
+    ensures { Grown (Of.angles origin roots.now) cuts.old cuts.new }
 {
-    let mut state = cuts;
     for u in roots {
-        state = push(work, state, origin + 2.0 * atan(*u));
+        cuts.push(origin + 2.0 * atan(*u));
     }
-    state
 }
 
 // An inner call of the root finder.
-fn chart_roots(work: &mut [f64], cuts: Option<usize>, c: Chart, p: &[Compensated]) -> Option<usize>
-    requires { (length p.now ≤ 9) × Bounded c }
-    ensures { Grown (Of.chart_roots c p.now) work.old cuts work.new result }
+#[tactic(auto, using(crate::proofs::Lengths::pow_mono), unfolding(crate::specs::CriticalSlices::chart_roots))]
+fn chart_roots(cuts: &mut Cuts, c: Chart, p: &[Compensated])
+    requires { length p.now ≤ 9 }
+    ensures { Grown (Of.chart_roots (plain c) p.now) cuts.old cuts.new }
 {
     let mut found = [0.0; 512];
-    let bounds = Bounds {
-        lower: c.lower,
-        upper: c.upper,
-    };
-    let m = roots(p, bounds, &mut found);
-    angles(work, cuts, c.origin, &found[..m])
+    let m = roots(p, c.bounds, &mut found);
+    angles(cuts, c.origin, &found[..m]);
 }
 
 // p * p + q * q - r * r, of as many coefficients each.
+#[tactic(auto, using(crate::proofs::Lengths::lengths), unfolding(crate::specs::CriticalSlices::squares, crate::proofs::Literals::of_bits))]
 fn squares(p: &[Compensated], q: &[Compensated], r: &[Compensated]) -> Coefficients
     requires { (0 < length p.now) × (length p.now ≤ 5) × (length q.now ≡ length p.now) × (length r.now ≡ length p.now) }
     ensures { result.items ≡ Of.squares p.now q.now r.now }
@@ -75,6 +72,7 @@ fn squares(p: &[Compensated], q: &[Compensated], r: &[Compensated]) -> Coefficie
 }
 
 // The polynomial of a curve's vertical tangencies.
+#[tactic(auto, unfolding(crate::specs::CriticalSlices::tangency))]
 fn tangency(k: Numerators) -> Coefficients
     ensures { result.items ≡ Of.tangency (polynomials_of k) }
 {
@@ -85,6 +83,7 @@ fn tangency(k: Numerators) -> Coefficients
 }
 
 // The polynomial of the intersections of two curves.
+#[tactic(auto, using(crate::proofs::Lengths::lengths), unfolding(crate::specs::CriticalSlices::intersection))]
 fn intersection(k: Numerators, l: Numerators) -> Coefficients
     ensures { result.items ≡ Of.intersection (polynomials_of k) (polynomials_of l) }
 {
@@ -101,43 +100,26 @@ fn intersection(k: Numerators, l: Numerators) -> Coefficients
 }
 
 // A later curve, k, with each of the earlier ones, which are the first operands.
-fn meetings(
-    work: &mut [f64],
-    cuts: Option<usize>,
-    c: Chart,
-    earlier: &[Numerators],
-    k: Numerators,
-) -> Option<usize>
-    requires { Bounded c }
-    ensures { Grown (flat_map (Of.chart_roots c) (meetings (map polynomials_of earlier.now) (polynomials_of k))) work.old cuts
-        work.new result }
+fn meetings(cuts: &mut Cuts, c: Chart, earlier: &[Numerators], k: Numerators)
+    ensures { Grown (flat_map (Of.chart_roots (plain c)) (meetings (map polynomials_of earlier.now) (polynomials_of k))) cuts.old cuts.new }
 {
-    let mut state = cuts;
     for e in earlier {
         let both = intersection(*e, k);
-        state = chart_roots(work, state, c, both.as_slice());
+        chart_roots(cuts, c, both.as_slice());
     }
-    state
 }
 
 // Each of the curves alone, then with each earlier one, whose polynomials are kept.
-pub(crate) fn critical(
-    work: &mut [f64],
-    cuts: Option<usize>,
-    c: Chart,
-    curves: &[Curve],
-) -> Option<usize>
-    requires { (length curves.now ≤ most_curves) × Bounded c }
-    ensures { Grown (Of.critical c curves.now) work.old cuts work.new result }
+pub(crate) fn critical(cuts: &mut Cuts, c: Chart, curves: &[Curve])
+    requires { length curves.now ≤ most_curves }
+    ensures { Grown (Of.critical (plain c) curves.now) cuts.old cuts.new }
 {
     let mut known: ArrayVec<Numerators, CURVES> = ArrayVec::new();
-    let mut state = cuts;
     for curve in curves {
         let k = curve.polynomials(c.origin);
         let own = tangency(k);
-        let alone = chart_roots(work, state, c, own.as_slice());
-        state = meetings(work, alone, c, known.as_slice(), k);
+        chart_roots(cuts, c, own.as_slice());
+        meetings(cuts, c, known.as_slice(), k);
         known.push(k);
     }
-    state
 }

@@ -17,6 +17,7 @@ use polynomial::angle::wrapped_angle;
 // The most crossings that are deferred together: joint 6's, and those of its phases with joint 4.
 pub(crate) const CROSSINGS: usize = 14;
 
+// Its room is asked for as that of `Angles` is: an Option from each would be pushed in ten places.
 pub(crate) type Deferred = ArrayVec<Pending, CROSSINGS>;
 
 // A polynomial's sine and cosine, and the cosine of the angle between its phase and a crossing.
@@ -55,6 +56,7 @@ fn angles_of_one(p: Pending) -> [f64; 2]
 }
 
 // The four angles of two deferred crossings.
+#[tactic(auto, unfolding(crate::specs::Promises::Deferred::angles_of, float::specs::Trig::acos))]
 fn angles_of_two(p: Pending, q: Pending) -> [f64; 4]
     ensures { result ≡ Of.angles_of p ++ Of.angles_of q }
 {

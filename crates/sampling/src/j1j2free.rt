@@ -17,8 +17,8 @@ use crate::job::{Job, Joint};
 use crate::limits::limits;
 use crate::lists::{Halves, Lists, Plan};
 use crate::pose::Matrix;
-use crate::samples::all_copies;
-use crate::work::push;
+use crate::samples::{Interval, all_copies};
+use crate::work::Cuts;
 use float::number::middle;
 use polynomial::angle::wrapped_angle;
 use polynomial::curve::Curve;
@@ -90,10 +90,12 @@ fn half_cuts(
     ensures { Kept (half_values curves.now bends.now lower upper) work.old work.new result }
 {
     let c = chart_of(lower, upper);
-    let first = push(work, Some(0), lower);
-    let ends = push(work, first, upper);
-    let cuts = critical(work, ends, c, curves);
-    all_copies(work, cuts, lower, upper, bends)
+    let mut cuts = Cuts::new(work);
+    cuts.push(lower);
+    cuts.push(upper);
+    critical(&mut cuts, c, curves);
+    all_copies(&mut cuts, Interval { lower, upper }, bends);
+    cuts.count
 }
 
 // Where the second half's list starts: behind the first, or, where that has too few places, at the

@@ -43,6 +43,7 @@ impl Polar {
     }
 
     // The wrapped angles where the harmonic equals the target.
+    #[tactic(auto, using(crate::proofs::continuum::Steps::crossed))]
     pub(crate) fn crossings(&self, target: f64) -> Option<(f64, f64)>
         ensures { result ≡ Of.crossings self.now.harmonic target }
     {

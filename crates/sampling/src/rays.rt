@@ -61,6 +61,9 @@ fn ray_at(ray: &Ray, angle: f64, deferred: &mut Deferred)
     }
 }
 
+// Both calls are written out, as in `bend_range`, `transverse_range`, `axes_range`, `folds_range` and
+// `bend_slices`: a closure that adds to a list owes it room at each, by clauses longer than these,
+// and one that gives a list of its own got no proof, since its bound names the list's size.
 #[tactic(auto, unfolding(crate::specs::Rays::ray_range))]
 fn ray_range(ray: &Ray, range: Range, deferred: &mut Deferred)
     requires { array_vec_len deferred.old + 2 ≤ 14 }

@@ -1,105 +1,90 @@
 // From the boundary angles of one free joint to its samples, from `sample_angles` of
 // src/singularity/continuum.rs.
-ghost use Rattle.std.specs.Prelude.{◌≡◌, [], ◌∷◌, ◌≤◌, length, take, get_or};
+ghost use Rattle.std.specs.Prelude.{◌≡◌, ◌&&◌, [], ◌∷◌, ◌≤◌, length, take, get_or};
 ghost use Rattle.std.specs.Float.{nan};
+ghost use Rattle.std.specs.Float.Ieee.{le};
 ghost use Rattle.polynomial.specs.Promises.Held.{Kept};
 ghost use Rattle.sampling.specs.Promises.Grown.{Grown};
 ghost use Rattle.sampling.specs.Samples as Of;
 
 use crate::continuum::ROOT_ROUNDOFF;
 use crate::intervals::Range;
-use crate::work::push;
+use crate::work::Cuts;
 use float::number::{abs, is_finite, maximum, middle, minimum};
 use float::trig::TWO_PI;
+
+// The angles from one to another, both among them.
+#[derive(Clone, Copy)]
+pub struct Interval {
+    pub lower: f64,
+    pub upper: f64,
+}
+
+impl Interval {
+    #[inline]
+    fn contains(self, angle: f64) -> bool
+        ensures { result ≡ (le self.lower angle && le angle self.upper) }
+    {
+        (self.lower <= angle) & (angle <= self.upper)
+    }
+}
 
 // An angle counts where it lies in the interval.
 #[inline]
 #[tactic(auto, unfolding(crate::specs::Samples::inside))]
-fn inside(
-    work: &mut [f64],
-    cuts: Option<usize>,
-    lower: f64,
-    upper: f64,
-    angle: f64,
-) -> Option<usize>
-    ensures { Grown (Of.inside lower upper angle) work.old cuts work.new result }
+fn inside(cuts: &mut Cuts, interval: Interval, angle: f64)
+    ensures { Grown (Of.inside interval.lower interval.upper angle) cuts.old cuts.new }
 {
-    if (lower <= angle) & (angle <= upper) {
-        return push(work, cuts, angle);
+    if interval.contains(angle) {
+        cuts.push(angle);
     }
-    cuts
 }
 
 // An angle, a turn below, as it is and a turn above. Mostly the two outer ones lie outside.
 #[inline]
 #[tactic(auto, unfolding(crate::specs::Samples::inside, crate::specs::Samples::copies, crate::proofs::Literals::of_bits))]
-fn copies(
-    work: &mut [f64],
-    cuts: Option<usize>,
-    lower: f64,
-    upper: f64,
-    angle: f64,
-) -> Option<usize>
-    ensures { Grown (Of.copies lower upper angle) work.old cuts work.new result }
+fn copies(cuts: &mut Cuts, interval: Interval, angle: f64)
+    ensures { Grown (Of.copies interval.lower interval.upper angle) cuts.old cuts.new }
 {
     let below = angle + -1.0 * TWO_PI;
     let above = angle + 1.0 * TWO_PI;
-    if !(lower <= below) & !(above <= upper) {
-        return inside(work, cuts, lower, upper, angle + 0.0 * TWO_PI);
+    if !(interval.lower <= below) & !(above <= interval.upper) {
+        inside(cuts, interval, angle + 0.0 * TWO_PI);
+        return;
     }
-    let first = inside(work, cuts, lower, upper, below);
-    let second = inside(work, first, lower, upper, angle + 0.0 * TWO_PI);
-    inside(work, second, lower, upper, above)
+    inside(cuts, interval, below);
+    inside(cuts, interval, angle + 0.0 * TWO_PI);
+    inside(cuts, interval, above);
 }
 
 // The copies of each angle.
-pub(crate) fn all_copies(
-    work: &mut [f64],
-    mut cuts: Option<usize>,
-    lower: f64,
-    upper: f64,
-    angles: &[f64],
-) -> Option<usize>
-    ensures { Grown (Of.all_copies lower upper angles.now) work.old cuts work.new result }
+pub(crate) fn all_copies(cuts: &mut Cuts, interval: Interval, angles: &[f64])
+    ensures { Grown (Of.all_copies interval.lower interval.upper angles.now) cuts.old cuts.new }
 {
     for angle in angles {
-        cuts = copies(work, cuts, lower, upper, *angle);
+        copies(cuts, interval, *angle);
     }
-    cuts
 }
 
 // A root counts if it is finite.
 #[inline]
 #[tactic(auto, unfolding(crate::specs::Samples::windings))]
-fn windings(
-    work: &mut [f64],
-    cuts: Option<usize>,
-    lower: f64,
-    upper: f64,
-    root: f64,
-) -> Option<usize>
-    ensures { Grown (Of.windings lower upper root) work.old cuts work.new result }
+fn windings(cuts: &mut Cuts, interval: Interval, root: f64)
+    ensures { Grown (Of.windings interval.lower interval.upper root) cuts.old cuts.new }
 {
     if is_finite(root) {
-        return copies(work, cuts, lower, upper, root);
+        copies(cuts, interval, root);
     }
-    cuts
 }
 
-// The windings of each root.
-fn all_windings(
-    work: &mut [f64],
-    mut cuts: Option<usize>,
-    lower: f64,
-    upper: f64,
-    roots: &[f64],
-) -> Option<usize>
-    ensures { Grown (Of.all_windings lower upper roots.now) work.old cuts work.new result }
+// The windings of each root. The loop of `all_copies` with another step: a closure for the step would
+// promise `Grown` of a list that is told by what it answers for each angle, and each caller show which.
+fn all_windings(cuts: &mut Cuts, interval: Interval, roots: &[f64])
+    ensures { Grown (Of.all_windings interval.lower interval.upper roots.now) cuts.old cuts.new }
 {
     for root in roots {
-        cuts = windings(work, cuts, lower, upper, *root);
+        windings(cuts, interval, *root);
     }
-    cuts
 }
 
 // The cuts of one interval, in the front of the slice.
@@ -114,11 +99,15 @@ pub(crate) fn interval_cuts(
     let Some((a, b)) = range else {
         return Some(0);
     };
-    let lower = near + a;
-    let upper = near + b;
-    let first = push(work, Some(0), lower);
-    let ends = push(work, first, upper);
-    all_windings(work, ends, lower, upper, roots)
+    let interval = Interval {
+        lower: near + a,
+        upper: near + b,
+    };
+    let mut cuts = Cuts::new(work);
+    cuts.push(interval.lower);
+    cuts.push(interval.upper);
+    all_windings(&mut cuts, interval, roots);
+    cuts.count
 }
 
 // How far inside a pair of neighbouring cuts the outer samples lie.

@@ -28,7 +28,7 @@ use Rattle.sampling.specs.declared.job.Kind.TheVariants.{J1free, J2free, J1j2fre
 use Rattle.sampling.specs.declared.pose.Quaternion.{Quaternion}
 use Rattle.sampling.specs.declared.pose.Degenerate.TheVariants.{NotFinite, Zero}
 use Rattle.sheet.specs.declared.edition.Edition.{Edition}
-use Rattle.sheet.specs.declared.request.Shape.{Shape}
+use Rattle.sampling.specs.declared.reads.Shape.{Shape}
 use Rattle.sheet.specs.declared.request.Field.TheVariants.{Arm, Offset}
 use Rattle.sheet.specs.Edition.{known}
 use Rattle.sheet.specs.Request.{shape_of, reads}

@@ -7,7 +7,7 @@ use Rattle.sampling.specs.declared.job.Kind.TheVariants.{J1free, J2free, J1j2fre
 use Rattle.sheet.specs.Bytes.{part}
 use Rattle.sheet.specs.declared.edition.Edition.{Edition}
 use Rattle.sheet.specs.declared.edition.Edition.TheVariants.{One, Two}
-use Rattle.sheet.specs.declared.request.Shape.{Shape}
+use Rattle.sampling.specs.declared.reads.Shape.{Shape}
 use Rattle.sheet.specs.declared.request.Field.{Field}
 use Rattle.sheet.specs.declared.request.Field.TheVariants.{Sign, Arm, Reference, Offset, From, To}
 

@@ -9,7 +9,7 @@ use Rattle.polynomial.specs.Angle.{two_pi}
 use Rattle.sampling.specs.Pose.{Normalized, try_normalize}
 use Rattle.sampling.specs.declared.pose.Degenerate.TheVariants.{NotFinite, Zero}
 use Rattle.sheet.specs.declared.edition.Edition.{Edition}
-use Rattle.sheet.specs.declared.request.Shape.{Shape}
+use Rattle.sampling.specs.declared.reads.Shape.{Shape}
 use Rattle.sheet.specs.declared.request.Field.{Field}
 use Rattle.sheet.specs.declared.request.Field.TheVariants.{Sign, Arm, Reference, Offset, From, To}
 use Rattle.sheet.specs.Refusals.{Answer, need}

@@ -10,7 +10,7 @@ use crate::bytes::{bytes_at, put};
 use crate::edition::Edition;
 use crate::view::View;
 use sampling::job::Kind;
-use sampling::reads::{arm_read, joint_read, reference_read};
+pub use sampling::reads::Shape;
 
 // Sizes and positions, in bytes; specs/Request.antt has the same. The core is what every request
 // has, the name what it has from edition 2 on.
@@ -38,14 +38,6 @@ pub(crate) const OFFSETS: usize = 120;
 pub(crate) const FROM: usize = 168;
 
 pub(crate) const TO: usize = 216;
-
-// What kind, limits present and sixth joint fixed say.
-#[derive(Clone, Copy)]
-pub struct Shape {
-    pub kind: Kind,
-    pub limits: bool,
-    pub fixed: bool,
-}
 
 // The classes of fields that are not always read.
 #[derive(Clone, Copy)]
@@ -89,36 +81,18 @@ pub(crate) fn shape_from(kind: u8, limits: u8, fixed: u8) -> Option<Shape>
     })
 }
 
-impl Shape {
-    // Whether a field is read.
-    #[tactic(auto, unfolding(crate::specs::Request::reads))]
-    #[inline(always)]
-    fn reads(self, f: Field, j: usize) -> bool
-        ensures { result ≡ Request.reads (Some self) f j }
-    {
-        let Shape {
-            kind,
-            limits,
-            fixed,
-        } = self;
-        match f {
-            Field::Sign => joint_read(kind, limits, fixed, j),
-            Field::Arm => arm_read(kind, j),
-            Field::Reference => reference_read(kind, limits, fixed, j),
-            Field::Offset => joint_read(kind, limits, fixed, j),
-            Field::From => limits & joint_read(kind, limits, fixed, j),
-            Field::To => limits & joint_read(kind, limits, fixed, j),
-        }
-    }
-}
-
 // Whether a field is read: none is under a wrong kind or flag.
 #[tactic(auto, unfolding(crate::specs::Request::reads))]
 #[inline(always)]
 pub(crate) fn field_read(s: Option<Shape>, f: Field, j: usize) -> bool
     ensures { result ≡ Request.reads s f j }
 {
-    s.is_some_and(|s| s.reads(f, j))
+    s.is_some_and(|s| match f {
+        Field::Sign | Field::Offset => s.joint_read(j),
+        Field::Arm => s.arm_read(j),
+        Field::Reference => s.reference_read(j),
+        Field::From | Field::To => s.limits & s.joint_read(j),
+    })
 }
 
 // Whether a byte of the request is read.

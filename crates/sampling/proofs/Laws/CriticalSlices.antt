@@ -11,11 +11,10 @@ use Rattle.polynomial.specs.Promises.Lists.{All}
 use Rattle.polynomial.specs.declared.compensated.Compensated.{Compensated}
 use Rattle.polynomial.specs.declared.curve.Curve.{Curve}
 use Rattle.sampling.specs.Pairs.{earlier, order}
-use Rattle.sampling.specs.CriticalSlices.{Polynomials, polynomials, all_polynomials, tangency, intersection, chart_roots}
+use Rattle.sampling.specs.CriticalSlices.{Chart, Polynomials, polynomials, all_polynomials, tangency, intersection, chart_roots}
 use Rattle.sampling.specs.CriticalSlices.{nowhere, at, asked, calls, critical}
 use Rattle.sampling.specs.Promises.Numerators.{meetings}
 use Rattle.sampling.proofs.Laws.Pairs.{Placed, order_placed, added, order_added}
-use Rattle.sampling.specs.declared.critical_slices.Chart.{Chart}
 
 -- ---- what is asked, place by place
 

@@ -30,7 +30,7 @@ use Rattle.sampling.specs.Wrist.{wrist}
 use Rattle.sampling.specs.Bends.{harmonic, narrow}
 use Rattle.sampling.specs.Boundaries.{wrist_limits}
 use Rattle.sampling.specs.SampleAngles.{free}
-use Rattle.sampling.specs.CriticalSlices.{Polynomials, chart, polynomials, all_polynomials, tangency, intersection, at, asked, calls}
+use Rattle.sampling.specs.CriticalSlices.{Chart, Polynomials, chart, polynomials, all_polynomials, tangency, intersection, at, asked, calls}
 use Rattle.sampling.specs.Pairs.{order}
 use Rattle.sampling.specs.J1j2free.{sixth_limits, folded, curves, on_interval}
 use Rattle.sampling.specs.Angles.{first_free, second_free, by_kind}
@@ -38,7 +38,6 @@ use Rattle.sampling.specs.InnerCalls.{at_ends, bend_calls, marks_calls, free_cal
 use Rattle.sampling.specs.Promises.Charts.{Bounded, Charted}
 use Rattle.sampling.specs.declared.continuum.Axes.{Axes}
 use Rattle.sampling.specs.declared.continuum.TrigVector.{TrigVector}
-use Rattle.sampling.specs.declared.critical_slices.Chart.{Chart}
 use Rattle.sampling.specs.declared.j1j2free.Folded.{Folded}
 use Rattle.sampling.specs.declared.job.Arm.{Arm}
 use Rattle.sampling.specs.declared.job.Job.{Job}

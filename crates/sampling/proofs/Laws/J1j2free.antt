@@ -14,10 +14,9 @@ use Rattle.polynomial.specs.Laws.Cuts.{fit_append, cuts_left}
 use Rattle.polynomial.specs.declared.compensated.Compensated.{Compensated}
 use Rattle.polynomial.specs.declared.curve.Curve.{Curve}
 use Rattle.sampling.specs.Samples.{inside, copies, all_copies}
-use Rattle.sampling.specs.CriticalSlices.{chart, angles, chart_roots, all_polynomials, calls, critical}
+use Rattle.sampling.specs.CriticalSlices.{Chart, chart, angles, chart_roots, all_polynomials, calls, critical}
 use Rattle.sampling.specs.J1j2free.{curves, bends, critical_slices, half_cuts}
 use Rattle.sampling.specs.Promises.Halves.{half_values}
-use Rattle.sampling.specs.declared.critical_slices.Chart.{Chart}
 use Rattle.sampling.specs.declared.j1j2free.Folded.{Folded}
 
 -- ---- the values fit

@@ -12,13 +12,12 @@ use Rattle.float.specs.Number.{middle}
 use Rattle.polynomial.specs.Cuts.{cuts}
 use Rattle.polynomial.specs.Laws.Cuts.{cuts_perm, cuts_cons}
 use Rattle.polynomial.specs.declared.curve.Curve.{Curve}
-use Rattle.sampling.specs.CriticalSlices.{Polynomials, polynomials, all_polynomials, tangency, intersection, nowhere, at, asked, chart}
+use Rattle.sampling.specs.CriticalSlices.{Chart, Polynomials, polynomials, all_polynomials, tangency, intersection, nowhere, at, asked, chart}
 use Rattle.sampling.specs.CriticalSlices.{chart_roots, calls, critical}
 use Rattle.sampling.specs.J1j2free.{folded, curves, critical_slices, half_cuts, first_half, second_half, on_interval, all_slices}
 use Rattle.sampling.specs.Angles.{angles, cut_count}
 use Rattle.sampling.proofs.Laws.J1j2free.{critical_fit}
 use Rattle.sampling.proofs.Laws.CriticalSlices.{asked_own, asked_pair}
-use Rattle.sampling.specs.declared.critical_slices.Chart.{Chart}
 use Rattle.sampling.specs.declared.j1j2free.Folded.{Folded}
 use Rattle.sampling.specs.declared.job.Job.{Job}
 use Rattle.sampling.specs.Pairs as Pairs

@@ -24,7 +24,7 @@ use Rattle.polynomial.specs.declared.curve.Curve.{Curve}
 use Rattle.polynomial.specs.Promises.Lists.{All}
 use Rattle.polynomial.specs.Laws.Lists.{all_append}
 use Rattle.sampling.specs.Samples.{inside, copies, all_copies}
-use Rattle.sampling.specs.CriticalSlices.{chart, angles, chart_roots, all_polynomials, calls, critical}
+use Rattle.sampling.specs.CriticalSlices.{Chart, chart, angles, chart_roots, all_polynomials, calls, critical}
 use Rattle.sampling.specs.Promises.Charts.{Bounded, Charted}
 use Rattle.sampling.specs.Promises.Halves.{half_values}
 use Rattle.sampling.specs.J1j2free.{curves, bends, half_cuts, first_half, second_half}
@@ -32,7 +32,6 @@ use Rattle.sampling.specs.Promises.Stream.{Woven}
 use Rattle.sampling.proofs.Laws.J1j2free.{half_fit, half_cuts_are}
 use Rattle.sampling.proofs.Laws.Limits.{Ends, ends_span}
 use Rattle.sampling.proofs.Laws.Woven.{Small, cuts_woven}
-use Rattle.sampling.specs.declared.critical_slices.Chart.{Chart}
 use Rattle.sampling.specs.declared.j1j2free.Folded.{Folded}
 
 abbrev pub eight : Float

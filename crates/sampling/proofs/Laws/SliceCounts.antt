@@ -24,12 +24,11 @@ use Rattle.sampling.specs.Boundaries.{corner_curves, boundaries}
 use Rattle.sampling.specs.BendSlices.{transverse, transverse_range, transverses, axis_angles, axes_range, fold, folds, folds_range, bend_slice}
 use Rattle.sampling.specs.BendSlices.{bend_slices}
 use Rattle.sampling.specs.Pairs.{earlier, order}
-use Rattle.sampling.specs.CriticalSlices.{chart, angles, chart_roots, Polynomials, polynomials, all_polynomials, nowhere, at, asked, calls}
+use Rattle.sampling.specs.CriticalSlices.{Chart, chart, angles, chart_roots, Polynomials, polynomials, all_polynomials, nowhere, at, asked, calls}
 use Rattle.sampling.specs.CriticalSlices.{squares, tangency, intersection, critical}
 use Rattle.sampling.specs.J1j2free.{curves, bends, critical_slices, half_cuts, first_half, second_half, on_interval, cut_count}
 use Rattle.sampling.specs.Promises.Curves.{most_curves}
 use Rattle.sampling.proofs.Laws.AngleCounts.{both, either, all_copies_few}
-use Rattle.sampling.specs.declared.critical_slices.Chart.{Chart}
 use Rattle.sampling.specs.declared.j1j2free.Folded.{Folded}
 use Rattle.sampling.specs.declared.pose.Vector.{Vector}
 use Rattle.sampling.specs.declared.pose.Matrix.{Matrix}

@@ -22,7 +22,8 @@ use Rattle.polynomial.specs.declared.curve.Curve.{Curve}
 use Rattle.polynomial.specs.Laws.Lists.{all_append}
 use Rattle.polynomial.specs.Laws.Size.{one_small, minus_small}
 use Rattle.polynomial.specs.Laws.SmallNorm.{Harmonic-under, norm_fair}
-use Rattle.sampling.specs.Boundaries.{level, along, across, plus, times, curve, second_curve, bend_curve, fourth_curve, fifth_curve, sixth_curve}
+use Rattle.polynomial.specs.Curve.{plus, times}
+use Rattle.sampling.specs.Boundaries.{level, along, across, curve, second_curve, bend_curve, fourth_curve, fifth_curve, sixth_curve}
 use Rattle.sampling.specs.Boundaries.{corner_curve, second_curves, pole_curves, fourth_curves, fifth_curves}
 use Rattle.sampling.specs.Boundaries.{sixth_curves, signed_corners, corner_curves, boundaries}
 use Rattle.sampling.specs.BendSlices.{fold}

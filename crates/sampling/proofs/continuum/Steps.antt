@@ -1,8 +1,8 @@
 -- `crossings` in steps: the tests, then the angles around the phase.
 use Rattle.std.specs.Prelude.{None, Some}
-use mathlib.Core.Path.{◌≡◌, refl, sym, ap, ◌∙◌}
+use mathlib.Core.Path.{◌≡◌, refl, ap, ◌∙◌}
 use mathlib.Core.Bool.{Bool, true, false, not, ◌&&◌, ◌||◌, cond}
-use mathlib.Core.List.{[]}
+use mathlib.Core.List.{[], ◌∷◌}
 use lib.Ieee.{Float, neg, eq, lt}
 use lib.Ieee.Scale.{finite}
 use Rattle.float.specs.Number.{◌⊕◌, ◌⊖◌, ◌⊘◌, abs, clamp, zero_float}
@@ -12,6 +12,7 @@ use Rattle.sampling.specs.Promises.Deferred.{angles_of}
 use Rattle.sampling.specs.Promises.Polar.{meets, around}
 use Rattle.sampling.specs.declared.continuum.Trig.{Trig}
 use Rattle.sampling.specs.declared.deferred.Pending.{Pending}
+use Rattle.sampling.specs.declared.polar.Polar.{Polar}
 
 -- four tests as one
 as_one : {A : Type 0} (a b c d : Bool) (x z : A) → cond (not a || not b || c || d) z x ≡ cond (a && b && not c && not d) x z
@@ -29,23 +30,20 @@ steps t target =
     let constant = t.constant ⊖ target in
     as_one (finite radius) (finite constant) (eq radius zero_float) (lt (radius ⊕ error t target) (abs constant)) _ _
 
--- by the radius and phase of t
-module _ (t : Trig) (target r f : Float) (b : Bool) (d : r ≡ hypot t.cosine t.sine) (e : f ≡ atan2 t.sine t.cosine) (m : b ≡ meets t r target) where
-  pub met : b ≡ true → Some (around t r f target) ≡ crossings t target
-  met h = sym (steps t target ∙ rw (← d, ← e, ← m, h))
-
-  pub missed : b ≡ false → None ≡ crossings t target
-  missed h = sym (steps t target ∙ rw (← d, ← e, ← m, h))
+-- by a radius and a phase worked out before
+pub crossed : (p : Polar) (target : Float) → crossings p.harmonic target ≡ cond (meets p.harmonic p.radius target)
+    (Some (around p.harmonic p.radius p.phase target)) None
+crossed p target = rw (p.radius_is, p.phase_is) (steps p.harmonic target)
 
 -- as a list
 abbrev pub deferred : Trig → Float → Pending
 deferred t v = record { sine = t.sine; cosine = t.cosine; ratio = v }
 
-module _ (t : Trig) (target r : Float) (b : Bool) (d : r ≡ hypot t.cosine t.sine) (m : b ≡ meets t r target) where
-  pub met_roots : (v : Float) → v ≡ clamp (neg (t.constant ⊖ target) ⊘ r) → b ≡ true → angles_of (deferred t v) ≡ roots t target
-  unfolding angles_of roots around
-  met_roots v e h = ap (λ (x : Float). angles_of (deferred t x)) e ∙ ap listed (met t target r (atan2 t.sine t.cosine) b d refl m h)
+listed_cond : (b : Bool) (x y : Float) → listed (cond b (Some (x, y)) None) ≡ cond b (x ∷ (y ∷ [])) []
+listed_cond true x y = refl
+listed_cond false x y = refl
 
-  pub missed_roots : b ≡ false → [] ≡ roots t target
-  unfolding roots
-  missed_roots h = ap listed (missed t target r (atan2 t.sine t.cosine) b d refl m h)
+pub rooted : (t : Trig) (target : Float) → roots t target ≡ cond (meets t (hypot t.cosine t.sine) target)
+    (angles_of (deferred t (clamp (neg (t.constant ⊖ target) ⊘ hypot t.cosine t.sine)))) []
+unfolding angles_of roots around
+rooted t target = ap listed (steps t target) ∙ listed_cond (meets t (hypot t.cosine t.sine) target) _ _

@@ -10,7 +10,7 @@ use lib.Dec.{ltb}
 use lib.ListN.{length, get_or, drop, set, drop_of_length-le}
 use lib.Seq.{sets, drop-cons}
 use borrow.Author.Tests.{ltb-true, ltb-false, lt-ltb, le-ltb}
-use Rattle.sheet.specs.declared.request.Shape.{Shape}
+use Rattle.sampling.specs.declared.reads.Shape.{Shape}
 use Rattle.sheet.specs.Bytes.{bytes, part, same_bytes}
 use Rattle.sheet.specs.Request.{name_at, byte_read, blank_from}
 use Rattle.sheet.specs.Laws.Bytes.{bytes_suc, bytes_zero, length_bytes, length_part, sets_append, same_step, same_stop, same_nil}

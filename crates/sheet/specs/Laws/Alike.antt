@@ -11,7 +11,7 @@ use Rattle.std.specs.Float.{binary64}
 use Rattle.std.specs.Float.Ieee.Fits.{and_i}
 use Rattle.float.specs.Laws.Tests.{and_left}
 use Rattle.sampling.specs.Reads.{joint_read, reference_read, arm_read, SameJoint, SameRead}
-use Rattle.sheet.specs.declared.request.Shape.{Shape}
+use Rattle.sampling.specs.declared.reads.Shape.{Shape}
 use Rattle.sheet.specs.declared.request.Field.TheVariants.{Sign, Arm, Reference, Offset, From, To}
 use Rattle.sheet.specs.Request.{request_size, shape_of, reads}
 use Rattle.sheet.specs.Fields.{sign_of, joint_at, arm_of, kind_of, limited_of, fixed_of, job_of, matrix}

@@ -1,7 +1,7 @@
 -- Laws of `blank-from`: byte by byte, and its length.
 use Rattle.std.specs.Prelude.{ℕ, zero, suc, ◌+◌, ◌<◌, ◌≡◌, refl, List, [], ◌∷◌, cond, length, get_or, Option}
 use Rattle.std.proofs.Common.{arith, add-zero, ap}
-use Rattle.sheet.specs.declared.request.Shape.{Shape}
+use Rattle.sampling.specs.declared.reads.Shape.{Shape}
 use Rattle.sheet.specs.Request.{byte_read, blank_from}
 
 pub blank_cons : (s : Option Shape) (i b : ℕ) (bs : List ℕ) → blank_from s i (b ∷ bs) ≡ cond (byte_read s i) b 0 ∷ blank_from s (suc i) bs

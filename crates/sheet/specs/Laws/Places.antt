@@ -3,7 +3,7 @@ use Rattle.std.specs.Prelude.{ℕ, ◌+◌, ◌-◌, ◌/◌, ◌≤◌, ◌<◌
 use Rattle.std.proofs.Common.{arith, lt-ltb, le-ltb}
 use Rattle.sheet.specs.declared.edition.Edition.{Edition}
 use Rattle.sheet.specs.declared.edition.Edition.TheVariants.{One, Two}
-use Rattle.sheet.specs.declared.request.Shape.{Shape}
+use Rattle.sampling.specs.declared.reads.Shape.{Shape}
 use Rattle.sheet.specs.declared.request.Field.{Field}
 use Rattle.sheet.specs.declared.request.Field.TheVariants.{Sign, Arm, Reference, Offset, From, To}
 use Rattle.sheet.specs.Request.{core_size, name_at, name_size, request_size, reads, place, last, width, byte_read}

@@ -27,7 +27,7 @@ use Rattle.sampling.specs.declared.pose.Quaternion.{Quaternion}
 use Rattle.sheet.specs.Edition.{newest}
 use Rattle.sheet.specs.declared.edition.Edition.{Edition}
 use Rattle.sheet.specs.declared.refusals.Refusal.{Refusal}
-use Rattle.sheet.specs.declared.request.Shape.{Shape}
+use Rattle.sampling.specs.declared.reads.Shape.{Shape}
 use Rattle.sheet.specs.declared.request.Field.TheVariants.{Sign, Reference, Offset}
 use Rattle.sheet.specs.Bytes.{words_bytes}
 use Rattle.sheet.specs.Request.{shape_of, reads}

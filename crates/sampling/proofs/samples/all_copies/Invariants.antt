@@ -5,4 +5,5 @@ use Rattle.sampling.proofs.samples.all_copies.Given as goal
 
 abbrev pub invariant-loop-angle : goal.invariant-loop-angle
 invariant-loop-angle l =
-    Leads (all_copies l.lower l.upper l.angles) (all_copies l.lower l.upper (drop l.angle-index l.angles)) l.initial.work l.initial.cuts l.work l.cuts
+    let i = l.interval in
+    Leads (all_copies i.lower i.upper l.angles) (all_copies i.lower i.upper (drop l.angle-index l.angles)) l.initial.cuts l.cuts

@@ -5,4 +5,5 @@ use Rattle.sampling.proofs.samples.all_windings.Given as goal
 
 abbrev pub invariant-loop-root : goal.invariant-loop-root
 invariant-loop-root l =
-    Leads (all_windings l.lower l.upper l.roots) (all_windings l.lower l.upper (drop l.root-index l.roots)) l.initial.work l.initial.cuts l.work l.cuts
+    let i = l.interval in
+    Leads (all_windings i.lower i.upper l.roots) (all_windings i.lower i.upper (drop l.root-index l.roots)) l.initial.cuts l.cuts

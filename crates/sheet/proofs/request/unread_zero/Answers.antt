@@ -1,6 +1,6 @@
 -- `sheet::request::unread_zero` meets its contract. The invariant: the bytes that are left decide.
 use Rattle.std.proofs.Common.{◌≡◌, arith, sym, ap, ◌∙◌, cond, get_or, Option}
-use Rattle.sheet.specs.declared.request.Shape.{Shape}
+use Rattle.sampling.specs.declared.reads.Shape.{Shape}
 use Rattle.sheet.specs.Bytes.{same_bytes}
 use Rattle.sheet.specs.Request.{blank_from, byte_read}
 use Rattle.sheet.proofs.request.Steps.{blank_step, blank_stop, blank_end, kept_read, kept_zero, kept_not}

@@ -4,7 +4,7 @@ use Prim.Native.Nat.{◌-◌}
 use native.Mathlib.Omega.{arith}
 use mathlib.Core.Path.{sym, ap, ◌∙◌}
 use borrow.Author.Tests.{not-true, not-false}
-use Rattle.sheet.specs.declared.request.Shape.{Shape}
+use Rattle.sampling.specs.declared.reads.Shape.{Shape}
 use Rattle.sheet.specs.Validate.{all_from, field_right}
 use Rattle.sheet.proofs.validate.Steps.{all_step, all_stop, all_end}
 use Rattle.sheet.proofs.validate.fields_right.Goals as goal
