@@ -1,2 +1,3 @@
 -- What the proofs of the plan share.
 mod ByKind
+mod Asked

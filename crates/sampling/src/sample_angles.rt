@@ -81,32 +81,26 @@ pub(crate) fn free_of(axes: Axes, job: Job, j: Joint) -> Free
 }
 
 // The cuts of three intervals, one list after the other in the front of work.
-fn cut_intervals(work: &mut [f64], near: f64, three: Intervals, roots: &[f64]) -> Plan
+fn cut_intervals(work: &mut [f64], near: f64, three: Intervals, roots: &[f64]) -> Option<Plan>
     ensures { ListsLaid (interval_cuts near roots.now three.first)
         (interval_cuts near roots.now three.second)
         (interval_cuts near roots.now three.third) work.old result work.new }
 {
     let range1 = three.first;
-    let Some(first) = interval_cuts(work, near, range1, roots) else {
-        return Plan::Short;
-    };
+    let first = interval_cuts(work, near, range1, roots)?;
     let range2 = three.second;
-    let Some(second) = interval_cuts(&mut work[first..], near, range2, roots) else {
-        return Plan::Short;
-    };
+    let second = interval_cuts(&mut work[first..], near, range2, roots)?;
     let range3 = three.third;
-    let Some(third) = interval_cuts(&mut work[first + second..], near, range3, roots) else {
-        return Plan::Short;
-    };
-    Plan::Lists(Lists {
+    let third = interval_cuts(&mut work[first + second..], near, range3, roots)?;
+    Some(Plan::Lists(Lists {
         first,
         second,
         third,
-    })
+    }))
 }
 
 // The cuts of a free joint, in the front of work.
-pub(crate) fn cut(work: &mut [f64], f: &Free) -> Plan
+pub(crate) fn cut(work: &mut [f64], f: &Free) -> Option<Plan>
     ensures value { result ≡ granted (Of.cut_count f.now) (free_plan f.now) (length work.old) }
     ensures work_after { where_laid result work.new [] ≡
         where_laid result (free_cuts f.now ++ drop (Of.cut_count f.now) work.old) [] }
@@ -117,9 +111,9 @@ pub(crate) fn cut(work: &mut [f64], f: &Free) -> Plan
         let three = wrist_limit_intervals(f.limits, f.near, 1.0);
         return cut_intervals(work, f.near, three, &roots);
     }
-    Plan::Lists(Lists {
+    Some(Plan::Lists(Lists {
         first: 0,
         second: 0,
         third: 0,
-    })
+    }))
 }

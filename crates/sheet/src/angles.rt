@@ -24,10 +24,10 @@ fn put_three(output: &mut [u8], at: usize, lower: f64, upper: f64)
     requires { at + 24 ≤ length output.old }
     ensures { output.new ≡ sets output.old at (Floats.floats_bytes (Samples.between lower upper)) }
 {
-    let three = between(lower, upper);
-    put_float(output, at, three.first);
-    put_float(output, at + 8, three.second);
-    put_float(output, at + 16, three.third);
+    let [first, second, third] = between(lower, upper);
+    put_float(output, at, first);
+    put_float(output, at + 8, second);
+    put_float(output, at + 16, third);
 }
 
 // Three samples between each two neighbours in a list.

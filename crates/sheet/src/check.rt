@@ -2,7 +2,7 @@
 // it.
 ghost use Rattle.std.specs.Prelude.{◌≡◌, ◌+◌, ◌^◌, ◌<◌, ◌≤◌, length};
 ghost use Rattle.sampling.specs.Promises.Stream.{start};
-ghost use Rattle.sampling.specs.Promises.Plan.{to_come, Ready};
+ghost use Rattle.sampling.specs.Promises.Plan.{to_come};
 ghost use Rattle.sheet.specs.Bytes as Bytes;
 ghost use Rattle.sheet.specs.Promises.Floats as Floats;
 ghost use Rattle.sheet.specs.Edition.{newest, known};
@@ -11,43 +11,33 @@ ghost use Rattle.sheet.specs.Sheet as Sheet;
 ghost use Rattle.sheet.specs.Check as Check;
 ghost use Rattle.sheet.specs.Promises.Plan as Promise;
 
-use crate::bytes::{bytes_at, same_at, same_float};
+use crate::bytes::{bytes_at, same_at};
 use crate::edition::{Edition, known};
-use crate::plan::{is_short, plan_request};
+use crate::plan::plan_request;
 use crate::refusals::Fault;
 use crate::request::unread_zero;
 use crate::trailer::{ITEMS_BOUND, LEAST, TRAILER, frame_size, put_trailer};
 use crate::validate::validate;
 use crate::view::View;
-use sampling::lists::Plan;
-use sampling::plan::{next, start};
+use float::number::bits;
+use sampling::plan::Planned;
 use sampling::work::clear;
 
 // Whether the bytes are those of the angles, no more and no less.
-fn same_angles(s: &[u8], work: &[f64], plan: Plan) -> bool
-    requires { Ready plan work.now }
-    ensures { result ≡ Bytes.same_bytes s.now (Floats.floats_bytes (to_come plan work.now start)) }
+fn same_angles(s: &[u8], planned: &Planned) -> bool
+    ensures { result ≡ Bytes.same_bytes s.now (Floats.floats_bytes (to_come planned.now.plan planned.now.work.now start)) }
 {
-    let mut c = start();
-    let mut at = 0usize;
-    loop {
-        let t = next(work, plan, c);
-        match t {
-            None => {
-                return at == s.len();
-            }
-            Some((y, d)) => {
-                if s.len() - at < 8 {
-                    return false;
-                }
-                if !same_float(s, at, y) {
-                    return false;
-                }
-                at += 8;
-                c = d;
-            }
+    let mut left = s;
+    for y in planned.angles() {
+        let Some((bytes, rest)) = left.split_first_chunk() else {
+            return false;
+        };
+        if u64::from_le_bytes(*bytes) != bits(y) {
+            return false;
         }
+        left = rest;
     }
+    left.is_empty()
 }
 
 // The number of angles that the trailer says.
@@ -87,24 +77,6 @@ fn formed(e: Edition, sheet: &[u8], n: usize) -> bool
     same_at(sheet, sheet.len() - TRAILER, &t)
 }
 
-// 34 to 36.
-#[tactic(auto, unfolding(crate::specs::Promises::Plan::compared, crate::specs::Refusals::need))]
-fn compare(s: &[u8], view: View, work: &[f64], plan: Plan, n: usize) -> Result<usize, Fault>
-    requires { Promise.PlannedFor view.request.now plan work.now }
-    ensures { Check.answer_of result ≡ Promise.compared view.entry.request.now s.now n (length work.now) }
-{
-    if !unread_zero(view) {
-        return Err(Fault::Unread);
-    }
-    if is_short(plan) {
-        return Err(Fault::Work);
-    }
-    if !same_angles(s, work, plan) {
-        return Err(Fault::Angles);
-    }
-    Ok(n)
-}
-
 // 33 to 36, for the angles' bytes s and n angles.
 fn check_request(
     e: Edition,
@@ -121,7 +93,14 @@ fn check_request(
     };
     let view = View { request };
     let plan = plan_request(work, view, q);
-    compare(s, view, work, plan, n)
+    if !unread_zero(view) {
+        return Err(Fault::Unread);
+    }
+    let plan = plan.ok_or(Fault::Work)?;
+    if !same_angles(s, &Planned { work, plan }) {
+        return Err(Fault::Angles);
+    }
+    Ok(n)
 }
 
 // 32 to 36 of a sheet that says this edition.

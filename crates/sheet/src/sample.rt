@@ -2,7 +2,7 @@
 ghost use Rattle.std.specs.Prelude.{◌≡◌, ◌++◌, ◌+◌, ◌*◌, ◌≤◌, length, leb};
 ghost use Rattle.std.proofs.lemmas.List.Edits.{sets};
 ghost use Rattle.sampling.specs.Promises.Stream.{start};
-ghost use Rattle.sampling.specs.Promises.Plan.{to_come, Ready};
+ghost use Rattle.sampling.specs.Promises.Plan.{to_come};
 ghost use Rattle.sheet.specs.Bytes as Bytes;
 ghost use Rattle.sheet.specs.Promises.Floats as Floats;
 ghost use Rattle.sheet.specs.Edition.{newest};
@@ -14,63 +14,48 @@ ghost use Rattle.sheet.specs.Promises.Plan as Promise;
 use crate::angles::put_lists;
 use crate::bytes::put_float;
 use crate::edition::Edition;
-use crate::plan::{is_short, plan_request};
+use crate::plan::plan_request;
 use crate::refusals::Refusal;
 use crate::request::{REQUEST, put_blank};
 use crate::trailer::{FRAME, put_trailer};
 use crate::validate::validate;
 use crate::view::View;
 use sampling::lists::Plan;
-use sampling::plan::{count, next, start};
+use sampling::plan::Planned;
 use sampling::work::clear;
 
-// The angles as `next` gives them, from the start of the output on.
-fn put_stream(output: &mut [u8], work: &[f64], plan: Plan)
-    requires ready { Ready plan work.now }
-    requires start_in_bounds { 8 * length (to_come plan work.now start) ≤ length output.old }
-    ensures { output.new ≡ sets output.old 0 (Floats.floats_bytes (to_come plan work.now start)) }
-{
-    let mut c = start();
-    let mut at = 0usize;
-    loop {
-        let s = next(work, plan, c);
-        match s {
-            None => {
-                return;
-            }
-            Some((y, d)) => {
-                put_float(output, at, y);
-                at += 8;
-                c = d;
-            }
-        }
-    }
-}
-
 // The angles, one after the other, from the start of the output on.
-fn put_angles(output: &mut [u8], work: &[f64], plan: Plan)
-    requires ready { Ready plan work.now }
-    requires start_in_bounds { 8 * length (to_come plan work.now start) ≤ length output.old }
-    ensures { output.new ≡ sets output.old 0 (Floats.floats_bytes (to_come plan work.now start)) }
+fn put_angles(output: &mut [u8], planned: &Planned)
+    requires { 8 * length (to_come planned.now.plan planned.now.work.now start) ≤ length output.old }
+    ensures { output.new ≡ sets output.old 0 (Floats.floats_bytes (to_come planned.now.plan planned.now.work.now start)) }
 {
-    if let Plan::Lists(n) = plan {
-        put_lists(output, work, n);
+    if let Plan::Lists(n) = planned.plan {
+        put_lists(output, planned.work, n);
         return;
     }
-    put_stream(output, work, plan);
+    put_stream(output, planned);
+}
+
+// The same, as they come one at a time.
+fn put_stream(output: &mut [u8], planned: &Planned)
+    requires { 8 * length (to_come planned.now.plan planned.now.work.now start) ≤ length output.old }
+    ensures { output.new ≡ sets output.old 0 (Floats.floats_bytes (to_come planned.now.plan planned.now.work.now start)) }
+{
+    for (i, y) in planned.angles().enumerate() {
+        put_float(output, 8 * i, y);
+    }
 }
 
 // The sheet: the n angles, the blanked request, the trailer.
-fn fill(output: &mut [u8], view: View, work: &[f64], plan: Plan, n: usize)
+fn fill(output: &mut [u8], view: View, planned: &Planned, n: usize)
     requires request_len { length view.request.now ≡ Request.request_size newest }
-    requires ready { Ready plan work.now }
-    requires n_value { n ≡ length (to_come plan work.now start) }
+    requires n_value { n ≡ length (to_come planned.now.plan planned.now.work.now start) }
     requires n_in_bounds { Sheet.sheet_size newest n ≤ length output.old }
     ensures { output.new ≡
-        sets output.old 0 (Floats.floats_bytes (to_come plan work.now start)
+        sets output.old 0 (Floats.floats_bytes (to_come planned.now.plan planned.now.work.now start)
         ++ (Request.blank view.entry.request.now ++ Sheet.trailer newest n)) }
 {
-    put_angles(output, work, plan);
+    put_angles(output, planned);
     put_blank(output, 8 * n, view);
     put_trailer(output, 8 * n + REQUEST, Edition::NEWEST, n);
 }
@@ -88,19 +73,16 @@ fn has_room(n: usize, room: usize) -> bool
     false
 }
 
-// 10 and 11, and else the sheet.
-fn finish(output: &mut [u8], view: View, work: &[f64], plan: Plan) -> Result<usize, Refusal>
+// 11, and else the sheet.
+fn finish(output: &mut [u8], view: View, planned: &Planned) -> Result<usize, Refusal>
     requires request_len { length view.request.now ≡ Request.request_size newest }
-    requires planned_for { Promise.PlannedFor view.request.now plan work.now }
-    ensures result_value { Sampling.answer_of result ≡ Promise.planned_answer view.entry.request.now (length work.now) (length output.old) }
+    requires planned_for { Promise.PlannedFor view.request.now planned.now.plan planned.now.work.now }
+    ensures result_value { Sampling.answer_of result ≡ Promise.planned_answer view.entry.request.now (length planned.now.work.now) (length output.old) }
     ensures output_after { output.new ≡ Sampling.output_after (Sampling.answer_of result) view.entry.request.now output.old }
 {
-    if is_short(plan) {
-        return Err(Refusal::Work);
-    }
-    let n = count(work, plan);
+    let n = planned.count();
     if has_room(n, output.len()) {
-        fill(output, view, work, plan, n);
+        fill(output, view, planned, n);
         return Ok(n);
     }
     Err(Refusal::Output)
@@ -113,8 +95,8 @@ fn run(request: &[u8], work: &mut [f64], output: &mut [u8]) -> Result<usize, Ref
 {
     let q = validate(Edition::NEWEST, request)?;
     let view = View { request };
-    let plan = plan_request(work, view, q);
-    finish(output, view, work, plan)
+    let plan = plan_request(work, view, q).ok_or(Refusal::Work)?;
+    finish(output, view, &Planned { work, plan })
 }
 
 // Sampling: the number of angles, or the first refusal. Success fills the first bytes of the output with the sheet; a refusal leaves it. After

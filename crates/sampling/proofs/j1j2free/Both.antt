@@ -76,7 +76,7 @@ module _ (t : Folded) (lower upper m : Float) (f : T (fits binary64 lower)) (g :
   behind : Kept (half_values cs bs m upper) (drop (start s (length v)) v) last r
   behind = rw (← en) (subst (λ (d : List Float). Kept (half_values cs bs m upper) d last r) (tail_part n v) l)
 
-  pub laid_halves : (q : Plan) → q ≡ both t.reference s r
+  pub laid_halves : (q : Option Plan) → q ≡ both t.reference s r
       → (q ≡ granted (length (first_half t lower upper) + length (second_half t lower upper))
       (halves_of t.reference (first_half t lower upper) (second_half t lower upper)) (length w))
       × (where_laid q (take n v ++ (last ++ drop (length v - n) (drop n v))) []

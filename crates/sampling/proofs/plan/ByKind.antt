@@ -9,11 +9,11 @@ use Rattle.sampling.specs.Promises.Plan.{free_plan, folded_plan, laid, free_cuts
 use Rattle.sampling.specs.declared.job.Job.{Job}
 use Rattle.sampling.specs.declared.job.Kind.{Kind}
 use Rattle.sampling.specs.declared.lists.Plan.{Plan}
-use Rattle.sampling.specs.declared.lists.Plan.TheVariants.{Short, Lists, Halves}
+use Rattle.std.specs.Prelude.{Option, Some, None}
 use Rattle.sampling.specs.SampleAngles as SampleAngles
 use Rattle.sampling.specs.J1j2free as J1j2free
 
-module _ (job : Job) (p : Plan) (w after : List Float) where
+module _ (job : Job) (p : Option Plan) (w after : List Float) where
   -- what `cut` ensures, with the kind by itself
   abbrev pub by : Kind → Type 0
   by k =
@@ -27,15 +27,14 @@ module _ (job : Job) (p : Plan) (w after : List Float) where
   unfolding plan laid all_cuts cut_count
   by_cut k e d = subst by (sym e) d
 
-pub either_way : (p : Plan) (x y other : List Float) → where_laid p x [] ≡ where_laid p y [] → where_laid p x other ≡ where_laid p y other
-either_way Short x y other e = refl
-either_way (Lists n) x y other e = e
-either_way (Halves h) x y other e = e
+pub either_way : (p : Option Plan) (x y other : List Float) → where_laid p x [] ≡ where_laid p y [] → where_laid p x other ≡ where_laid p y other
+either_way None x y other e = refl
+either_way (Some p) x y other e = e
 
 -- what `clear-unlaid` leaves of what `cut` left
-pub settled : (job : Job) (p : Plan) (w x y : List Float) → p ≡ plan job (length w) → length x ≡ length w
+pub settled : (job : Job) (p : Option Plan) (w x y : List Float) → p ≡ plan job (length w) → length x ≡ length w
     → where_laid p x [] ≡ where_laid p (all_cuts job ++ drop (cut_count job) w) [] → y ≡ where_laid p x (zeros (length x)) → y ≡ work_after job w
 unfolding work_after
 settled job p w x y e n s r =
     let after = all_cuts job ++ drop (cut_count job) w in
-    r ∙ either_way p x after (zeros (length x)) s ∙ ap₂ (λ (q : Plan) (k : ℕ). where_laid q after (zeros k)) e n
+    r ∙ either_way p x after (zeros (length x)) s ∙ ap₂ (λ (q : Option Plan) (k : ℕ). where_laid q after (zeros k)) e n

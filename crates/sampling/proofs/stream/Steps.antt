@@ -2,43 +2,45 @@
 use Rattle.std.specs.Prelude.{Some, None}
 use Prim.Native.Nat.{ℕ, suc, ◌+◌, ◌<◌}
 use native.Mathlib.Omega.{arith}
-use mathlib.Core.Path.{◌≡◌, sym, ◌∙◌}
-use mathlib.Core.Bool.{true, false, ◌&&◌}
+use mathlib.Core.Path.{◌≡◌, subst}
+use mathlib.Core.Bool.{true, false, not, ◌&&◌}
 use mathlib.Core.List.{List, ◌∷◌}
-use lib.ListN.{length}
-use lib.Ieee.{Float, ne}
+use lib.Dec.{T}
+use lib.ListN.{length, get_or}
+use lib.Ieee.{Float, nan, ne, is_nan}
 use Rattle.float.specs.Number.{total_le}
-use Rattle.float.specs.Laws.Tests.{ne_self}
-use Rattle.sampling.specs.Promises.Stream.{Step, least, advance, next_of}
+use Rattle.sampling.specs.Promises.Stream.{Step, weave, least, advance, next_of}
+use Rattle.sampling.proofs.Laws.Weave.{weave_length}
+use Rattle.sampling.proofs.Laws.Heads.{number_index}
 use Rattle.sampling.specs.declared.stream.Cursor.{Cursor}
 
 module _ (x y z : Float) (c : Cursor) where
   module _ (p : total_le x y ≡ true) (q : total_le x z ≡ true) where
-    pub first_none : ne x x ≡ true → ◌≡◌ {A = Step} None (least x y z c)
+    pub first_none : is_nan x ≡ true → ◌≡◌ {A = Step} None (least x y z c)
     unfolding least
-    first_none n = rw (p, q, sym (ne_self x) ∙ n)
+    first_none n = rw (p, q, n)
 
-    pub first_some : ne x x ≡ false → ◌≡◌ {A = Step} (Some (x, record { i = c.i + 1; j = c.j; used = c.used; last = c.last })) (least x y z c)
+    pub first_some : is_nan x ≡ false → ◌≡◌ {A = Step} (Some (x, record { i = c.i + 1; j = c.j; used = c.used; last = c.last })) (least x y z c)
     unfolding least
-    first_some n = rw (p, q, sym (ne_self x) ∙ n)
+    first_some n = rw (p, q, n)
 
   module _ (p : (total_le x y && total_le x z) ≡ false) where
-    pub second_none : total_le y z ≡ true → ne y y ≡ true → ◌≡◌ {A = Step} None (least x y z c)
+    pub second_none : total_le y z ≡ true → is_nan y ≡ true → ◌≡◌ {A = Step} None (least x y z c)
     unfolding least
-    second_none q n = rw (p, q, sym (ne_self y) ∙ n)
+    second_none q n = rw (p, q, n)
 
-    pub second_some : total_le y z ≡ true → ne y y ≡ false
+    pub second_some : total_le y z ≡ true → is_nan y ≡ false
         → ◌≡◌ {A = Step} (Some (y, record { i = c.i; j = c.j + 1; used = c.used; last = c.last })) (least x y z c)
     unfolding least
-    second_some q n = rw (p, q, sym (ne_self y) ∙ n)
+    second_some q n = rw (p, q, n)
 
-    pub third_none : total_le y z ≡ false → ne z z ≡ true → ◌≡◌ {A = Step} None (least x y z c)
+    pub third_none : total_le y z ≡ false → is_nan z ≡ true → ◌≡◌ {A = Step} None (least x y z c)
     unfolding least
-    third_none q n = rw (p, q, sym (ne_self z) ∙ n)
+    third_none q n = rw (p, q, n)
 
-    pub third_some : total_le y z ≡ false → ne z z ≡ false → ◌≡◌ {A = Step} (Some (z, record { i = c.i; j = c.j; used = true; last = c.last })) (least x y z c)
+    pub third_some : total_le y z ≡ false → is_nan z ≡ false → ◌≡◌ {A = Step} (Some (z, record { i = c.i; j = c.j; used = true; last = c.last })) (least x y z c)
     unfolding least
-    third_some q n = rw (p, q, sym (ne_self z) ∙ n)
+    third_some q n = rw (p, q, n)
 
 -- ---- a step of the loop
 
@@ -59,3 +61,9 @@ module _ (a b : List Float) (r last : Float) (k : ℕ) (c : Cursor) where
 -- each step takes one value
 pub step_less : (y : Float) (s t : List Float) → s ≡ y ∷ t → length t < length s
 step_less y s t e = rw e (omega arith)
+
+-- where the value at an index is a number, the index is within
+pub index_in : (l : List Float) (k : ℕ) (x : Float) → x ≡ get_or (weave l) k nan → is_nan x ≡ false → k < length l + length l
+index_in l k x e n =
+    let w = weave_length l in
+    let h = number_index (weave l) k (subst (λ (v : Float). T (not (is_nan v))) e (rw n tt)) in omega arith

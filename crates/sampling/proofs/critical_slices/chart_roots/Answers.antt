@@ -1,5 +1,5 @@
 -- `sampling::critical_slices::chart_roots` meets its contract: by what the root finder says of its answer.
-use Rattle.std.proofs.Common.{ℕ, ◌^◌, ◌≤◌, ap, sym, ◌∙◌, length, take}
+use Rattle.std.proofs.Common.{ap, sym, ◌∙◌, length, take}
 use lib.Pow.{pow_mono}
 use lib.Seq.{take_at}
 use Rattle.sampling.specs.CriticalSlices.{chart_roots}

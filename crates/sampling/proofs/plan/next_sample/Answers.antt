@@ -1,21 +1,12 @@
--- `sampling::plan::next_sample` meets its contract.
-use borrow.Author.Tests.{lt-ltb, le-ltb}
-use Prim.Native.Nat.{◌<◌}
-use native.Mathlib.Omega.{arith}
-use lib.ListN.{length}
-use Rattle.sampling.specs.Promises.Plan.{all_samples, sample_step}
+use Rattle.std.proofs.Common.{arith, sym, ◌∙◌}
+use Rattle.std.proofs.lemmas.Option.{slice_get_within}
+use Rattle.sampling.specs.Promises.Plan.{all_samples}
+use Rattle.sampling.proofs.Laws.Samples.{sample_count_most}
 use Rattle.sampling.proofs.Laws.Plan.{all_samples_length}
 use Rattle.sampling.proofs.plan.next_sample.Goals as goal
 
-pub returns-then-i-angle_count : goal.returns-then-i-angle_count
-unfolding sample_step
-returns-then-i-angle_count c = let a = c.args in
+pub overflow_add-to : goal.overflow_add-to
+overflow_add-to c = let a = c.args in
+    let h = slice_get_within (all_samples a.n a.work.now) a.c.i c.in_ok-y.y (sym c.angle_at.ensures ∙ c.in_ok-y.was) in
     let e = all_samples_length a.n a.work.now c.requires in
-    let h : a.c.i < length (all_samples a.n a.work.now) = omega (arith, e, c.angle_count.ensures, c.if-i-angle_count.true) in
-    rw (lt-ltb a.c.i (length (all_samples a.n a.work.now)) h, ← c.angle_at-y.ensures)
-
-pub returns : goal.returns
-unfolding sample_step
-returns c = let a = c.args in
-    let e = all_samples_length a.n a.work.now c.requires in
-    rw (le-ltb a.c.i (length (all_samples a.n a.work.now)) (omega (arith, e, c.angle_count.ensures, c.if-i-angle_count.false)))
+    omega (arith, h, e, c.requires, c.well_formed, sample_count_most a.n.first, sample_count_most a.n.second, sample_count_most a.n.third)

@@ -10,4 +10,4 @@ returns c = let a = c.args in
     let x = c.put_angles.ensures in
     let y = c.put_blank.ensures in
     rw (c.put_trailer.ensures, y, x)
-    (lay_sheet newest a.view.request.now a.output.now (to_come a.plan a.work.now start) a.n c.requires.request_len c.requires.n_value)
+    (lay_sheet newest a.view.request.now a.output.now (to_come a.planned.now.plan a.planned.now.work.now start) a.n c.requires.request_len c.requires.n_value)

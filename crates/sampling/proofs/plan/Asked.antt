@@ -1,0 +1,50 @@
+-- What a plan whose angles can be asked says of its lists, and what a step gives.
+use Rattle.std.specs.Prelude.{Some, None, Float}
+use Rattle.std.proofs.Props.{props}
+use mathlib.Core.Logic.{∥∥₁_elim}
+use mathlib.Core.Path.{◌≡◌, subst}
+use mathlib.Core.List.{List, [], ◌∷◌}
+use Prim.Native.Nat.{◌+◌, ◌*◌, ◌≤◌}
+use Rattle.std.proofs.Common.{arith, take, drop, length-drop, length-take-le}
+use lib.ListN.{length}
+use Rattle.sampling.specs.Promises.Stream.{Step, start}
+use Rattle.sampling.specs.Promises.Plan.{to_come, Ready, Gives, step}
+use Rattle.sampling.proofs.Laws.Plan.{all_samples_length, step_gives}
+use Rattle.sampling.proofs.Laws.Slices.{distinct_few}
+use Rattle.sampling.specs.Samples.{sample_count}
+use Rattle.sampling.specs.declared.lists.Lists.{Lists}
+use Rattle.sampling.specs.declared.lists.Halves.{Halves}
+use Rattle.sampling.specs.declared.lists.Plan.{Plan}
+use Rattle.sampling.specs.declared.lists.Plan.TheVariants as of
+use Rattle.sampling.specs.declared.stream.Cursor.{Cursor}
+
+module _ (p : Plan) (w : List Float) (r : ∥ Ready p w ∥₁) where
+  pub lists_room : (n : Lists) → p ≡ of.Lists n → n.first + n.second + n.third ≤ length w
+  lists_room n e = ∥∥₁_elim r (Prim.hlevel props) (λ h. subst (λ (q : Plan). Ready q w) e h)
+
+  pub halves_room : (h : Halves) → p ≡ of.Halves h → h.first + h.second ≤ length w
+  halves_room h e = ∥∥₁_elim r (Prim.hlevel props) (λ g. (subst (λ (q : Plan). Ready q w) e g).room)
+
+  -- how many angles: of lists, and of halves at most
+  pub lists_count : (n : Lists) → p ≡ of.Lists n → length (to_come p w start) ≡ sample_count n.first + sample_count n.second + sample_count n.third
+  lists_count n e = rw e (all_samples_length n w (lists_room n e))
+
+  pub halves_few : (h : Halves) → p ≡ of.Halves h → length (to_come p w start) ≤ 2 * length w + 1
+  halves_few h e =
+      let a = take h.first w in
+      let b = take h.second (drop h.first w) in
+      let f = distinct_few a b h.reference in
+      let room = halves_room h e in
+      let m = length-take-le h.first w (omega arith) in
+      let k = length-take-le h.second (drop h.first w) (omega (arith, length-drop h.first w)) in
+      rw e (omega (arith, f, m, k))
+
+  module _ (c : Cursor) where
+    gives : (s : Step) → step p w c ≡ s → ∥ Gives (to_come p w c) (to_come p w) s ∥₁
+    gives s e = ∥∥₁_elim r (Prim.hlevel props) (λ g. ∣ subst (Gives (to_come p w c) (to_come p w)) e (step_gives p w c g) ∣₁)
+
+    pub step_yields : (y : Float) (d : Cursor) → step p w c ≡ Some (y, d) → to_come p w c ≡ y ∷ to_come p w d
+    step_yields y d e = ∥∥₁_elim (gives (Some (y, d)) e) (Prim.hlevel props) (λ g. g)
+
+    pub step_done : step p w c ≡ None → to_come p w c ≡ []
+    step_done e = ∥∥₁_elim (gives None e) (Prim.hlevel props) (λ g. g)
