@@ -9,29 +9,29 @@ use Rattle.sheet.specs.Edition.{newest}
 use Rattle.sheet.specs.Laws.Check.{answer_short, answer_unknown, answer_known, left_short, left_unknown, left_known}
 use Rattle.sheet.proofs.check.inspect.Goals as goal
 
-pub returns-then-sheet-lt-LEAST : goal.returns-then-sheet-lt-LEAST
-returns-then-sheet-lt-LEAST c =
+pub returns-then-bytes-lt-LEAST : goal.returns-then-bytes-lt-LEAST
+returns-then-bytes-lt-LEAST c =
     let a = c.args in
     record {
-      result_value = answer_short newest a.sheet.now (length a.work.now) c.if-sheet-lt-LEAST.true;
-      work_after = left_short a.sheet.now a.work.now c.if-sheet-lt-LEAST.true;
+      result_value = answer_short newest a.bytes.now (length a.work.now) c.if-bytes-lt-LEAST.true;
+      work_after = left_short a.bytes.now a.work.now c.if-bytes-lt-LEAST.true;
     }
 
 pub returns-in_err-e : goal.returns-in_err-e
 returns-in_err-e c = let a = c.args in
     let p = err_from_is_err_and c.from_residual.result c.from_residual.ensures.1 in
-    let n : c.edition_of.result ≡ None = grind arith in
-    let k = sym c.edition_of.ensures ∙ n in
-    let h = c.if-sheet-lt-LEAST.false in
+    let n : c.edition.result ≡ None = grind arith in
+    let k = sym c.edition.ensures ∙ n in
+    let h = c.if-bytes-lt-LEAST.false in
     let f : c.in_err-e.field-0.0 ≡ Trailer = grind arith in
-    rw (p.1, p.2, f) (record { result_value = answer_unknown newest a.sheet.now (length a.work.now) h k; work_after = left_unknown a.sheet.now a.work.now h k })
+    rw (p.1, p.2, f) (record { result_value = answer_unknown newest a.bytes.now (length a.work.now) h k; work_after = left_unknown a.bytes.now a.work.now h k })
 
 pub returns : goal.returns
 returns c = let a = c.args in
-    let n : c.edition_of.result ≡ Some c.in_ok-e.e = grind arith in
-    let k = sym c.edition_of.ensures ∙ n in
-    let h = c.if-sheet-lt-LEAST.false in
+    let n : c.edition.result ≡ Some c.in_ok-e.e = grind arith in
+    let k = sym c.edition.ensures ∙ n in
+    let h = c.if-bytes-lt-LEAST.false in
     record {
-      result_value = c.inspect_edition.ensures.result_value ∙ answer_known newest a.sheet.now (length a.work.now) h _ k;
-      work_after = c.inspect_edition.ensures.work_after ∙ left_known a.sheet.now a.work.now _ h k;
+      result_value = c.inspect_edition.ensures.result_value ∙ answer_known newest a.bytes.now (length a.work.now) h _ k;
+      work_after = c.inspect_edition.ensures.work_after ∙ left_known a.bytes.now a.work.now _ h k;
     }

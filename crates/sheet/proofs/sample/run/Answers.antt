@@ -40,19 +40,19 @@ returns-in_err-plan-clause-result_value c = let a = c.args in
     let places : leb (cut_count a.request.now) (length a.work.now) ≡ false = rw p.auto.work at h in
     rw (k.1, k.2, r) (rw places at (passed_answer a.request.now (length a.work.now) (length a.output.now) g))
 
-pub invariant_of-finish : goal.invariant_of-finish
-invariant_of-finish c = let a = c.args in
+pub invariant_of-planned : goal.invariant_of-planned
+invariant_of-planned c = let a = c.args in
     let g = tested_passed newest _ _ (sym c.validate.ensures ∙ c.in_ok-q.was) in
     let p = c.plan_request in
     let s : p.result ≡ Some c.in_ok-plan.plan = grind arith in
     record { ready = ∣ plan_asked _ g p.result a.work.now p.new.work p.ensures.value p.ensures.work_after p.auto.work _ s ∣₁ }
 
-pub finish-requires : goal.finish-requires
-finish-requires c = let a = c.args in
+pub invariant_of-finish : goal.invariant_of-finish
+invariant_of-finish c = let a = c.args in
     let g = tested_passed newest _ _ (sym c.validate.ensures ∙ c.in_ok-q.was) in
     let p = c.plan_request in
     let s : p.result ≡ Some c.in_ok-plan.plan = grind arith in
-    record { request_len = g.whole; planned_for = planned_for _ g p.result a.work.now p.new.work p.ensures.value p.ensures.work_after p.auto.work _ s }
+    record { newest = g.whole; own = planned_for _ g p.result a.work.now p.new.work p.ensures.value p.ensures.work_after p.auto.work _ s }
 
 pub returns-clause-result_value : goal.returns-clause-result_value
 returns-clause-result_value c = let a = c.args in

@@ -1,4 +1,4 @@
--- `sheet::check::inspect_edition` meets its contract: at each return, what the calls and the tests on the way to it say.
+-- `sheet::check::Sheet::inspect_edition` meets its contract: at each return, what the calls and the tests on the way to it say.
 use Prim.Native.Nat.{ℕ, ◌-◌}
 use native.Mathlib.Omega.{arith}
 use mathlib.Core.List.{List}
@@ -8,23 +8,23 @@ use borrow.Author.Tests.{not-true, not-false}
 use Rattle.sheet.specs.Check.{items_of, request_of}
 use Rattle.sheet.specs.Promises.Plan.{work_left, checked}
 use Rattle.sheet.specs.Laws.Check.{edition_unformed, edition_formed, left_unformed, left_formed, formed_length, request_is}
-use Rattle.sheet.proofs.check.inspect_edition.Goals as goal
+use Rattle.sheet.proofs.check.Sheet.inspect_edition.Goals as goal
 
 pub returns-then-not-formed : goal.returns-then-not-formed
 returns-then-not-formed c = let a = c.args in
     let f = sym c.formed.ensures ∙ not-true _ c.if-not-formed.true-raw in
-    record { result_value = edition_unformed a.e a.sheet.now (length a.work.now) f; work_after = left_unformed a.sheet.now a.work.now a.e f }
+    record { result_value = edition_unformed a.e a.self.bytes.now (length a.work.now) f; work_after = left_unformed a.self.bytes.now a.work.now a.e f }
 
 pub overflow_sub-at : goal.overflow_sub-at
 overflow_sub-at c = let a = c.args in
     let f = sym c.formed.ensures ∙ not-false _ c.if-not-formed.false-raw in
-    omega (arith, formed_length a.e a.sheet.now f, c.frame_size.ensures.value)
+    omega (arith, formed_length a.e a.self.bytes.now f, c.frame_size.ensures.value)
 
 pub returns : goal.returns
 returns c = let a = c.args in
-    let s = a.sheet.now in
+    let s = a.self.bytes.now in
     let p = length a.work.now in
-    let n = c.count_of-n in
+    let n = c.count in
     let f = sym c.formed.ensures ∙ not-false _ c.if-not-formed.false-raw in
     let k = c.frame_size.ensures.value in
     let i = request_is a.e s _ _ (omega (arith, formed_length a.e s f)) (ap (λ (m : ℕ). length s - m) k) refl in
