@@ -102,19 +102,10 @@ pub(crate) fn next(a: &[f64], b: &[f64], r: f64, c: Cursor) -> Step
     let last = c.last;
     let mut at = c;
     loop {
-        let s = advance(a, b, r, at);
-        match s {
-            None => {
-                return None;
-            }
-            Some((y, d)) => {
-                if y != last {
-                    let mut to = d;
-                    to.last = y;
-                    return Some((y, to));
-                }
-                at = d;
-            }
+        let (y, d) = advance(a, b, r, at)?;
+        if y != last {
+            return Some((y, Cursor { last: y, ..d }));
         }
+        at = d;
     }
 }

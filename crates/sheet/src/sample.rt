@@ -82,7 +82,8 @@ fn has_room(n: usize, room: usize) -> bool
 
 // 11, and else the sheet.
 fn finish(output: &mut [u8], draft: &Draft) -> Result<usize, Refusal>
-    ensures result_value { Sampling.answer_of result ≡ Promise.planned_answer draft.now.view.request.now (length draft.now.planned.work.now) (length output.old) }
+    ensures result_value { Sampling.answer_of result ≡
+        Promise.planned_answer draft.now.view.request.now (length draft.now.planned.work.now) (length output.old) }
     ensures output_after { output.new ≡ Sampling.output_after (Sampling.answer_of result) draft.now.view.request.now output.old }
 {
     let n = draft.planned.count();

@@ -183,7 +183,8 @@ unfolding plan work_after
 laid_of job w p e = go (leb (cut_count job) (length w)) e
   where
     go : (t : Bool) → cond t (Some (laid job)) None ≡ Some p
-        → (p ≡ laid job) × (where_laid (cond t (Some (laid job)) None) (all_cuts job ++ drop (cut_count job) w) (zeros (length w)) ≡ all_cuts job ++ drop (cut_count job) w)
+        → (p ≡ laid job)
+        × (where_laid (cond t (Some (laid job)) None) (all_cuts job ++ drop (cut_count job) w) (zeros (length w)) ≡ all_cuts job ++ drop (cut_count job) w)
     go false e = absurd (none-some p e)
     go true e = (same_plan e, refl)
 

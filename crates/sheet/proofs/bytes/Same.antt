@@ -59,7 +59,8 @@ same_comm a b = go (same_bytes a b) refl (same_bytes b a) refl
     go false e true f = ap (λ (l : List ℕ). same_bytes l b) (sym (same_is b a f)) ∙ ap (same_bytes b) (same_is b a f)
 
 -- the end of bytes, as `ends_with` compares it
-pub same_end : (s b : List ℕ) → length b ≡ 16 → 16 ≤ length s → pointwise eqb b (drop (length s - length b) s) ≡ same_bytes (part (length s - 16) (length b) s) b
+pub same_end : (s b : List ℕ) → length b ≡ 16 → 16 ≤ length s
+    → pointwise eqb b (drop (length s - length b) s) ≡ same_bytes (part (length s - 16) (length b) s) b
 same_end s b e h =
     let l : length (drop (length s - 16) s) ≤ 16 = omega (arith, length-drop (length s - 16) s) in
     same_pointwise b (drop (length s - length b) s) ∙ same_comm b (drop (length s - length b) s) ∙ rw (e, take_all 16 (drop (length s - 16) s) l)

@@ -95,7 +95,9 @@ module _ {e : Edition} (r : List ℕ) (g : Passed e r) where
   module _ (s : Option Plan) (v w : List Float) (a : s ≡ plan (job_of r) (length v)) (b : w ≡ work_after (job_of r) v) (l : length w ≡ length v) where
     fits_by : (t : Bool) → by_plan s false true ≡ t → leb (cut_count r) (length w) ≡ t
     unfolding cut_count
-    fits_by t e = go (leb (Angles.cut_count (job_of r)) (length w)) (rw l (sym (plan_by false true (job_of r) (length v)) ∙ ap (λ (o : Option Plan). by_plan o false true) (sym a) ∙ e))
+    fits_by t e =
+        go (leb (Angles.cut_count (job_of r)) (length w))
+        (rw l (sym (plan_by false true (job_of r) (length v)) ∙ ap (λ (o : Option Plan). by_plan o false true) (sym a) ∙ e))
       where
         go : (u : Bool) → cond u true false ≡ t → u ≡ t
         go true h = h

@@ -29,4 +29,5 @@ returns c = let a = c.args in
     floats_end l.output (24 * l.i) (all_between (drop l.i a.list.now))
     (no_pair (drop l.i a.list.now) (omega (arith, length-drop l.i a.list.now, c.loop-i-test.false, c.saturating_sub-i-end.ensures)))
     ∙ l.invariant.2
-    ∙ sets_all a.output.now (floats_bytes (all_between a.list.now)) (omega (arith, length_floats_bytes (all_between a.list.now), length_all_between a.list.now, c.requires))
+    ∙ sets_all a.output.now (floats_bytes (all_between a.list.now))
+    (omega (arith, length_floats_bytes (all_between a.list.now), length_all_between a.list.now, c.requires))

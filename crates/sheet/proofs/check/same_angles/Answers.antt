@@ -13,7 +13,8 @@ returns-then-from_le_bytes-bits c = let l = c.loop-y in
     let p = c.in-Some-split_first_chunk in
     let h : 8 ≤ length l.left.now = omega (arith, p.ensures.cases.2) in
     let n = c.from_le_bytes.ensures ∙ number_part 7 l.left.now 0 p.bytes.now h p.ensures.cases.0 in
-    float_stop l.left.now c.in-Some.y _ _ c.in-Some.ensures.steps h l.invariant.2 (omega (arith, c.bits.ensures, c.bits.type_inv)) _ n (λ q. c.if-from_le_bytes-bits.true (q ∙ sym c.bits.ensures))
+    float_stop l.left.now c.in-Some.y _ _ c.in-Some.ensures.steps h l.invariant.2
+    (omega (arith, c.bits.ensures, c.bits.type_inv)) _ n (λ q. c.if-from_le_bytes-bits.true (q ∙ sym c.bits.ensures))
     ∙ l.invariant.3
 
 pub loop-y-preserved : goal.loop-y-preserved
@@ -25,7 +26,8 @@ loop-y-preserved c = let l = c.loop-y in
       tt,
       rw p.ensures.cases.1 (drop_bytes l.left.now l.invariant.2),
       rw p.ensures.cases.1
-          (float_step l.left.now c.in-Some.y _ _ c.in-Some.ensures.steps h l.invariant.2 (omega (arith, c.bits.ensures, c.bits.type_inv)) _ n (c.if-from_le_bytes-bits.false ∙ c.bits.ensures)
+          (float_step l.left.now c.in-Some.y _ _ c.in-Some.ensures.steps h l.invariant.2
+      (omega (arith, c.bits.ensures, c.bits.type_inv)) _ n (c.if-from_le_bytes-bits.false ∙ c.bits.ensures)
           ∙ l.invariant.3),
     )
 

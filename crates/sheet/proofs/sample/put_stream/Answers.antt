@@ -35,4 +35,5 @@ pub returns : goal.returns
 returns c = let l = c.loop-i in
     let p = c.args.planned.now in
     floats_end l.output (8 * l.i-iterator.count) _ c.in-None.ensures.steps.0.0 ∙ l.invariant.4
-    ∙ sets_all c.args.output.now (floats_bytes (to_come p.plan p.work.now start)) (omega (arith, length_floats_bytes (to_come p.plan p.work.now start), c.requires))
+    ∙ sets_all c.args.output.now (floats_bytes (to_come p.plan p.work.now start))
+    (omega (arith, length_floats_bytes (to_come p.plan p.work.now start), c.requires))
