@@ -5,7 +5,8 @@ ghost use Rattle.sheet.specs.Promises.Floats as Floats;
 
 use float::number::{bits, of_bits};
 
-// The N bytes from `at` on.
+// The N bytes from `at` on. The place is a number here and in the next two, since a caller who cut the
+// bytes out would do so under the same clause.
 pub(crate) fn bytes_at<const N: usize>(s: &[u8], at: usize) -> [u8; N]
     requires { at + N ≤ length s.now }
     ensures { result ≡ Bytes.part at N s.now }

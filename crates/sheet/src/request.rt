@@ -67,7 +67,8 @@ pub(crate) fn request_size(e: Edition) -> usize
     }
 }
 
-// The shape of the three bytes, if each is right.
+// The shape of the three bytes, if each is right. An Option and no `TryFrom`, since what is read is asked
+// of an Option too.
 #[tactic(auto, unfolding(crate::specs::Request::shape_from, crate::specs::Request::shape_fixed, crate::specs::Request::shape_by))]
 pub(crate) fn shape_from(kind: u8, limits: u8, fixed: u8) -> Option<Shape>
     ensures { result ≡ Request.shape_from kind limits fixed }
