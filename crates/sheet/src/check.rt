@@ -93,6 +93,7 @@ impl Sheet<'_> {
 
     // 32: the length is that of as many angles as the trailer says, their bytes are a u32, and the
     // trailer is theirs.
+    #[tactic(auto, using(crate::proofs::check::Refused::trailer))]
     fn formed(self, e: Edition) -> bool
         ensures { result ≡ Check.formed e self.entry.bytes.now }
     {
@@ -107,6 +108,7 @@ impl Sheet<'_> {
     }
 
     // 32 to 36 of a sheet that says this edition.
+    #[tactic(auto, using(crate::proofs::check::Refused::formed))]
     fn inspect_edition(self, e: Edition, work: &mut [f64]) -> Result<usize, Fault>
         ensures result_value { Check.answer_of result ≡ Check.by_edition e self.entry.bytes.now (length work.old) }
         ensures work_after { work.new ≡ Promise.work_by e self.entry.bytes.now work.old }
@@ -127,6 +129,7 @@ impl Sheet<'_> {
 }
 
 // 31, and then by the edition that the trailer says; one that is not known is 32.
+#[tactic(auto, using(crate::proofs::check::Refused::edition))]
 fn inspect(bytes: &[u8], work: &mut [f64]) -> Result<usize, Fault>
     ensures result_value { Check.answer_of result ≡ Check.answer newest bytes.now (length work.old) }
     ensures work_after { work.new ≡ Promise.work_checked bytes.now work.old }

@@ -212,6 +212,7 @@ pub(crate) fn put_blank(out: &mut [u8], view: View)
 }
 
 // Whether every unread field is zero: the request is its own blank.
+#[tactic(auto, using(crate::proofs::request::Steps::comparing))]
 pub(crate) fn unread_zero(view: View) -> bool
     ensures { result ≡ Bytes.same_bytes (Request.blank view.entry.request.now) view.entry.request.now }
 {

@@ -55,6 +55,7 @@ struct Draft<'a, 'b> {
 }
 
 // The sheet: the n angles, the blanked request, the trailer.
+#[tactic(auto, using(crate::specs::Laws::Plan::found_items, crate::specs::Laws::Plan::found_count), unfolding(crate::specs::Sampling::sheet))]
 fn fill(output: &mut [u8], draft: &Draft, n: usize)
     requires n_value { n ≡ length (to_come draft.now.planned.plan draft.now.planned.work.now start) }
     requires size { length output.old ≡ Sheet.sheet_size newest n }
@@ -81,6 +82,7 @@ fn has_room(n: usize, room: usize) -> bool
 }
 
 // 11, and else the sheet.
+#[tactic(auto, using(crate::specs::Laws::Plan::fits_yes, crate::specs::Laws::Plan::found_count), unfolding(crate::specs::Promises::Plan::planned_answer, crate::specs::Refusals::need))]
 fn finish(output: &mut [u8], draft: &Draft) -> Result<usize, Refusal>
     ensures result_value { Sampling.answer_of result ≡
         Promise.planned_answer draft.now.view.request.now (length draft.now.planned.work.now) (length output.old) }

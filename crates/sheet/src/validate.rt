@@ -38,6 +38,7 @@ fn is_character(b: u8) -> bool
 }
 
 // Whether a name is characters, then zeros to the end.
+#[tactic(auto, using(crate::proofs::validate::Names::reading))]
 fn is_name(name: &[u8]) -> bool
     ensures { result ≡ Validate.is_name name.now }
 {

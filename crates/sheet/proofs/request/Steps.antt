@@ -57,6 +57,9 @@ module _ (s : Option Shape) (r : List ℕ) (i : ℕ) (l : i < length r) where
 pub blank_end : (s : Option Shape) (r : List ℕ) (i : ℕ) → length r ≤ i → true ≡ same_bytes (blank_from s i (drop i r)) (drop i r)
 blank_end s r i h = rw (drop_of_length-le r h, blank_nil) same_nil
 
+-- what `unread_zero` goes by
+pub ruleset comparing = (blank_step, blank_stop, blank_end, kept_read, kept_zero, kept_not)
+
 -- ---- a field's bytes are read together
 
 test : (i t : ℕ) → t % 8 ≡ 0 → 0 < (i + 1) % 8 → ltb (i + 1) t ≡ ltb i t

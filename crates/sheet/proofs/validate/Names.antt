@@ -56,3 +56,6 @@ module _ (r : List ℕ) (i : ℕ) (h : i < length r) where
 pub name_end : (r : List ℕ) (i : ℕ) → length r ≤ i → true ≡ is_name (drop i r)
 unfolding is_name
 name_end r i h = rw (drop_of_length-le r h)
+
+-- what `is_name` goes by
+pub ruleset reading = (name_step, name_stop, name_end, take_all_drop)
