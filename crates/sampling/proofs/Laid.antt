@@ -87,3 +87,6 @@ module _ (a b c : List Float) where
   laid_three w r m h =
       let e : m ≡ count = omega (arith, h.count, length-append (a ++ b) c, length-append a b) in
       h.list ∙ ap (λ (n : ℕ). ((a ++ b) ++ c) ++ drop n w) e
+
+-- what `cut_intervals` goes by
+pub ruleset intervals = (kept_full, no_place_behind, laid_first, laid_next, short_first, short_second, short_third, all_three, laid_three)

@@ -34,6 +34,7 @@ impl<'a> Planned<'a> {
     }
 
     // The angle at a cursor, and the cursor behind it.
+    #[tactic(auto, using(crate::proofs::plan::Asked::lists_room, crate::proofs::plan::Asked::halves_room))]
     fn step(self, c: Cursor) -> Step
         ensures { result ≡ Of.step self.entry.plan self.entry.work.now c }
     {
@@ -44,6 +45,7 @@ impl<'a> Planned<'a> {
     }
 
     // How many angles there are.
+    #[tactic(auto, using(crate::proofs::plan::Asked::lists_count, crate::proofs::plan::Asked::halves_few))]
     pub fn count(self) -> usize
         ensures { result ≡ length (to_come self.entry.plan self.entry.work.now start) }
     {
@@ -54,7 +56,7 @@ impl<'a> Planned<'a> {
     }
 }
 
-#[tactic(auto, unfolding(crate::specs::Promises::Plan::sample_step))]
+#[tactic(auto, using(crate::proofs::plan::Asked::sample_below), unfolding(crate::specs::Promises::Plan::sample_step))]
 fn next_sample(work: &[f64], n: Lists, c: Cursor) -> Step
     requires { n.first + n.second + n.third ≤ length work.now }
     ensures { result ≡ Of.sample_step n work.now c }
@@ -88,6 +90,7 @@ impl Iterator for Angles<'_> {
 
     ghost remaining = { item_count (λ s. to_come s.planned.plan s.planned.work.now s.cursor) };
 
+    #[tactic(auto, using(crate::proofs::plan::Asked::step_yields, crate::proofs::plan::Asked::step_done))]
     fn next(&mut self) -> Option<f64> {
         let (y, cursor) = self.planned.step(self.cursor)?;
         self.cursor = cursor;

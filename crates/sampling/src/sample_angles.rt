@@ -81,6 +81,7 @@ pub(crate) fn free_of(axes: Axes, job: Job, j: Joint) -> Free
 }
 
 // The cuts of three intervals, one list after the other in the front of work.
+#[tactic(auto, using(crate::proofs::Laid::intervals), unfolding(crate::specs::Samples::interval_cuts))]
 fn cut_intervals(work: &mut [f64], near: f64, three: Intervals, roots: &[f64]) -> Option<Plan>
     ensures { ListsLaid (interval_cuts near roots.now three.first)
         (interval_cuts near roots.now three.second)
@@ -100,6 +101,7 @@ fn cut_intervals(work: &mut [f64], near: f64, three: Intervals, roots: &[f64]) -
 }
 
 // The cuts of a free joint, in the front of work.
+#[tactic(auto, using(crate::proofs::Laid::all_three), unfolding(crate::specs::SampleAngles::cut_count, crate::specs::SampleAngles::first_cuts, crate::specs::SampleAngles::second_cuts, crate::specs::SampleAngles::third_cuts, crate::specs::Promises::Plan::free_plan, crate::specs::Promises::Plan::free_cuts, crate::specs::SampleAngles::intervals))]
 pub(crate) fn cut(work: &mut [f64], f: &Free) -> Option<Plan>
     ensures value { result ≡ granted (Of.cut_count f.now) (free_plan f.now) (length work.old) }
     ensures work_after { where_laid result work.new [] ≡

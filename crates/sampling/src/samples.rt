@@ -140,6 +140,7 @@ pub fn between(lower: f64, upper: f64) -> [f64; 3]
 }
 
 // The i-th sample of the cuts in a list; behind the last there is none.
+#[tactic(auto, using(crate::proofs::Laws::Samples::sample_cut, crate::proofs::Laws::Samples::sample_between, crate::proofs::Laws::Samples::sample_none))]
 pub(crate) fn sample_at(list: &[f64], i: usize) -> Option<f64>
     ensures { result ≡ slice_get (Of.samples list.now) i }
 {

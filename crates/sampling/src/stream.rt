@@ -18,6 +18,7 @@ fn none_left() -> f64
 }
 
 // The k-th of a list's cuts and middles alternately, or a NaN.
+#[tactic(auto, using(crate::proofs::stream::Steps::weaving))]
 fn woven(list: &[f64], k: usize) -> f64
     ensures { result ≡ get_or (weave list.now) k nan }
 {
@@ -96,6 +97,7 @@ fn advance(a: &[f64], b: &[f64], r: f64, c: Cursor) -> Step
 }
 
 // The next value that does not equal the last one.
+#[tactic(auto, using(crate::proofs::stream::Steps::skipping), unfolding(crate::specs::Promises::Stream::next))]
 pub(crate) fn next(a: &[f64], b: &[f64], r: f64, c: Cursor) -> Step
     ensures { result ≡ Of.next a.now b.now r c }
 {

@@ -1,5 +1,5 @@
 -- Laws of a free joint's samples: angles and roots one by one, and which sample stands at which position.
-use Rattle.std.specs.Prelude.{Some, None, slice_get, ℕ, zero, suc, ◌+◌, ◌-◌, ◌*◌, ◌<◌, ◌≤◌, ◌≡◌, refl, List, [], ◌∷◌, ◌++◌, take, Float}
+use Rattle.std.specs.Prelude.{Some, None, slice_get, ℕ, zero, suc, ◌+◌, ◌-◌, ◌*◌, ◌/◌, ◌%◌, ◌<◌, ◌≤◌, ◌≡◌, refl, List, [], ◌∷◌, ◌++◌, take, Float}
 use Rattle.std.proofs.Common.{add-one, arith, sym, ◌∙◌, append_assoc, append-nil, take-suc}
 use Rattle.std.proofs.Math.Path.{ap}
 use Rattle.std.proofs.Math.ListN.{length, drop, drop_of_length-le, get_or, length-append, get_or-append}
@@ -107,6 +107,10 @@ pub sample_behind : (l : List Float) (i k j : ℕ) → i ≡ length l + (3 * k +
 sample_behind l i k j e h =
     let q : length (all_between l) ≤ 3 * k + j = omega (arith, between_length l, h) in
     behind_cuts l i (3 * k + j) e ∙ slice_get_past (all_between l) (3 * k + j) q
+
+-- the same of the position alone
+pub sample_none : (l : List Float) (i : ℕ) → length l ≤ i → length l ≤ (i - length l) / 3 + 1 → slice_get (samples l) i ≡ None
+sample_none l i h k = let m = i - length l in sample_behind l i (m / 3) (m % 3) (omega (arith, h)) k
 
 -- ---- how many
 

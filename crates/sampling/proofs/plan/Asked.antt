@@ -1,22 +1,37 @@
 -- What a plan whose angles can be asked says of its lists, and what a step gives.
-use Rattle.std.specs.Prelude.{Some, None, Float}
+use Rattle.std.specs.Prelude.{Some, None, Float, slice_get}
 use Rattle.std.proofs.Props.{props}
 use mathlib.Core.Logic.{∥∥₁_elim}
 use mathlib.Core.Path.{◌≡◌, subst}
 use mathlib.Core.List.{List, [], ◌∷◌}
-use Prim.Native.Nat.{◌+◌, ◌*◌, ◌≤◌}
+use Prim.Native.Nat.{ℕ, ◌+◌, ◌*◌, ◌<◌, ◌≤◌}
 use Rattle.std.proofs.Common.{arith, take, drop, length-drop, length-take-le}
 use lib.ListN.{length}
 use Rattle.sampling.specs.Promises.Stream.{Step, start}
-use Rattle.sampling.specs.Promises.Plan.{to_come, Ready, Gives, step}
+use Rattle.sampling.specs.Promises.Plan.{to_come, Ready, Gives, step, all_samples}
 use Rattle.sampling.proofs.Laws.Plan.{all_samples_length, step_gives}
 use Rattle.sampling.proofs.Laws.Slices.{distinct_few}
+use Rattle.sampling.proofs.Laws.Samples.{sample_count_most}
+use Rattle.std.proofs.lemmas.Option.{slice_get_within}
 use Rattle.sampling.specs.Samples.{sample_count}
 use Rattle.sampling.specs.declared.lists.Lists.{Lists}
 use Rattle.sampling.specs.declared.lists.Halves.{Halves}
 use Rattle.sampling.specs.declared.lists.Plan.{Plan}
 use Rattle.sampling.specs.declared.lists.Plan.TheVariants as of
 use Rattle.sampling.specs.declared.stream.Cursor.{Cursor}
+
+-- a sample that there is stands below four times the places
+pub sample_below : (n : Lists) (w : List Float) (i : ℕ) (y : Float) → n.first + n.second + n.third ≤ length w → slice_get (all_samples n w) i ≡ Some y
+    → i < 4 * length w
+sample_below n w i y h e =
+    omega (
+      arith,
+      slice_get_within (all_samples n w) i y e,
+      all_samples_length n w h,
+      sample_count_most n.first,
+      sample_count_most n.second,
+      sample_count_most n.third,
+    )
 
 module _ (p : Plan) (w : List Float) (r : ∥ Ready p w ∥₁) where
   pub lists_room : (n : Lists) → p ≡ of.Lists n → n.first + n.second + n.third ≤ length w
