@@ -30,6 +30,7 @@ fn put_between(output: &mut [u8], list: &[f64])
 }
 
 // The samples of the cuts in a list.
+#[tactic(auto, using(crate::proofs::angles::Runs::samples_bytes))]
 fn put_samples(output: &mut [u8], list: &[f64])
     requires { length output.old ≡ 8 * Samples.sample_count (length list.now) }
     ensures { output.new ≡ Floats.floats_bytes (Samples.samples list.now) }
@@ -40,6 +41,7 @@ fn put_samples(output: &mut [u8], list: &[f64])
 }
 
 // The samples of three lists of cuts that stand one after the other in work.
+#[tactic(auto, using(crate::proofs::angles::Runs::lists_bytes, sampling::proofs::Laws::Plan::all_samples_length))]
 pub(crate) fn put_lists(output: &mut [u8], work: &[f64], n: Lists)
     requires in_work { n.first + n.second + n.third ≤ length work.now }
     requires size { length output.old ≡ 8 * length (all_samples n work.now) }

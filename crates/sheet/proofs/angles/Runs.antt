@@ -1,9 +1,8 @@
 -- Floats one after the other, and the samples of a list of cuts: what the functions that write them need.
 use Rattle.std.proofs.Common.{ℕ, suc, ◌+◌, ◌-◌, ◌*◌, ◌<◌, ◌≤◌, ◌≡◌, refl, sym, ap, ◌∙◌, arith, List, [], ◌∷◌, ◌++◌, append_assoc, length, get_or, take, drop}
-use Rattle.std.proofs.Common.{drop-cons, length-take-le}
+use Rattle.std.proofs.Common.{drop-cons}
 use lib.Ieee.{Float, nan, to_bits, binary64}
-use Rattle.sampling.specs.Samples.{between, all_between, samples, sample_count}
-use Rattle.sampling.proofs.Laws.Samples.{samples_length}
+use Rattle.sampling.specs.Samples.{between, all_between, samples, three_samples}
 use Rattle.sheet.specs.Promises.Floats.{float_bytes, floats_bytes}
 use Rattle.sheet.specs.Laws.Bytes.{length_bytes, floats_bytes_cons, floats_bytes_nil}
 
@@ -53,6 +52,23 @@ no_pair [] h = refl
 no_pair (a ∷ []) h = refl
 no_pair (a ∷ (b ∷ l)) h = absurd (omega arith)
 
--- a part's samples
-pub length_samples : (k : ℕ) (w : List Float) → k ≤ length w → length (samples (take k w)) ≡ sample_count k
-length_samples k w h = samples_length (take k w) ∙ ap sample_count (length-take-le k w h)
+-- the bytes of a list's samples, and of three lists' that stand one after the other
+pub samples_bytes : (l : List Float) → floats_bytes (samples l) ≡ floats_bytes l ++ floats_bytes (all_between l)
+unfolding samples
+samples_bytes l = floats_append l (all_between l)
+
+module _ (w : List Float) (f g h : ℕ) where
+  pub lists_bytes : floats_bytes (three_samples (take f w) (take g (drop f w)) (take h (drop (f + g) w)))
+      ≡ floats_bytes (samples (take f w))
+      ++ (floats_bytes (samples (take (f + g - f) (drop f w))) ++ floats_bytes (samples (take (f + g + h - (f + g)) (drop (f + g) w))))
+  unfolding three_samples
+  lists_bytes =
+      let y : f + g - f ≡ g = omega arith in
+      let z : f + g + h - (f + g) ≡ h = omega arith in
+      rw (
+        y,
+        z,
+        floats_append (samples (take f w) ++ samples (take g (drop f w))) (samples (take h (drop (f + g) w))),
+        floats_append (samples (take f w)) (samples (take g (drop f w))),
+        append_assoc,
+      )

@@ -27,7 +27,7 @@ loop-y-preserved c = let l = c.loop-y in
       rw p.ensures.cases.1 (drop_bytes l.left.now l.invariant.2),
       rw p.ensures.cases.1
           (float_step l.left.now c.in-Some.y _ _ c.in-Some.ensures.steps h l.invariant.2
-      (omega (arith, c.bits.ensures, c.bits.type_inv)) _ n (c.if-from_le_bytes-bits.false ∙ c.bits.ensures)
+          (omega (arith, c.bits.ensures, c.bits.type_inv)) _ n (c.if-from_le_bytes-bits.false ∙ c.bits.ensures)
           ∙ l.invariant.3),
     )
 
