@@ -79,8 +79,8 @@ fn next_slice(work: &[f64], h: Halves, c: Cursor) -> Step
 // The angles that are still to come, one at a time, read off the cuts in work.
 #[derive(Clone, Copy)]
 pub struct Angles<'a> {
-    pub planned: Planned<'a>,
-    pub cursor: Cursor,
+    planned: Planned<'a>,
+    cursor: Cursor,
 }
 
 impl Iterator for Angles<'_> {
