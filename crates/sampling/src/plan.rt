@@ -1,5 +1,5 @@
 // A job's cuts in the lent work slice, and its angles one at a time, read off them.
-ghost use Rattle.std.specs.Prelude.{◌≡◌, [], ◌++◌, ◌+◌, ◌≤◌, length, drop, take};
+ghost use Rattle.std.specs.Prelude.{◌≡◌, ◌++◌, ◌+◌, ◌≤◌, length, drop, take, IfSome};
 ghost use Rattle.sampling.specs.Angles.{first_free, second_free, cut_count};
 ghost use Rattle.std.specs.Iterator.{YieldsFirst, item_count};
 ghost use Rattle.sampling.specs.Promises.Plan.{Drawable, to_come, Ready, all_cuts, where_laid, zeros};
@@ -119,7 +119,7 @@ fn second_free(job: Job) -> Free
 fn cut(work: &mut [f64], job: Job) -> Option<Plan>
     requires { Drawable job }
     ensures value { result ≡ Of.plan job (length work.old) }
-    ensures work_after { where_laid result work.new [] ≡ where_laid result (all_cuts job ++ drop (cut_count job) work.old) [] }
+    ensures work_after { IfSome result (λ p. work.new ≡ all_cuts job ++ drop (cut_count job) work.old) }
 {
     let kind = job.kind;
     match kind {

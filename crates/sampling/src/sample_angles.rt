@@ -1,7 +1,7 @@
 // One free joint: `sample_angles` of src/singularity/continuum.rs, up to the cuts; `lists` reads the
 // samples off them.
-ghost use Rattle.std.specs.Prelude.{◌≡◌, [], ◌++◌, ◌≤◌, length, take, drop};
-ghost use Rattle.sampling.specs.Promises.Plan.{ListsLaid, free_plan, free_cuts, granted, where_laid};
+ghost use Rattle.std.specs.Prelude.{◌≡◌, ◌++◌, length, drop, IfSome};
+ghost use Rattle.sampling.specs.Promises.Plan.{ListsLaid, free_plan, free_cuts, granted};
 ghost use Rattle.sampling.specs.Samples.{interval_cuts};
 ghost use Rattle.sampling.specs.SampleAngles as Of;
 
@@ -104,8 +104,7 @@ fn cut_intervals(work: &mut [f64], near: f64, three: Intervals, roots: &[f64]) -
 #[tactic(auto, using(crate::proofs::Laid::all_three), unfolding(crate::specs::SampleAngles::cut_count, crate::specs::SampleAngles::first_cuts, crate::specs::SampleAngles::second_cuts, crate::specs::SampleAngles::third_cuts, crate::specs::Promises::Plan::free_plan, crate::specs::Promises::Plan::free_cuts, crate::specs::SampleAngles::intervals))]
 pub(crate) fn cut(work: &mut [f64], f: &Free) -> Option<Plan>
     ensures value { result ≡ granted (Of.cut_count f.now) (free_plan f.now) (length work.old) }
-    ensures work_after { where_laid result work.new [] ≡
-        where_laid result (free_cuts f.now ++ drop (Of.cut_count f.now) work.old) [] }
+    ensures work_after { IfSome result (λ p. work.new ≡ free_cuts f.now ++ drop (Of.cut_count f.now) work.old) }
 {
     if is_finite(f.near) {
         let mut roots = ArrayVec::new();

@@ -1,5 +1,5 @@
 -- What `plan_of` makes of a job and leaves in the lent work slice, and how the angles are read off the cuts there, one at a time.
-use Rattle.std.specs.Prelude.{Option, Some, None}
+use Rattle.std.specs.Prelude.{Option, Some, None, IfSome}
 use Rattle.std.specs.Prelude.{◌≡◌, ◌⊎◌, not, cond, List, [], ◌∷◌, ◌++◌, ℕ, ◌+◌, ◌^◌, ◌≤◌, T, leb, length, slice_get, take, drop, replicate, Float}
 use Rattle.std.specs.Option.{option_map}
 use Rattle.std.specs.Float.{binary64}
@@ -97,7 +97,7 @@ where_laid p l other = by_plan p other l
 abbrev pub ListsLaid : List Float → List Float → List Float → List Float → Option Plan → List Float → Type 0
 ListsLaid a b c w r after =
     let count = length a + length b + length c in
-    (r ≡ granted count (lists_of a b c) (length w)) × (where_laid r after [] ≡ where_laid r (((a ++ b) ++ c) ++ drop count w) [])
+    (r ≡ granted count (lists_of a b c) (length w)) × IfSome r (λ p. after ≡ ((a ++ b) ++ c) ++ drop count w)
 
 -- the cuts in front, and the rest as it was
 unfoldable pub work_after : Job → List Float → List Float
