@@ -58,6 +58,7 @@ fn part_at(work: &[f64], start: usize, end: usize, i: usize) -> Option<f64>
 }
 
 // The i-th sample of all; behind the last there is none.
+#[tactic(auto, using(crate::proofs::lists::Parts::parts))]
 pub(crate) fn angle_at(work: &[f64], n: Lists, i: usize) -> Option<f64>
     requires { n.first + n.second + n.third ≤ length work.now }
     ensures { result ≡ slice_get (Of.three_samples (take n.first work.now)

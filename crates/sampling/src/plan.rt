@@ -67,6 +67,7 @@ fn next_sample(work: &[f64], n: Lists, c: Cursor) -> Step
     Some((y, to))
 }
 
+#[tactic(auto, using(crate::proofs::plan::Asked::second_list))]
 fn next_slice(work: &[f64], h: Halves, c: Cursor) -> Step
     requires { h.first + h.second ≤ length work.now }
     ensures { result ≡ next (take h.first work.now) (take h.second (drop h.first work.now)) h.reference c }
@@ -116,6 +117,7 @@ fn second_free(job: Job) -> Free
 }
 
 // Puts a job's cuts into work, whatever it held.
+#[tactic(auto, unfolding(crate::specs::Promises::Plan::plan, crate::specs::Promises::Plan::laid, crate::specs::Promises::Plan::all_cuts, crate::specs::Angles::cut_count, crate::specs::J1j2free::folded))]
 fn cut(work: &mut [f64], job: Job) -> Option<Plan>
     requires { Drawable job }
     ensures value { result ≡ Of.plan job (length work.old) }
@@ -139,6 +141,7 @@ fn clear_unlaid(work: &mut [f64], plan: Option<Plan>)
 }
 
 // The plan of a job, whatever work held: its cuts in front, or +0.0 in every place.
+#[tactic(auto, unfolding(crate::specs::Promises::Plan::work_after))]
 pub fn plan_of(work: &mut [f64], job: Job) -> Option<Plan>
     requires { Drawable job }
     ensures value { result ≡ Of.plan job (length work.old) }

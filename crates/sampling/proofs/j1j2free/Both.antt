@@ -3,7 +3,7 @@ use Rattle.std.specs.Prelude.{Option, Some, None, IfSome}
 use Prim.Native.Nat.{ℕ, ◌+◌, ◌-◌, ◌≤◌, ◌<◌}
 use native.Mathlib.Omega.{arith}
 use mathlib.Core.Path.{◌≡◌, refl, sym, ap, subst, ◌∙◌}
-use mathlib.Core.List.{List, [], ◌++◌, append_assoc}
+use mathlib.Core.List.{List, ◌++◌, append_assoc}
 use lib.Dec.{T}
 use lib.ListN.{length, take, drop, length-drop}
 use lib.Seq.{take_at, drop_at, drop-drop}
@@ -18,7 +18,7 @@ use Rattle.polynomial.specs.Laws.Lists.{tail_part, tail_post}
 use Rattle.polynomial.specs.declared.curve.Curve.{Curve}
 use Rattle.sampling.specs.J1j2free.{curves, bends, first_half, second_half}
 use Rattle.sampling.specs.Promises.Halves.{half_values, start, both}
-use Rattle.sampling.specs.Promises.Plan.{halves_of, granted, where_laid}
+use Rattle.sampling.specs.Promises.Plan.{halves_of, granted}
 use Rattle.sampling.proofs.Laws.J1j2free.{half_cuts_are}
 use Rattle.sampling.specs.declared.j1j2free.Folded.{Folded}
 use Rattle.sampling.specs.declared.lists.Plan.{Plan}

@@ -2,9 +2,9 @@
 use Rattle.std.specs.Prelude.{Some, None, Float, slice_get}
 use Rattle.std.proofs.Props.{props}
 use mathlib.Core.Logic.{∥∥₁_elim}
-use mathlib.Core.Path.{◌≡◌, subst}
+use mathlib.Core.Path.{◌≡◌, refl, subst}
 use mathlib.Core.List.{List, [], ◌∷◌}
-use Prim.Native.Nat.{ℕ, ◌+◌, ◌*◌, ◌<◌, ◌≤◌}
+use Prim.Native.Nat.{ℕ, ◌+◌, ◌-◌, ◌*◌, ◌<◌, ◌≤◌}
 use Rattle.std.proofs.Common.{arith, take, drop, length-drop, length-take-le}
 use lib.ListN.{length}
 use Rattle.sampling.specs.Promises.Stream.{Step, start}
@@ -19,6 +19,10 @@ use Rattle.sampling.specs.declared.lists.Halves.{Halves}
 use Rattle.sampling.specs.declared.lists.Plan.{Plan}
 use Rattle.sampling.specs.declared.lists.Plan.TheVariants as of
 use Rattle.sampling.specs.declared.stream.Cursor.{Cursor}
+
+-- the second of two lists, as a slice cuts it
+pub second_list : (w : List Float) (a b : ℕ) → take (a + b - a) (drop a w) ≡ take b (drop a w)
+second_list w a b = let e : a + b - a ≡ b = omega arith in rw e refl
 
 -- a sample that there is stands below four times the places
 pub sample_below : (n : Lists) (w : List Float) (i : ℕ) (y : Float) → n.first + n.second + n.third ≤ length w → slice_get (all_samples n w) i ≡ Some y
