@@ -13,7 +13,7 @@ use Rattle.polynomial.specs.Promises.Held.{Kept}
 use Rattle.polynomial.specs.Laws.Held.{kept_full}
 use Rattle.polynomial.specs.Laws.Lists.{tail_part, tail_post}
 use Rattle.sampling.specs.Promises.Plan.{lists_of, granted}
-use Rattle.sampling.specs.declared.lists.Plan.TheVariants.{Short, Lists}
+use Rattle.sampling.specs.declared.lists.Plan.TheVariants.{Lists}
 
 -- the first n places of r hold l, and the others are as in w
 pub record Laid (l w r : List Float) (n : ℕ) : Type 0 where
@@ -67,23 +67,26 @@ module _ (a b c : List Float) where
   count = length a + length b + length c
 
   module _ (places : ℕ) where
-    short : places < count → Short ≡ granted count (lists_of a b c) places
+    short : places < count → None ≡ granted count (lists_of a b c) places
     short h = rw (lt-leb count places h)
 
-    pub short_first : places < length a → Short ≡ granted count (lists_of a b c) places
+    pub short_first : places < length a → None ≡ granted count (lists_of a b c) places
     short_first h = short (omega (arith, h))
 
-    pub short_second : places < length a + length b → Short ≡ granted count (lists_of a b c) places
+    pub short_second : places < length a + length b → None ≡ granted count (lists_of a b c) places
     short_second h = short (omega (arith, h))
 
-    pub short_third : places < length (a ++ b) + length c → Short ≡ granted count (lists_of a b c) places
+    pub short_third : places < length (a ++ b) + length c → None ≡ granted count (lists_of a b c) places
     short_third h = short (omega (arith, h, length-append a b))
 
     pub all_three : (m n k : ℕ) → m ≡ length a → n ≡ length b → k ≡ length c → m + n + k ≤ places
-        → Lists (record { first = m; second = n; third = k }) ≡ granted count (lists_of a b c) places
+        → Some (Lists (record { first = m; second = n; third = k })) ≡ granted count (lists_of a b c) places
     all_three m n k e f g h = let t : count ≤ places = omega (arith, e, f, g, h) in rw (le-leb count places t, e, f, g)
 
   pub laid_three : (w r : List Float) (m : ℕ) → Laid ((a ++ b) ++ c) w r m → r ≡ ((a ++ b) ++ c) ++ drop count w
   laid_three w r m h =
       let e : m ≡ count = omega (arith, h.count, length-append (a ++ b) c, length-append a b) in
       h.list ∙ ap (λ (n : ℕ). ((a ++ b) ++ c) ++ drop n w) e
+
+-- what `cut_intervals` goes by
+pub ruleset intervals = (kept_full, no_place_behind, laid_first, laid_next, short_first, short_second, short_third, all_three, laid_three)

@@ -1,2 +1,2 @@
 -- What the proofs of the plan share.
-mod ByKind
+mod Asked

@@ -1,12 +1,12 @@
 // Two free joints: `search` of src/singularity/j1j2free.rs, up to the cuts of both halves; `stream`
 // yields the slices.
-ghost use Rattle.std.specs.Prelude.{◌≡◌, [], ◌++◌, ◌+◌, ◌≤◌, length, take, drop};
+ghost use Rattle.std.specs.Prelude.{◌≡◌, ◌++◌, ◌+◌, ◌≤◌, length, drop, IfSome};
 ghost use Rattle.polynomial.specs.Promises.Held.{Kept};
 ghost use Rattle.sampling.specs.CriticalSlices.{chart};
 ghost use Rattle.sampling.specs.Promises.Charts.{Bounded, Charted};
 ghost use Rattle.sampling.specs.Promises.Curves.{most_curves};
 ghost use Rattle.sampling.specs.Promises.Halves.{half_values, start, both};
-ghost use Rattle.sampling.specs.Promises.Plan.{halves_of, folded_plan, folded_cuts, granted, where_laid};
+ghost use Rattle.sampling.specs.Promises.Plan.{halves_of, folded_plan, folded_cuts, granted};
 ghost use Rattle.sampling.specs.J1j2free as Of;
 
 use crate::bend_slices::bend_slices;
@@ -103,37 +103,27 @@ fn half_cuts(
 fn start_of(cuts: Option<usize>, end: usize) -> usize
     ensures { result ≡ start cuts end }
 {
-    match cuts {
-        Some(n) => n,
-        None => end,
-    }
+    cuts.unwrap_or(end)
 }
 
 // How both halves' lists came out.
-fn halves_of(reference: f64, first: Option<usize>, second: Option<usize>) -> Plan
+fn halves_of(reference: f64, first: Option<usize>, second: Option<usize>) -> Option<Plan>
     ensures { result ≡ both reference first second }
 {
-    match first {
-        Some(a) => match second {
-            Some(b) => Plan::Halves(Halves {
-                reference,
-                first: a,
-                second: b,
-            }),
-            None => Plan::Short,
-        },
-        None => Plan::Short,
-    }
+    Some(Plan::Halves(Halves {
+        reference,
+        first: first?,
+        second: second?,
+    }))
 }
 
 // The cuts of both halves, one list after the other in the front of work.
-fn cut_halves(work: &mut [f64], t: &Folded, lower: f64, upper: f64) -> Plan
+fn cut_halves(work: &mut [f64], t: &Folded, lower: f64, upper: f64) -> Option<Plan>
     requires { Charted (Some (lower, upper)) }
     ensures value { result ≡ granted (length (Of.first_half t.now lower upper) + length (Of.second_half t.now lower upper))
         (halves_of t.now.reference (Of.first_half t.now lower upper) (Of.second_half t.now lower upper)) (length work.old) }
-    ensures work_after { where_laid result work.new [] ≡
-        where_laid result ((Of.first_half t.now lower upper ++ Of.second_half t.now lower upper)
-        ++ drop (length (Of.first_half t.now lower upper) + length (Of.second_half t.now lower upper)) work.old) [] }
+    ensures work_after { IfSome result (λ p. work.new ≡ (Of.first_half t.now lower upper ++ Of.second_half t.now lower upper)
+        ++ drop (length (Of.first_half t.now lower upper) + length (Of.second_half t.now lower upper)) work.old) }
 {
     let bends = bend_slices(t);
     let bends = bends.as_slice();
@@ -147,18 +137,19 @@ fn cut_halves(work: &mut [f64], t: &Folded, lower: f64, upper: f64) -> Plan
 }
 
 // The cuts of both halves of joint 1's interval; where it has none there is no cut and no angle.
-pub(crate) fn cut(work: &mut [f64], t: &Folded) -> Plan
+#[tactic(auto, using(crate::proofs::Laid::all_three), unfolding(crate::specs::J1j2free::cut_count, crate::specs::Promises::Plan::folded_plan, crate::specs::Promises::Plan::folded_cuts))]
+pub(crate) fn cut(work: &mut [f64], t: &Folded) -> Option<Plan>
     requires { Charted t.now.range1 }
     ensures value { result ≡ granted (Of.cut_count t.now) (folded_plan t.now) (length work.old) }
-    ensures work_after { where_laid result work.new [] ≡ where_laid result (folded_cuts t.now ++ drop (Of.cut_count t.now) work.old) [] }
+    ensures work_after { IfSome result (λ p. work.new ≡ folded_cuts t.now ++ drop (Of.cut_count t.now) work.old) }
 {
     let range1 = t.range1;
     match range1 {
-        None => Plan::Lists(Lists {
+        None => Some(Plan::Lists(Lists {
             first: 0,
             second: 0,
             third: 0,
-        }),
+        })),
         Some((lower, upper)) => cut_halves(work, t, lower, upper),
     }
 }

@@ -1,6 +1,5 @@
 // How a job's cuts stand in the work slice, and the samples of three intervals that are read off them.
-ghost use Rattle.std.specs.Prelude.{◌≡◌, ◌+◌, ◌-◌, ◌≤◌, length, take, drop, get_or};
-ghost use Rattle.std.specs.Float.{nan};
+ghost use Rattle.std.specs.Prelude.{◌≡◌, ◌+◌, ◌-◌, ◌≤◌, length, take, drop, slice_get};
 ghost use Rattle.sampling.specs.Samples as Of;
 ghost use Rattle.sampling.specs.Promises.Plan.{countable};
 
@@ -22,11 +21,10 @@ pub struct Halves {
     pub second: usize,
 }
 
-// What came of a job's cuts: there are too few places, or the cuts of one free joint or of two are in
-// work.
+// Where a job's cuts stand in work: those of one free joint, or of two. Where there are too few places
+// there is no plan.
 #[derive(Clone, Copy)]
 pub enum Plan {
-    Short,
     Lists(Lists),
     Halves(Halves),
 }
@@ -51,20 +49,21 @@ pub(crate) fn angle_count(n: Lists) -> usize
 }
 
 // The i-th sample of the cuts in the places from `start` to `end`.
-fn part_at(work: &[f64], start: usize, end: usize, i: usize) -> f64
+fn part_at(work: &[f64], start: usize, end: usize, i: usize) -> Option<f64>
     requires start_le_end { start ≤ end }
     requires end_in_bounds { end ≤ length work.now }
-    ensures { result ≡ get_or (Of.samples (take (end - start) (drop start work.now))) i nan }
+    ensures { result ≡ slice_get (Of.samples (take (end - start) (drop start work.now))) i }
 {
     sample_at(&work[start..end], i)
 }
 
-// The i-th sample of all, or a NaN behind the last.
-pub(crate) fn angle_at(work: &[f64], n: Lists, i: usize) -> f64
+// The i-th sample of all; behind the last there is none.
+#[tactic(auto, using(crate::proofs::lists::Parts::parts))]
+pub(crate) fn angle_at(work: &[f64], n: Lists, i: usize) -> Option<f64>
     requires { n.first + n.second + n.third ≤ length work.now }
-    ensures { result ≡ get_or (Of.three_samples (take n.first work.now)
+    ensures { result ≡ slice_get (Of.three_samples (take n.first work.now)
         (take n.second (drop n.first work.now))
-        (take n.third (drop (n.first + n.second) work.now))) i nan }
+        (take n.third (drop (n.first + n.second) work.now))) i }
 {
     let first = sample_count(n.first);
     if i < first {

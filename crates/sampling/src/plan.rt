@@ -1,9 +1,10 @@
 // A job's cuts in the lent work slice, and its angles one at a time, read off them.
-ghost use Rattle.std.specs.Prelude.{◌≡◌, [], ◌++◌, ◌+◌, ◌≤◌, length, drop, take};
+ghost use Rattle.std.specs.Prelude.{◌≡◌, ◌++◌, ◌+◌, ◌≤◌, length, drop, take, IfSome};
 ghost use Rattle.sampling.specs.Angles.{first_free, second_free, cut_count};
-ghost use Rattle.sampling.specs.Promises.Plan.{Drawable, to_come, Streamable, Ready, all_cuts, where_laid, zeros};
+ghost use Rattle.std.specs.Iterator.{YieldsFirst, item_count};
+ghost use Rattle.sampling.specs.Promises.Plan.{Drawable, to_come, Ready, all_cuts, where_laid, zeros};
 ghost use Rattle.sampling.specs.Promises.Plan as Of;
-ghost use Rattle.sampling.specs.Promises.Stream.{distinct, next, start};
+ghost use Rattle.sampling.specs.Promises.Stream.{next, start};
 
 use crate::j1j2free::folded_of;
 use crate::job::{Job, Kind};
@@ -13,20 +14,60 @@ use crate::stream::{Cursor, Step};
 use crate::work::clear;
 use crate::{j1free, j1j2free, j2free, sample_angles, stream};
 
+// The cuts in work and how they stand there.
+#[derive(Clone, Copy)]
+pub struct Planned<'a> {
+    pub work: &'a [f64],
+    pub plan: Plan,
+    ghost ready: { ∥ Ready plan work.now ∥₁ },
+}
+
+impl<'a> Planned<'a> {
+    // The angles, from the first on.
+    pub fn angles(self) -> Angles<'a>
+        ensures { (result.planned ≡ self.entry) × (result.cursor ≡ start) }
+    {
+        Angles {
+            planned: self,
+            cursor: stream::start(),
+        }
+    }
+
+    // The angle at a cursor, and the cursor behind it.
+    #[tactic(auto, using(crate::proofs::plan::Asked::lists_room, crate::proofs::plan::Asked::halves_room))]
+    fn step(self, c: Cursor) -> Step
+        ensures { result ≡ Of.step self.entry.plan self.entry.work.now c }
+    {
+        match self.plan {
+            Plan::Lists(n) => next_sample(self.work, n, c),
+            Plan::Halves(h) => next_slice(self.work, h, c),
+        }
+    }
+
+    // How many angles there are.
+    #[tactic(auto, using(crate::proofs::plan::Asked::lists_count, crate::proofs::plan::Asked::halves_few))]
+    pub fn count(self) -> usize
+        ensures { result ≡ length (to_come self.entry.plan self.entry.work.now start) }
+    {
+        match self.plan {
+            Plan::Lists(n) => angle_count(n),
+            Plan::Halves(_) => self.angles().count(),
+        }
+    }
+}
+
+#[tactic(auto, using(crate::proofs::plan::Asked::sample_below), unfolding(crate::specs::Promises::Plan::sample_step))]
 fn next_sample(work: &[f64], n: Lists, c: Cursor) -> Step
     requires { n.first + n.second + n.third ≤ length work.now }
     ensures { result ≡ Of.sample_step n work.now c }
 {
-    let i = c.i;
-    if i < angle_count(n) {
-        let y = angle_at(work, n, i);
-        let mut to = c;
-        to.i = i + 1;
-        return Some((y, to));
-    }
-    None
+    let y = angle_at(work, n, c.i)?;
+    let mut to = c;
+    to.i = c.i + 1;
+    Some((y, to))
 }
 
+#[tactic(auto, using(crate::proofs::plan::Asked::second_list))]
 fn next_slice(work: &[f64], h: Halves, c: Cursor) -> Step
     requires { h.first + h.second ≤ length work.now }
     ensures { result ≡ next (take h.first work.now) (take h.second (drop h.first work.now)) h.reference c }
@@ -36,44 +77,25 @@ fn next_slice(work: &[f64], h: Halves, c: Cursor) -> Step
     stream::next(&work[..first], &work[first..end], h.reference, c)
 }
 
-fn count_slices(work: &[f64], h: Halves) -> usize
-    requires { Streamable h work.now }
-    ensures { result ≡ length (distinct (take h.first work.now) (take h.second (drop h.first work.now))
-        h.reference start) }
-{
-    let first = h.first;
-    let end = first + h.second;
-    stream::count(&work[..first], &work[first..end], h.reference)
+// The angles that are still to come, one at a time, read off the cuts in work.
+#[derive(Clone, Copy)]
+pub struct Angles<'a> {
+    planned: Planned<'a>,
+    cursor: Cursor,
 }
 
-// The cursor before the first angle of a plan.
-pub fn start() -> Cursor
-    ensures { result ≡ start }
-{
-    stream::start()
-}
+impl Iterator for Angles<'_> {
+    type Item = f64;
 
-// The next angle of a plan, read off the cuts in work, and the cursor after it.
-pub fn next(work: &[f64], plan: Plan, c: Cursor) -> Step
-    requires { Ready plan work.now }
-    ensures { result ≡ Of.step plan work.now c }
-{
-    match plan {
-        Plan::Short => None,
-        Plan::Lists(n) => next_sample(work, n, c),
-        Plan::Halves(h) => next_slice(work, h, c),
-    }
-}
+    ghost next_gives = { YieldsFirst (λ s. to_come s.planned.plan s.planned.work.now s.cursor) };
 
-// How many angles a plan has.
-pub fn count(work: &[f64], plan: Plan) -> usize
-    requires { Ready plan work.now }
-    ensures { result ≡ length (to_come plan work.now start) }
-{
-    match plan {
-        Plan::Short => 0,
-        Plan::Lists(n) => angle_count(n),
-        Plan::Halves(h) => count_slices(work, h),
+    ghost remaining = { item_count (λ s. to_come s.planned.plan s.planned.work.now s.cursor) };
+
+    #[tactic(auto, using(crate::proofs::plan::Asked::step_yields, crate::proofs::plan::Asked::step_done))]
+    fn next(&mut self) -> Option<f64> {
+        let (y, cursor) = self.planned.step(self.cursor)?;
+        self.cursor = cursor;
+        Some(y)
     }
 }
 
@@ -95,10 +117,11 @@ fn second_free(job: Job) -> Free
 }
 
 // Puts a job's cuts into work, whatever it held.
-fn cut(work: &mut [f64], job: Job) -> Plan
+#[tactic(auto, unfolding(crate::specs::Promises::Plan::plan, crate::specs::Promises::Plan::laid, crate::specs::Promises::Plan::all_cuts, crate::specs::Angles::cut_count, crate::specs::J1j2free::folded))]
+fn cut(work: &mut [f64], job: Job) -> Option<Plan>
     requires { Drawable job }
     ensures value { result ≡ Of.plan job (length work.old) }
-    ensures work_after { where_laid result work.new [] ≡ where_laid result (all_cuts job ++ drop (cut_count job) work.old) [] }
+    ensures work_after { IfSome result (λ p. work.new ≡ all_cuts job ++ drop (cut_count job) work.old) }
 {
     let kind = job.kind;
     match kind {
@@ -109,18 +132,17 @@ fn cut(work: &mut [f64], job: Job) -> Plan
 }
 
 // Nothing stays in work that is not read.
-fn clear_unlaid(work: &mut [f64], plan: Plan)
+fn clear_unlaid(work: &mut [f64], plan: Option<Plan>)
     ensures { work.new ≡ where_laid plan work.old (zeros (length work.old)) }
 {
-    match plan {
-        Plan::Short => clear(work),
-        Plan::Lists(_) => {}
-        Plan::Halves(_) => {}
+    if plan.is_none() {
+        clear(work);
     }
 }
 
 // The plan of a job, whatever work held: its cuts in front, or +0.0 in every place.
-pub fn plan_of(work: &mut [f64], job: Job) -> Plan
+#[tactic(auto, unfolding(crate::specs::Promises::Plan::work_after))]
+pub fn plan_of(work: &mut [f64], job: Job) -> Option<Plan>
     requires { Drawable job }
     ensures value { result ≡ Of.plan job (length work.old) }
     ensures work_after { work.new ≡ Of.work_after job work.old }

@@ -1,7 +1,7 @@
 // One free joint: `sample_angles` of src/singularity/continuum.rs, up to the cuts; `lists` reads the
 // samples off them.
-ghost use Rattle.std.specs.Prelude.{◌≡◌, [], ◌++◌, ◌≤◌, length, take, drop};
-ghost use Rattle.sampling.specs.Promises.Plan.{ListsLaid, free_plan, free_cuts, granted, where_laid};
+ghost use Rattle.std.specs.Prelude.{◌≡◌, ◌++◌, length, drop, IfSome};
+ghost use Rattle.sampling.specs.Promises.Plan.{ListsLaid, free_plan, free_cuts, granted};
 ghost use Rattle.sampling.specs.Samples.{interval_cuts};
 ghost use Rattle.sampling.specs.SampleAngles as Of;
 
@@ -81,35 +81,30 @@ pub(crate) fn free_of(axes: Axes, job: Job, j: Joint) -> Free
 }
 
 // The cuts of three intervals, one list after the other in the front of work.
-fn cut_intervals(work: &mut [f64], near: f64, three: Intervals, roots: &[f64]) -> Plan
+#[tactic(auto, using(crate::proofs::Laid::intervals), unfolding(crate::specs::Samples::interval_cuts))]
+fn cut_intervals(work: &mut [f64], near: f64, three: Intervals, roots: &[f64]) -> Option<Plan>
     ensures { ListsLaid (interval_cuts near roots.now three.first)
         (interval_cuts near roots.now three.second)
         (interval_cuts near roots.now three.third) work.old result work.new }
 {
     let range1 = three.first;
-    let Some(first) = interval_cuts(work, near, range1, roots) else {
-        return Plan::Short;
-    };
+    let first = interval_cuts(work, near, range1, roots)?;
     let range2 = three.second;
-    let Some(second) = interval_cuts(&mut work[first..], near, range2, roots) else {
-        return Plan::Short;
-    };
+    let second = interval_cuts(&mut work[first..], near, range2, roots)?;
     let range3 = three.third;
-    let Some(third) = interval_cuts(&mut work[first + second..], near, range3, roots) else {
-        return Plan::Short;
-    };
-    Plan::Lists(Lists {
+    let third = interval_cuts(&mut work[first + second..], near, range3, roots)?;
+    Some(Plan::Lists(Lists {
         first,
         second,
         third,
-    })
+    }))
 }
 
 // The cuts of a free joint, in the front of work.
-pub(crate) fn cut(work: &mut [f64], f: &Free) -> Plan
+#[tactic(auto, using(crate::proofs::Laid::all_three), unfolding(crate::specs::SampleAngles::cut_count, crate::specs::SampleAngles::first_cuts, crate::specs::SampleAngles::second_cuts, crate::specs::SampleAngles::third_cuts, crate::specs::Promises::Plan::free_plan, crate::specs::Promises::Plan::free_cuts, crate::specs::SampleAngles::intervals))]
+pub(crate) fn cut(work: &mut [f64], f: &Free) -> Option<Plan>
     ensures value { result ≡ granted (Of.cut_count f.now) (free_plan f.now) (length work.old) }
-    ensures work_after { where_laid result work.new [] ≡
-        where_laid result (free_cuts f.now ++ drop (Of.cut_count f.now) work.old) [] }
+    ensures work_after { IfSome result (λ p. work.new ≡ free_cuts f.now ++ drop (Of.cut_count f.now) work.old) }
 {
     if is_finite(f.near) {
         let mut roots = ArrayVec::new();
@@ -117,9 +112,9 @@ pub(crate) fn cut(work: &mut [f64], f: &Free) -> Plan
         let three = wrist_limit_intervals(f.limits, f.near, 1.0);
         return cut_intervals(work, f.near, three, &roots);
     }
-    Plan::Lists(Lists {
+    Some(Plan::Lists(Lists {
         first: 0,
         second: 0,
         third: 0,
-    })
+    }))
 }

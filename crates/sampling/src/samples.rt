@@ -1,7 +1,6 @@
 // From the boundary angles of one free joint to its samples, from `sample_angles` of
 // src/singularity/continuum.rs.
-ghost use Rattle.std.specs.Prelude.{◌≡◌, ◌&&◌, [], ◌∷◌, ◌≤◌, length, take, get_or};
-ghost use Rattle.std.specs.Float.{nan};
+ghost use Rattle.std.specs.Prelude.{◌≡◌, ◌&&◌, ◌≤◌, slice_get};
 ghost use Rattle.std.specs.Float.Ieee.{le};
 ghost use Rattle.polynomial.specs.Promises.Held.{Kept};
 ghost use Rattle.sampling.specs.Promises.Grown.{Grown};
@@ -120,54 +119,27 @@ fn inset(lower: f64, upper: f64) -> f64
 }
 
 // The three samples between two neighbouring cuts: near each end, and the middle.
-#[derive(Clone, Copy)]
-pub struct Three {
-    pub first: f64,
-    pub second: f64,
-    pub third: f64,
-}
-
-// The three samples between two neighbours.
+#[inline]
 #[tactic(auto, unfolding(crate::specs::Samples::between))]
-pub fn between(lower: f64, upper: f64) -> Three
-    ensures { result.first ∷ (result.second ∷ (result.third ∷ [])) ≡ Of.between lower upper }
+pub fn between(lower: f64, upper: f64) -> [f64; 3]
+    ensures { result ≡ Of.between lower upper }
 {
     let by = inset(lower, upper);
-    Three {
-        first: lower + by,
-        second: middle(lower, upper),
-        third: upper - by,
-    }
+    [lower + by, middle(lower, upper), upper - by]
 }
 
-// Of the three samples between two neighbours, the first (0), the second (1) or the third.
-#[tactic(auto, unfolding(crate::specs::Samples::between))]
-fn between_at(lower: f64, upper: f64, k: usize) -> f64
-    requires { k ≤ 2 }
-    ensures { result ≡ get_or (Of.between lower upper) k nan }
-{
-    if k == 0 {
-        return lower + inset(lower, upper);
-    }
-    if k == 1 {
-        return middle(lower, upper);
-    }
-    upper - inset(lower, upper)
-}
-
-// The i-th sample of the cuts in a list, or a NaN behind the last.
-pub(crate) fn sample_at(list: &[f64], i: usize) -> f64
-    ensures { result ≡ get_or (Of.samples list.now) i nan }
+// The i-th sample of the cuts in a list; behind the last there is none.
+#[tactic(auto, using(crate::proofs::Laws::Samples::sample_cut, crate::proofs::Laws::Samples::sample_between, crate::proofs::Laws::Samples::sample_none))]
+pub(crate) fn sample_at(list: &[f64], i: usize) -> Option<f64>
+    ensures { result ≡ slice_get (Of.samples list.now) i }
 {
     let n = list.len();
     if i < n {
-        return list[i];
+        return Some(list[i]);
     }
     let k = (i - n) / 3;
     if n <= k + 1 {
-        return 0.0 / 0.0;
+        return None;
     }
-    let lower = list[k];
-    let upper = list[k + 1];
-    between_at(lower, upper, (i - n) % 3)
+    Some(between(list[k], list[k + 1])[(i - n) % 3])
 }

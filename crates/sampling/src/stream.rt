@@ -1,10 +1,9 @@
 // The values at which joint 1 is tried, one at a time: the cuts of two halves, the middles of their
 // neighbours and a reference, in order and with no value twice. They may be more than there are work
 // places.
-ghost use Rattle.std.specs.Prelude.{◌≡◌, not, T, length, get_or};
+ghost use Rattle.std.specs.Prelude.{◌≡◌, get_or};
 ghost use Rattle.std.specs.Float.{nan};
-ghost use Rattle.std.specs.Float.Ieee.{is_nan};
-ghost use Rattle.sampling.specs.Promises.Stream.{weave, distinct, Woven};
+ghost use Rattle.sampling.specs.Promises.Stream.{weave};
 ghost use Rattle.sampling.specs.Promises.Stream as Of;
 
 use float::number::{middle, total_le};
@@ -15,10 +14,11 @@ use float::number::{middle, total_le};
 fn none_left() -> f64
     ensures { result ≡ nan }
 {
-    0.0 / 0.0
+    f64::NAN
 }
 
 // The k-th of a list's cuts and middles alternately, or a NaN.
+#[tactic(auto, using(crate::proofs::stream::Steps::weaving))]
 fn woven(list: &[f64], k: usize) -> f64
     ensures { result ≡ get_or (weave list.now) k nan }
 {
@@ -62,6 +62,7 @@ pub(crate) fn start() -> Cursor
 }
 
 // The least of what the lists and the reference have next.
+#[tactic(auto, using(crate::proofs::stream::Steps::index_in), unfolding(crate::specs::Promises::Stream::advance, crate::specs::Promises::Stream::least))]
 fn advance(a: &[f64], b: &[f64], r: f64, c: Cursor) -> Step
     ensures { result ≡ Of.advance a.now b.now r c }
 {
@@ -74,7 +75,7 @@ fn advance(a: &[f64], b: &[f64], r: f64, c: Cursor) -> Step
     let z = if used { none_left() } else { r };
     if total_le(x, y) {
         if total_le(x, z) {
-            if x != x {
+            if x.is_nan() {
                 return None;
             }
             to.i = i + 1;
@@ -82,13 +83,13 @@ fn advance(a: &[f64], b: &[f64], r: f64, c: Cursor) -> Step
         }
     }
     if total_le(y, z) {
-        if y != y {
+        if y.is_nan() {
             return None;
         }
         to.j = j + 1;
         return Some((y, to));
     }
-    if z != z {
+    if z.is_nan() {
         return None;
     }
     to.used = true;
@@ -96,48 +97,17 @@ fn advance(a: &[f64], b: &[f64], r: f64, c: Cursor) -> Step
 }
 
 // The next value that does not equal the last one.
+#[tactic(auto, using(crate::proofs::stream::Steps::skipping), unfolding(crate::specs::Promises::Stream::next))]
 pub(crate) fn next(a: &[f64], b: &[f64], r: f64, c: Cursor) -> Step
     ensures { result ≡ Of.next a.now b.now r c }
 {
     let last = c.last;
     let mut at = c;
     loop {
-        let s = advance(a, b, r, at);
-        match s {
-            None => {
-                return None;
-            }
-            Some((y, d)) => {
-                if y != last {
-                    let mut to = d;
-                    to.last = y;
-                    return Some((y, to));
-                }
-                at = d;
-            }
+        let (y, d) = advance(a, b, r, at)?;
+        if y != last {
+            return Some((y, Cursor { last: y, ..d }));
         }
-    }
-}
-
-// How many values there are.
-pub(crate) fn count(a: &[f64], b: &[f64], r: f64) -> usize
-    requires woven { Woven a.now }
-    requires woven_2 { Woven b.now }
-    requires t { T (not (is_nan r)) }
-    ensures { result ≡ length (distinct a.now b.now r Of.start) }
-{
-    let mut c = start();
-    let mut n = 0;
-    loop {
-        let s = next(a, b, r, c);
-        match s {
-            None => {
-                return n;
-            }
-            Some((y, d)) => {
-                c = d;
-                n += 1;
-            }
-        }
+        at = d;
     }
 }

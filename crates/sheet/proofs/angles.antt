@@ -1,3 +1,3 @@
 -- What the proofs of `put_list` and the functions above it use.
 
-mod Runs
+pub mod Runs

@@ -1,3 +1,4 @@
 -- What the proof of `same_angles` uses.
 
 mod Floats
+mod Refused

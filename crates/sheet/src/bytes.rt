@@ -1,12 +1,12 @@
 // Bytes, and the numbers and floats that they hold, low byte first.
 ghost use Rattle.std.specs.Prelude.{◌≡◌, ◌+◌, ◌≤◌, length};
-ghost use Rattle.std.proofs.lemmas.List.Edits.{sets};
 ghost use Rattle.sheet.specs.Bytes as Bytes;
 ghost use Rattle.sheet.specs.Promises.Floats as Floats;
 
 use float::number::{bits, of_bits};
 
-// The N bytes from `at` on.
+// The N bytes from `at` on. The place is a number here and in the next two, since a caller who cut the
+// bytes out would do so under the same clause.
 pub(crate) fn bytes_at<const N: usize>(s: &[u8], at: usize) -> [u8; N]
     requires { at + N ≤ length s.now }
     ensures { result ≡ Bytes.part at N s.now }
@@ -32,34 +32,11 @@ pub(crate) fn float_at(s: &[u8], at: usize) -> f64
     of_bits(word(s, at))
 }
 
-// Bytes, written from `at` on.
-pub(crate) fn put(out: &mut [u8], at: usize, bytes: &[u8])
-    requires { at + length bytes.now ≤ length out.old }
-    ensures { out.new ≡ sets out.old at bytes.now }
+// The eight bytes of a float.
+#[tactic(auto, unfolding(crate::specs::Bytes::bytes))]
+pub(crate) fn put_float(out: &mut [u8], x: f64)
+    requires { length out.old ≡ 8 }
+    ensures { out.new ≡ Floats.float_bytes x }
 {
-    out[at..at + bytes.len()].copy_from_slice(bytes);
-}
-
-// The eight bytes of a float, written from `at` on.
-pub(crate) fn put_float(out: &mut [u8], at: usize, x: f64)
-    requires { at + 8 ≤ length out.old }
-    ensures { out.new ≡ sets out.old at (Floats.float_bytes x) }
-{
-    put(out, at, &bits(x).to_le_bytes());
-}
-
-// Whether the bytes of t stand in s from `at` on.
-pub(crate) fn same_at(s: &[u8], at: usize, t: &[u8]) -> bool
-    requires { at + length t.now ≤ length s.now }
-    ensures { result ≡ Bytes.same_bytes (Bytes.part at (length t.now) s.now) t.now }
-{
-    &s[at..at + t.len()] == t
-}
-
-// Whether the bytes of a float stand in s from `at` on.
-pub(crate) fn same_float(s: &[u8], at: usize, x: f64) -> bool
-    requires { at + 8 ≤ length s.now }
-    ensures { result ≡ Bytes.same_bytes (Bytes.part at 8 s.now) (Floats.float_bytes x) }
-{
-    word(s, at) == bits(x)
+    out.copy_from_slice(&bits(x).to_le_bytes());
 }

@@ -2,107 +2,42 @@
 // it.
 ghost use Rattle.std.specs.Prelude.{◌≡◌, ◌+◌, ◌^◌, ◌<◌, ◌≤◌, length};
 ghost use Rattle.sampling.specs.Promises.Stream.{start};
-ghost use Rattle.sampling.specs.Promises.Plan.{to_come, Ready};
+ghost use Rattle.sampling.specs.Promises.Plan.{to_come};
 ghost use Rattle.sheet.specs.Bytes as Bytes;
 ghost use Rattle.sheet.specs.Promises.Floats as Floats;
 ghost use Rattle.sheet.specs.Edition.{newest, known};
 ghost use Rattle.sheet.specs.Request as Request;
-ghost use Rattle.sheet.specs.Sheet as Sheet;
+ghost use Rattle.sheet.specs.Sheet as Sizes;
 ghost use Rattle.sheet.specs.Check as Check;
 ghost use Rattle.sheet.specs.Promises.Plan as Promise;
 
-use crate::bytes::{bytes_at, same_at, same_float};
+use crate::bytes::bytes_at;
 use crate::edition::{Edition, known};
-use crate::plan::{is_short, plan_request};
+use crate::plan::plan_request;
 use crate::refusals::Fault;
 use crate::request::unread_zero;
-use crate::trailer::{ITEMS_BOUND, LEAST, TRAILER, frame_size, put_trailer};
+use crate::trailer::{ITEMS_BOUND, LEAST, TRAILER, frame_size, trailer};
 use crate::validate::validate;
 use crate::view::View;
-use sampling::lists::Plan;
-use sampling::plan::{next, start};
+use float::number::bits;
+use sampling::plan::Planned;
 use sampling::work::clear;
 
 // Whether the bytes are those of the angles, no more and no less.
-fn same_angles(s: &[u8], work: &[f64], plan: Plan) -> bool
-    requires { Ready plan work.now }
-    ensures { result ≡ Bytes.same_bytes s.now (Floats.floats_bytes (to_come plan work.now start)) }
+fn same_angles(s: &[u8], planned: &Planned) -> bool
+    ensures { result ≡ Bytes.same_bytes s.now (Floats.floats_bytes (to_come planned.now.plan planned.now.work.now start)) }
 {
-    let mut c = start();
-    let mut at = 0usize;
-    loop {
-        let t = next(work, plan, c);
-        match t {
-            None => {
-                return at == s.len();
-            }
-            Some((y, d)) => {
-                if s.len() - at < 8 {
-                    return false;
-                }
-                if !same_float(s, at, y) {
-                    return false;
-                }
-                at += 8;
-                c = d;
-            }
+    let mut left = s;
+    for y in planned.angles() {
+        let Some((bytes, rest)) = left.split_first_chunk() else {
+            return false;
+        };
+        if u64::from_le_bytes(*bytes) != bits(y) {
+            return false;
         }
+        left = rest;
     }
-}
-
-// The number of angles that the trailer says.
-fn count_of(sheet: &[u8]) -> usize
-    requires { Request.core_size + Sheet.trailer_size ≤ length sheet.now }
-    ensures value { result ≡ Check.count_of sheet.now }
-    ensures upper_bound { result < 2 ^ 32 }
-{
-    let at = sheet.len() - TRAILER;
-    u32::from_le_bytes(bytes_at(sheet, at)) as usize
-}
-
-// The edition that the trailer says.
-fn edition_of(sheet: &[u8]) -> Option<Edition>
-    requires { Request.core_size + Sheet.trailer_size ≤ length sheet.now }
-    ensures { result ≡ known newest (Check.edition_of sheet.now) }
-{
-    let at = sheet.len() - TRAILER;
-    known(u16::from_le_bytes(bytes_at(sheet, at + 8)))
-}
-
-// 32: the length is that of n angles, 8n is a u32, and the trailer is theirs.
-fn formed(e: Edition, sheet: &[u8], n: usize) -> bool
-    requires in_bounds { Request.core_size + Sheet.trailer_size ≤ length sheet.now }
-    requires n_value { n ≡ Check.count_of sheet.now }
-    requires n_bound { n < 2 ^ 32 }
-    ensures { result ≡ Check.formed e sheet.now }
-{
-    if sheet.len() != 8 * n + frame_size(e) {
-        return false;
-    }
-    if n >= ITEMS_BOUND {
-        return false;
-    }
-    let mut t = [0u8; TRAILER];
-    put_trailer(&mut t, 0, e, n);
-    same_at(sheet, sheet.len() - TRAILER, &t)
-}
-
-// 34 to 36.
-#[tactic(auto, unfolding(crate::specs::Promises::Plan::compared, crate::specs::Refusals::need))]
-fn compare(s: &[u8], view: View, work: &[f64], plan: Plan, n: usize) -> Result<usize, Fault>
-    requires { Promise.PlannedFor view.request.now plan work.now }
-    ensures { Check.answer_of result ≡ Promise.compared view.entry.request.now s.now n (length work.now) }
-{
-    if !unread_zero(view) {
-        return Err(Fault::Unread);
-    }
-    if is_short(plan) {
-        return Err(Fault::Work);
-    }
-    if !same_angles(s, work, plan) {
-        return Err(Fault::Angles);
-    }
-    Ok(n)
+    left.is_empty()
 }
 
 // 33 to 36, for the angles' bytes s and n angles.
@@ -121,34 +56,90 @@ fn check_request(
     };
     let view = View { request };
     let plan = plan_request(work, view, q);
-    compare(s, view, work, plan, n)
+    if !unread_zero(view) {
+        return Err(Fault::Unread);
+    }
+    let plan = plan.ok_or(Fault::Work)?;
+    if !same_angles(s, &Planned { work, plan }) {
+        return Err(Fault::Angles);
+    }
+    Ok(n)
 }
 
-// 32 to 36 of a sheet that says this edition.
-fn inspect_edition(e: Edition, sheet: &[u8], work: &mut [f64]) -> Result<usize, Fault>
-    requires { Request.core_size + Sheet.trailer_size ≤ length sheet.now }
-    ensures result_value { Check.answer_of result ≡ Check.by_edition e sheet.now (length work.old) }
-    ensures work_after { work.new ≡ Promise.work_by e sheet.now work.old }
-{
-    let n = count_of(sheet);
-    if !formed(e, sheet, n) {
-        return Err(Fault::Trailer);
+// The bytes of a sheet: a request of any edition and a trailer have room.
+#[derive(Clone, Copy)]
+struct Sheet<'a> {
+    bytes: &'a [u8],
+    ghost long: { Request.core_size + Sizes.trailer_size ≤ length bytes.now },
+}
+
+impl Sheet<'_> {
+    // The number of angles that the trailer says.
+    fn count(self) -> usize
+        ensures value { result ≡ Check.count_of self.entry.bytes.now }
+        ensures upper_bound { result < 2 ^ 32 }
+    {
+        let at = self.bytes.len() - TRAILER;
+        u32::from_le_bytes(bytes_at(self.bytes, at)) as usize
     }
-    let at = sheet.len() - frame_size(e);
-    let end = sheet.len() - TRAILER;
-    check_request(e, &sheet[..at], &sheet[at..end], work, n)
+
+    // The edition that the trailer says.
+    fn edition(self) -> Option<Edition>
+        ensures { result ≡ known newest (Check.edition_of self.entry.bytes.now) }
+    {
+        let at = self.bytes.len() - TRAILER;
+        known(u16::from_le_bytes(bytes_at(self.bytes, at + 8)))
+    }
+
+    // 32: the length is that of as many angles as the trailer says, their bytes are a u32, and the
+    // trailer is theirs.
+    #[tactic(auto, using(crate::proofs::check::Refused::trailer))]
+    fn formed(self, e: Edition) -> bool
+        ensures { result ≡ Check.formed e self.entry.bytes.now }
+    {
+        let n = self.count();
+        if self.bytes.len() != 8 * n + frame_size(e) {
+            return false;
+        }
+        if n >= ITEMS_BOUND {
+            return false;
+        }
+        self.bytes.ends_with(&trailer(e, n))
+    }
+
+    // 32 to 36 of a sheet that says this edition.
+    #[tactic(auto, using(crate::proofs::check::Refused::formed))]
+    fn inspect_edition(self, e: Edition, work: &mut [f64]) -> Result<usize, Fault>
+        ensures result_value { Check.answer_of result ≡ Check.by_edition e self.entry.bytes.now (length work.old) }
+        ensures work_after { work.new ≡ Promise.work_by e self.entry.bytes.now work.old }
+    {
+        if !self.formed(e) {
+            return Err(Fault::Trailer);
+        }
+        let at = self.bytes.len() - frame_size(e);
+        let end = self.bytes.len() - TRAILER;
+        check_request(
+            e,
+            &self.bytes[..at],
+            &self.bytes[at..end],
+            work,
+            self.count(),
+        )
+    }
 }
 
 // 31, and then by the edition that the trailer says; one that is not known is 32.
-fn inspect(sheet: &[u8], work: &mut [f64]) -> Result<usize, Fault>
-    ensures result_value { Check.answer_of result ≡ Check.answer newest sheet.now (length work.old) }
-    ensures work_after { work.new ≡ Promise.work_checked sheet.now work.old }
+#[tactic(auto, using(crate::proofs::check::Refused::edition))]
+fn inspect(bytes: &[u8], work: &mut [f64]) -> Result<usize, Fault>
+    ensures result_value { Check.answer_of result ≡ Check.answer newest bytes.now (length work.old) }
+    ensures work_after { work.new ≡ Promise.work_checked bytes.now work.old }
 {
-    if sheet.len() < LEAST {
+    if bytes.len() < LEAST {
         return Err(Fault::Length);
     }
-    let e = edition_of(sheet).ok_or(Fault::Trailer)?;
-    inspect_edition(e, sheet, work)
+    let sheet = Sheet { bytes };
+    let e = sheet.edition().ok_or(Fault::Trailer)?;
+    sheet.inspect_edition(e, work)
 }
 
 // Check: the number of angles, or the first refusal. After every answer each work place is +0.0.

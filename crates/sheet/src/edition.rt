@@ -20,7 +20,8 @@ impl Edition {
     }
 }
 
-// The edition that has a number, of all up to the newest, or none that is known.
+// The edition that has a number, of all up to the newest, or none that is known. `TryFrom` would want an
+// error that its one caller throws away.
 #[tactic(auto, unfolding(crate::specs::Edition::known, crate::specs::Edition::numbered))]
 pub(crate) fn known(k: u16) -> Option<Edition>
     ensures { result ≡ Editions.known Editions.newest k }

@@ -3,27 +3,15 @@ ghost use Rattle.std.specs.Prelude.{◌≡◌, length};
 ghost use Rattle.sampling.specs.Pose.{try_normalize};
 ghost use Rattle.sampling.specs.Promises.Plan as Plans;
 ghost use Rattle.sheet.specs.Fields as Fields;
-ghost use Rattle.sheet.specs.Promises.Plan as Promise;
 
 use crate::view::View;
 use sampling::lists::Plan;
 use sampling::plan::plan_of;
 use sampling::pose::{Quaternion, from_quat};
 
-// Whether there are too few work places.
-pub(crate) fn is_short(plan: Plan) -> bool
-    ensures { result ≡ Promise.is_short plan }
-{
-    match plan {
-        Plan::Short => true,
-        Plan::Lists(_) => false,
-        Plan::Halves(_) => false,
-    }
-}
-
 // Puts the cuts of a request, whose rotation is normalized to q, into work.
 #[tactic(auto, unfolding(crate::specs::Fields::matrix, crate::specs::Fields::matrix_by))]
-pub(crate) fn plan_request(work: &mut [f64], view: View, q: Quaternion) -> Plan
+pub(crate) fn plan_request(work: &mut [f64], view: View, q: Quaternion) -> Option<Plan>
     requires request_value { try_normalize (Fields.rotation_of view.request.now) ≡ Ok q }
     requires drawable { Plans.Drawable (Fields.job_of view.request.now) }
     ensures value { result ≡ Plans.plan (Fields.job_of view.entry.request.now) (length work.old) }

@@ -1,12 +1,11 @@
 // The request: where its fields stand, which of them are read, and the request with every unread
 // field zero.
-ghost use Rattle.std.specs.Prelude.{◌≡◌, ◌+◌, ◌≤◌, length, drop};
+ghost use Rattle.std.specs.Prelude.{◌≡◌, ◌≤◌, length, drop};
 ghost use Rattle.std.proofs.lemmas.List.Edits.{sets};
 ghost use Rattle.sheet.specs.Bytes as Bytes;
-ghost use Rattle.sheet.specs.Edition.{newest};
 ghost use Rattle.sheet.specs.Request as Request;
 
-use crate::bytes::{bytes_at, put};
+use crate::bytes::bytes_at;
 use crate::edition::Edition;
 use crate::view::View;
 use sampling::job::Kind;
@@ -60,7 +59,8 @@ pub(crate) fn request_size(e: Edition) -> usize
     }
 }
 
-// The shape of the three bytes, if each is right.
+// The shape of the three bytes, if each is right. An Option and no `TryFrom`, since what is read is asked
+// of an Option too.
 #[tactic(auto, unfolding(crate::specs::Request::shape_from, crate::specs::Request::shape_fixed, crate::specs::Request::shape_by))]
 pub(crate) fn shape_from(kind: u8, limits: u8, fixed: u8) -> Option<Shape>
     ensures { result ≡ Request.shape_from kind limits fixed }
@@ -144,46 +144,49 @@ pub(crate) fn place(f: Field, j: usize) -> usize
     }
 }
 
-// The first sixteen bytes of the request, each zero where it is not read, written from `at` on. What
-// is left to write then is what stands behind them.
-fn put_head(out: &mut [u8], at: usize, request: &[u8], s: Option<Shape>)
-    requires { (length request.now ≡ Request.request_size newest) × (at + Request.request_size newest ≤ length out.old) }
-    ensures { sets out.new (at + 16) (Request.blank_from s 16 (drop 16 request.now)) ≡
-        sets out.old at (Request.blank_from s 0 request.now) }
+// The first sixteen bytes of the request, each zero where it is not read. What is left to write then is
+// what stands behind them.
+fn put_head(out: &mut [u8], request: &[u8], s: Option<Shape>)
+    requires { (Request.core_size ≤ length request.now) × (length out.old ≡ length request.now) }
+    ensures { sets out.new 16 (Request.blank_from s 16 (drop 16 request.now)) ≡ sets out.old 0 (Request.blank_from s 0 request.now) }
 {
     for i in 0..ROTATION {
         let b = if byte_read(s, i) { request[i] } else { 0 };
-        out[at + i] = b;
+        out[i] = b;
     }
 }
 
-// The fields from the rotation on, eight bytes each, which are read or not together.
-fn put_fields(out: &mut [u8], at: usize, request: &[u8], s: Option<Shape>)
-    requires { (length request.now ≡ Request.request_size newest) × (at + Request.request_size newest ≤ length out.old) }
-    ensures { out.new ≡ sets out.old (at + 16) (Request.blank_from s 16 (drop 16 request.now)) }
+// The fields from the rotation to the name, eight bytes each, which are read or not together. What is
+// left to write then is the name.
+fn put_fields(out: &mut [u8], request: &[u8], s: Option<Shape>)
+    requires { (Request.core_size ≤ length request.now) × (length out.old ≡ length request.now) }
+    ensures { sets out.new 264 (Request.blank_from s 264 (drop 264 request.now)) ≡
+        sets out.old 16 (Request.blank_from s 16 (drop 16 request.now)) }
 {
-    for k in ROTATION / 8..REQUEST / 8 {
+    for k in ROTATION / 8..NAME / 8 {
         let i = 8 * k;
         let field = if byte_read(s, i) {
             bytes_at(request, i)
         } else {
             [0; 8]
         };
-        put(out, at + i, &field);
+        out[i..i + 8].copy_from_slice(&field);
     }
 }
 
-// The request with every unread field zero, written from `at` on.
-pub(crate) fn put_blank(out: &mut [u8], at: usize, view: View)
-    requires { (length view.request.now ≡ Request.request_size newest) × (at + Request.request_size newest ≤ length out.old) }
-    ensures { out.new ≡ sets out.old at (Request.blank view.entry.request.now) }
+// The request with every unread field zero.
+pub(crate) fn put_blank(out: &mut [u8], view: View)
+    requires { length out.old ≡ length view.request.now }
+    ensures { out.new ≡ Request.blank view.entry.request.now }
 {
     let s = view.shape();
-    put_head(out, at, view.request, s);
-    put_fields(out, at, view.request, s);
+    put_head(out, view.request, s);
+    put_fields(out, view.request, s);
+    out[NAME..].copy_from_slice(&view.request[NAME..]);
 }
 
 // Whether every unread field is zero: the request is its own blank.
+#[tactic(auto, using(crate::proofs::request::Steps::comparing))]
 pub(crate) fn unread_zero(view: View) -> bool
     ensures { result ≡ Bytes.same_bytes (Request.blank view.entry.request.now) view.entry.request.now }
 {

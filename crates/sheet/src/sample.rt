@@ -1,8 +1,7 @@
 // The operation Sampling: a request's sheet.
 ghost use Rattle.std.specs.Prelude.{◌≡◌, ◌++◌, ◌+◌, ◌*◌, ◌≤◌, length, leb};
-ghost use Rattle.std.proofs.lemmas.List.Edits.{sets};
 ghost use Rattle.sampling.specs.Promises.Stream.{start};
-ghost use Rattle.sampling.specs.Promises.Plan.{to_come, Ready};
+ghost use Rattle.sampling.specs.Promises.Plan.{to_come};
 ghost use Rattle.sheet.specs.Bytes as Bytes;
 ghost use Rattle.sheet.specs.Promises.Floats as Floats;
 ghost use Rattle.sheet.specs.Edition.{newest};
@@ -14,65 +13,59 @@ ghost use Rattle.sheet.specs.Promises.Plan as Promise;
 use crate::angles::put_lists;
 use crate::bytes::put_float;
 use crate::edition::Edition;
-use crate::plan::{is_short, plan_request};
+use crate::plan::plan_request;
 use crate::refusals::Refusal;
 use crate::request::{REQUEST, put_blank};
-use crate::trailer::{FRAME, put_trailer};
+use crate::trailer::{FRAME, trailer};
 use crate::validate::validate;
 use crate::view::View;
 use sampling::lists::Plan;
-use sampling::plan::{count, next, start};
+use sampling::plan::Planned;
 use sampling::work::clear;
 
-// The angles as `next` gives them, from the start of the output on.
-fn put_stream(output: &mut [u8], work: &[f64], plan: Plan)
-    requires ready { Ready plan work.now }
-    requires start_in_bounds { 8 * length (to_come plan work.now start) ≤ length output.old }
-    ensures { output.new ≡ sets output.old 0 (Floats.floats_bytes (to_come plan work.now start)) }
+// The angles, one after the other.
+fn put_angles(output: &mut [u8], planned: &Planned)
+    requires { length output.old ≡ 8 * length (to_come planned.now.plan planned.now.work.now start) }
+    ensures { output.new ≡ Floats.floats_bytes (to_come planned.now.plan planned.now.work.now start) }
 {
-    let mut c = start();
-    let mut at = 0usize;
-    loop {
-        let s = next(work, plan, c);
-        match s {
-            None => {
-                return;
-            }
-            Some((y, d)) => {
-                put_float(output, at, y);
-                at += 8;
-                c = d;
-            }
-        }
+    if let Plan::Lists(n) = planned.plan {
+        put_lists(output, planned.work, n);
+        return;
+    }
+    put_stream(output, planned);
+}
+
+// The same, as they come one at a time.
+fn put_stream(output: &mut [u8], planned: &Planned)
+    requires { length output.old ≡ 8 * length (to_come planned.now.plan planned.now.work.now start) }
+    ensures { output.new ≡ Floats.floats_bytes (to_come planned.now.plan planned.now.work.now start) }
+{
+    for (i, y) in planned.angles().enumerate() {
+        put_float(&mut output[8 * i..8 * i + 8], y);
     }
 }
 
-// The angles, one after the other, from the start of the output on.
-fn put_angles(output: &mut [u8], work: &[f64], plan: Plan)
-    requires ready { Ready plan work.now }
-    requires start_in_bounds { 8 * length (to_come plan work.now start) ≤ length output.old }
-    ensures { output.new ≡ sets output.old 0 (Floats.floats_bytes (to_come plan work.now start)) }
-{
-    if let Plan::Lists(n) = plan {
-        put_lists(output, work, n);
-        return;
-    }
-    put_stream(output, work, plan);
+// A request of the newest edition that passed its tests, and its plan.
+#[derive(Clone, Copy)]
+struct Draft<'a, 'b> {
+    view: View<'a>,
+    planned: Planned<'b>,
+    ghost newest: { length view.request.now ≡ Request.request_size newest },
+    ghost own: { Promise.PlannedFor view.request.now planned.plan planned.work.now },
 }
 
 // The sheet: the n angles, the blanked request, the trailer.
-fn fill(output: &mut [u8], view: View, work: &[f64], plan: Plan, n: usize)
-    requires request_len { length view.request.now ≡ Request.request_size newest }
-    requires ready { Ready plan work.now }
-    requires n_value { n ≡ length (to_come plan work.now start) }
-    requires n_in_bounds { Sheet.sheet_size newest n ≤ length output.old }
-    ensures { output.new ≡
-        sets output.old 0 (Floats.floats_bytes (to_come plan work.now start)
-        ++ (Request.blank view.entry.request.now ++ Sheet.trailer newest n)) }
+#[tactic(auto, using(crate::specs::Laws::Plan::found_items, crate::specs::Laws::Plan::found_count), unfolding(crate::specs::Sampling::sheet))]
+fn fill(output: &mut [u8], draft: &Draft, n: usize)
+    requires n_value { n ≡ length (to_come draft.now.planned.plan draft.now.planned.work.now start) }
+    requires size { length output.old ≡ Sheet.sheet_size newest n }
+    ensures { output.new ≡ Sampling.sheet newest draft.now.view.request.now }
 {
-    put_angles(output, work, plan);
-    put_blank(output, 8 * n, view);
-    put_trailer(output, 8 * n + REQUEST, Edition::NEWEST, n);
+    let (items, others) = output.split_at_mut(8 * n);
+    let (request, last) = others.split_at_mut(REQUEST);
+    put_angles(items, &draft.planned);
+    put_blank(request, draft.view);
+    last.copy_from_slice(&trailer(Edition::NEWEST, n));
 }
 
 // Whether a sheet with n angles has room.
@@ -88,19 +81,16 @@ fn has_room(n: usize, room: usize) -> bool
     false
 }
 
-// 10 and 11, and else the sheet.
-fn finish(output: &mut [u8], view: View, work: &[f64], plan: Plan) -> Result<usize, Refusal>
-    requires request_len { length view.request.now ≡ Request.request_size newest }
-    requires planned_for { Promise.PlannedFor view.request.now plan work.now }
-    ensures result_value { Sampling.answer_of result ≡ Promise.planned_answer view.entry.request.now (length work.now) (length output.old) }
-    ensures output_after { output.new ≡ Sampling.output_after (Sampling.answer_of result) view.entry.request.now output.old }
+// 11, and else the sheet.
+#[tactic(auto, using(crate::specs::Laws::Plan::fits_yes, crate::specs::Laws::Plan::found_count), unfolding(crate::specs::Promises::Plan::planned_answer, crate::specs::Refusals::need))]
+fn finish(output: &mut [u8], draft: &Draft) -> Result<usize, Refusal>
+    ensures result_value { Sampling.answer_of result ≡
+        Promise.planned_answer draft.now.view.request.now (length draft.now.planned.work.now) (length output.old) }
+    ensures output_after { output.new ≡ Sampling.output_after (Sampling.answer_of result) draft.now.view.request.now output.old }
 {
-    if is_short(plan) {
-        return Err(Refusal::Work);
-    }
-    let n = count(work, plan);
+    let n = draft.planned.count();
     if has_room(n, output.len()) {
-        fill(output, view, work, plan, n);
+        fill(&mut output[..8 * n + FRAME], draft, n);
         return Ok(n);
     }
     Err(Refusal::Output)
@@ -113,8 +103,9 @@ fn run(request: &[u8], work: &mut [f64], output: &mut [u8]) -> Result<usize, Ref
 {
     let q = validate(Edition::NEWEST, request)?;
     let view = View { request };
-    let plan = plan_request(work, view, q);
-    finish(output, view, work, plan)
+    let plan = plan_request(work, view, q).ok_or(Refusal::Work)?;
+    let planned = Planned { work, plan };
+    finish(output, &Draft { view, planned })
 }
 
 // Sampling: the number of angles, or the first refusal. Success fills the first bytes of the output with the sheet; a refusal leaves it. After

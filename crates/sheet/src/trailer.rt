@@ -1,9 +1,7 @@
 // The sizes of a sheet, and its trailer, which points back.
-ghost use Rattle.std.specs.Prelude.{◌≡◌, ◌+◌, ◌^◌, ◌<◌, ◌≤◌, length};
-ghost use Rattle.std.proofs.lemmas.List.Edits.{sets};
+ghost use Rattle.std.specs.Prelude.{◌≡◌, ◌^◌, ◌<◌};
 ghost use Rattle.sheet.specs.Sheet as Sheet;
 
-use crate::bytes::put;
 use crate::edition::Edition;
 use crate::request::{CORE, REQUEST, request_size};
 
@@ -26,15 +24,17 @@ pub(crate) fn frame_size(e: Edition) -> usize
     request_size(e) + TRAILER
 }
 
-// The number of items n, the request's position 8n, the edition and six zeros, written from `at`
-// on. For n below 2^60, 8n is a u64.
-pub(crate) fn put_trailer(out: &mut [u8], at: usize, e: Edition, n: usize)
-    requires { (at + Sheet.trailer_size ≤ length out.old) × (n < 2 ^ 60) }
-    ensures { out.new ≡ sets out.old at (Sheet.trailer e n) }
+// The trailer: the number of items n, the request's position 8n, the edition and six zeros. For n below
+// 2^60, 8n is a u64.
+#[tactic(auto, using(crate::specs::Laws::Bytes::to_le, crate::proofs::bytes::Same::four_bytes), unfolding(crate::specs::Bytes::bytes, crate::specs::Sheet::trailer))]
+pub(crate) fn trailer(e: Edition, n: usize) -> [u8; TRAILER]
+    requires { n < 2 ^ 60 }
+    ensures { result ≡ Sheet.trailer e n }
 {
     let n = n as u64;
-    put(out, at, &n.to_le_bytes()[..4]);
-    put(out, at + 4, &(8 * n).to_le_bytes()[..4]);
-    put(out, at + 8, &e.number().to_le_bytes());
-    put(out, at + 10, &[0; 6]);
+    let mut t = [0; TRAILER];
+    t[..4].copy_from_slice(&n.to_le_bytes()[..4]);
+    t[4..8].copy_from_slice(&(8 * n).to_le_bytes()[..4]);
+    t[8..10].copy_from_slice(&e.number().to_le_bytes());
+    t
 }

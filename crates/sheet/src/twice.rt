@@ -8,6 +8,7 @@ use crate::refusals::Refusal;
 use crate::sample::sample;
 
 // Two requests, r and s, with work v and w and outputs x and y, one after the other.
+#[tactic(auto, using(crate::specs::Laws::Demands::together))]
 pub fn twice(
     r: &[u8],
     s: &[u8],

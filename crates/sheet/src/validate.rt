@@ -38,6 +38,7 @@ fn is_character(b: u8) -> bool
 }
 
 // Whether a name is characters, then zeros to the end.
+#[tactic(auto, using(crate::proofs::validate::Names::reading))]
 fn is_name(name: &[u8]) -> bool
     ensures { result ≡ Validate.is_name name.now }
 {
@@ -50,7 +51,7 @@ fn is_name(name: &[u8]) -> bool
 }
 
 // 41: the name. A request of edition 1 ends before it.
-#[tactic(auto, unfolding(crate::specs::Validate::name_right))]
+#[tactic(auto, using(crate::proofs::validate::Names::name_behind))]
 fn name_right(view: View) -> bool
     ensures { result ≡ Validate.name_right view.entry.request.now }
 {
@@ -71,6 +72,7 @@ fn sign_right(s: Option<Shape>, view: View, j: usize) -> bool
 }
 
 // 3: a read sign is 1 or 255.
+#[tactic(auto, using(crate::proofs::validate::Steps::tests), unfolding(crate::specs::Validate::signs_right))]
 fn signs_right(view: View) -> bool
     ensures { result ≡ Validate.signs_right view.entry.request.now }
 {
@@ -92,7 +94,7 @@ fn within(bound: f64, x: f64) -> bool
 }
 
 // What a class of fields asks of a float.
-#[tactic(auto, unfolding(crate::specs::Validate::passes))]
+#[tactic(auto, unfolding(crate::specs::Validate::passes, crate::proofs::Literals::of_bits))]
 fn passes(f: Field, x: f64) -> bool
     ensures { result ≡ Validate.passes f x }
 {
@@ -118,6 +120,7 @@ fn field_right(s: Option<Shape>, f: Field, view: View, j: usize) -> bool
 }
 
 // Whether the read fields of a class, of which there are n, pass.
+#[tactic(auto, using(crate::proofs::validate::Steps::tests))]
 fn fields_right(f: Field, view: View, n: usize) -> bool
     requires { n ≤ 6 }
     ensures { result ≡ Validate.all_from n 1 (Validate.field_right (Request.shape_of view.entry.request.now) f view.entry.request.now) }

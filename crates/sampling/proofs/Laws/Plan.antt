@@ -1,12 +1,14 @@
 -- Laws of a job's plan, for upper crates: where it is laid, the angles that are read off work are the job's, and
 -- they depend on its front alone; how many samples three lists give; a step is the next of them.
-use Rattle.std.specs.Prelude.{None, Some, ◌≡◌, Bool, not, ℕ, zero, suc, ◌+◌, ◌≤◌, ◌<◌, T, leb, ltb, take, drop, get_or, Float}
+use Rattle.std.specs.Prelude.{Option, None, Some, ◌≡◌, Bool, not, ℕ, zero, suc, ◌+◌, ◌≤◌, ◌<◌, T, leb, take, drop, get_or, slice_get, Float}
 use Rattle.std.proofs.Math.Path.{refl}
-use Rattle.std.proofs.Common.{sym, ap, ap₂, subst, ◌∙◌, add-zero, zero-add, suc-add, add-one, arith, le-leb, ltb-true, ltb-false, length-append}
+use Rattle.std.proofs.Common.{sym, ap, ap₂, subst, ◌∙◌, add-zero, zero-add, suc-add, add-one, arith, length-append}
 use Rattle.std.proofs.Common.{length-drop, drop_of_length-le, length-take-le, drop-cons, take_at, drop_at, take-take}
 use Rattle.std.proofs.Math.Bool.{true, false, cond}
 use mathlib.Core.List.{List, [], ◌∷◌, ◌++◌, append_assoc}
 use Rattle.std.proofs.Math.ListN.{length}
+use Rattle.std.specs.Option.{option_map}
+use Rattle.std.proofs.lemmas.Option.{none-some, slice_get_within, get_or_from_slice_get}
 use Rattle.std.specs.Float.{nan, binary64}
 use Rattle.std.specs.Float.Ieee.{fits, is_nan}
 use Rattle.std.specs.Float.Ieee.Fits.{add-fits}
@@ -19,7 +21,7 @@ use Rattle.sampling.specs.J1j2free as J1j2free
 use Rattle.sampling.specs.Angles.{first_free, second_free, by_kind, angles, cut_count}
 use Rattle.sampling.specs.Promises.Charts.{Charted}
 use Rattle.sampling.specs.Promises.Stream.{Step, distinct, start, next, Woven, Steps}
-use Rattle.sampling.specs.Promises.Plan.{Moderate, lists_of, halves_of, free_plan, folded_plan, laid, free_cuts, folded_cuts, all_cuts, granted, plan}
+use Rattle.sampling.specs.Promises.Plan.{Moderate, lists_of, halves_of, free_plan, folded_plan, laid, free_cuts, folded_cuts, all_cuts, plan}
 use Rattle.sampling.specs.Promises.Plan.{by_plan, filled, zeros, where_laid, work_after, all_samples, to_come, Ready, sample_step, step, Gives}
 use Rattle.sampling.proofs.Laws.Charts.{moderate_drawable}
 use Rattle.sampling.proofs.Laws.Samples.{samples_length}
@@ -92,30 +94,17 @@ three_parts a b c rest =
 
 -- of the plan l of so many cuts, in work w
 record Drawn (count : ℕ) (l : Plan) (cuts s w : List Float) : Type 0 where
-  ready : Ready (granted count l (length w)) (where_laid (granted count l (length w)) (cuts ++ drop count w) (zeros (length w)))
-  yields : count ≤ length w
-      → to_come (granted count l (length w)) (where_laid (granted count l (length w)) (cuts ++ drop count w) (zeros (length w))) start ≡ s
-
-module _ (count : ℕ) (l : Plan) (cuts s w : List Float) (ready : Ready l (cuts ++ drop count w)) (yields : to_come l (cuts ++ drop count w) start ≡ s)
-    (same : (x y : List Float) → where_laid l x y ≡ x) where
-  drawn : Drawn count l cuts s w
-  drawn =
-      record {
-        ready = go (leb count (length w));
-        yields = λ h. rw (le-leb count (length w) h, same (cuts ++ drop count w) (zeros (length w))) yields;
-      }
-    where
-      go : (t : Bool) → Ready (cond t l of.Short) (where_laid (cond t l of.Short) (cuts ++ drop count w) (zeros (length w)))
-      go false = tt
-      go true = rw (same (cuts ++ drop count w) (zeros (length w))) ready
+  ready : Ready l (cuts ++ drop count w)
+  yields : to_come l (cuts ++ drop count w) start ≡ s
 
 three_drawn : (a b c w : List Float) → Drawn (length a + length b + length c) (lists_of a b c) ((a ++ b) ++ c) (three_samples a b c) w
 three_drawn a b c w =
     let count = length a + length b + length c in
     let cuts = (a ++ b) ++ c in
-    drawn count (lists_of a b c) cuts (three_samples a b c) w
-    (omega (arith, length-append cuts (drop count w), length-append (a ++ b) c, length-append a b))
-    (three_parts a b c (drop count w)) (λ x y. refl)
+    record {
+      ready = omega (arith, length-append cuts (drop count w), length-append (a ++ b) c, length-append a b);
+      yields = three_parts a b c (drop count w);
+    }
 
 -- ---- two free joints
 
@@ -161,15 +150,43 @@ two_drawn t lower upper w h =
     let b = J1j2free.second_half t lower upper in
     let count = length a + length b in
     let parts = split a b (drop count w) in
-    drawn count (halves_of t.reference a b) (a ++ b) (slices t.reference lower upper a b) w
-    (record {
-      room = omega (arith, length-append (a ++ b) (drop count w), length-append a b);
-      first = subst Woven (sym parts.0) h.first;
-      second = subst Woven (sym parts.1) h.second;
-      number = h.number;
-      fit = h.fit;
-    })
-    (ap₂ (λ (x y : List Float). distinct x y t.reference start) parts.0 parts.1 ∙ h.same) (λ x y. refl)
+    record {
+      ready =
+          record {
+            room = omega (arith, length-append (a ++ b) (drop count w), length-append a b);
+            first = subst Woven (sym parts.0) h.first;
+            second = subst Woven (sym parts.1) h.second;
+            number = h.number;
+            fit = h.fit;
+          };
+      yields = ap₂ (λ (x y : List Float). distinct x y t.reference start) parts.0 parts.1 ∙ h.same;
+    }
+
+-- ---- what came of the cuts
+
+-- THEOREM: There is a plan where there are places for the cuts.
+pub plan_by : {A : Type 0} (short found : A) (job : Job) (places : ℕ) → by_plan (plan job places) short found ≡ cond (leb (cut_count job) places) found short
+unfolding plan
+plan_by short found job places = go (leb (cut_count job) places)
+  where
+    go : (t : Bool) → by_plan (cond t (Some (laid job)) None) short found ≡ cond t found short
+    go false = refl
+    go true = refl
+
+same_plan : {p q : Plan} → ◌≡◌ {A = Option Plan} (Some p) (Some q) → q ≡ p
+same_plan e = cc
+
+-- it is `laid`, and work holds the cuts
+laid_of : (job : Job) (w : List Float) (p : Plan) → plan job (length w) ≡ Some p
+    → (p ≡ laid job) × (work_after job w ≡ all_cuts job ++ drop (cut_count job) w)
+unfolding plan work_after
+laid_of job w p e = go (leb (cut_count job) (length w)) e
+  where
+    go : (t : Bool) → cond t (Some (laid job)) None ≡ Some p
+        → (p ≡ laid job)
+        × (where_laid (cond t (Some (laid job)) None) (all_cuts job ++ drop (cut_count job) w) (zeros (length w)) ≡ all_cuts job ++ drop (cut_count job) w)
+    go false e = absurd (none-some p e)
+    go true e = (same_plan e, refl)
 
 -- ---- by the kind
 
@@ -213,43 +230,14 @@ module _ (w : List Float) where
     unfolding cut_count laid all_cuts angles
     job_drawn = by_drawn job.kind refl
 
-    -- THEOREM: Whatever came of the cuts, `next` can be asked.
-    pub plan_ready : Ready (plan job (length w)) (work_after job w)
-    unfolding plan work_after
-    plan_ready = job_drawn.ready
+    module _ (p : Plan) (e : plan job (length w) ≡ Some p) where
+      -- THEOREM: Where there is a plan, its angles can be asked one by one.
+      pub plan_ready : Ready p (work_after job w)
+      plan_ready = let h = laid_of job w p e in rw (h.0, h.1) job_drawn.ready
 
-    -- THEOREM: Where there are places, the angles read off work are the job's.
-    pub plan_yields : cut_count job ≤ length w → to_come (plan job (length w)) (work_after job w) start ≡ angles job
-    unfolding plan work_after
-    plan_yields = job_drawn.yields
-
--- ---- what came of the cuts
-
-module _ {A : Type 0} (short found : A) where
-  laid_by : (job : Job) → by_plan (laid job) short found ≡ found
-  unfolding laid free_plan folded_plan
-  laid_by job = go job.kind
-    where
-      both : (t : Folded) (g : Range)
-          → by_plan (J1j2free.on_interval g (lists_of [] [] [])
-          (λ lower upper. halves_of t.reference (J1j2free.first_half t lower upper) (J1j2free.second_half t lower upper)))
-          short found ≡ found
-      both t None = refl
-      both t (Some (lower, upper)) = refl
-
-      go : (k : Kind)
-          → by_plan (by_kind k (free_plan (first_free job)) (free_plan (second_free job)) (folded_plan (J1j2free.folded job))) short found ≡ found
-      go J1free = refl
-      go J2free = refl
-      go J1j2free = both (J1j2free.folded job) (J1j2free.folded job).range1
-
-  pub plan_by : (job : Job) (places : ℕ) → by_plan (plan job places) short found ≡ cond (leb (cut_count job) places) found short
-  unfolding plan
-  plan_by job places = go (leb (cut_count job) places)
-    where
-      go : (t : Bool) → by_plan (cond t (laid job) of.Short) short found ≡ cond t found short
-      go false = refl
-      go true = laid_by job
+      -- THEOREM: The angles read off work are the job's.
+      pub plan_yields : to_come p (work_after job w) start ≡ angles job
+      plan_yields = let h = laid_of job w p e in rw (h.0, h.1) job_drawn.yields
 
 -- ---- how many places the cuts take
 
@@ -278,9 +266,13 @@ laid_filled job = go job.kind
     go J2free = free_filled (second_free job)
     go J1j2free = folded_filled (J1j2free.folded job)
 
-pub plan_filled : (job : Job) (places : ℕ) → cut_count job ≤ places → filled (plan job places) ≡ cut_count job
+pub plan_filled : (job : Job) (places : ℕ) (p : Plan) → plan job places ≡ Some p → filled p ≡ cut_count job
 unfolding plan
-plan_filled job places room = rw (le-leb (cut_count job) places room) (laid_filled job)
+plan_filled job places p e = go (leb (cut_count job) places) e
+  where
+    go : (t : Bool) → cond t (Some (laid job)) None ≡ Some p → filled p ≡ cut_count job
+    go false e = absurd (none-some p e)
+    go true e = ap filled (same_plan e) ∙ laid_filled job
 
 -- ---- the front alone counts
 
@@ -296,7 +288,6 @@ part_front n m k w h =
     sym (drop_take n m (take k w)) ∙ ap (drop n) (take-take (n + m) k w h) ∙ drop_take n m w
 
 pub to_come_front : (p : Plan) (w : List Float) (c : Cursor) → to_come p w c ≡ to_come p (take (filled p) w) c
-to_come_front of.Short w c = refl
 to_come_front (of.Lists n) w c =
     let k = n.first + n.second + n.third in
     let a = take-take n.first k w (omega arith) in
@@ -311,19 +302,25 @@ to_come_front (of.Halves h) w c =
 
 -- ---- a step
 
+slice_get_none : (l : List Float) (i : ℕ) → slice_get l i ≡ None → length l ≤ i
+slice_get_none [] i e = omega arith
+slice_get_none (x ∷ l) zero e = absurd (none-some x (sym e))
+slice_get_none (x ∷ l) (suc i) e = let h = slice_get_none l i e in omega (arith, h)
+
 sample_gives : (n : Lists) (w : List Float) (c : Cursor) → Gives (drop c.i (all_samples n w)) (λ d. drop d.i (all_samples n w)) (sample_step n w c)
 unfolding sample_step
-sample_gives n w c = go (ltb c.i (length (all_samples n w))) refl
+sample_gives n w c = go (slice_get (all_samples n w) c.i) refl
   where
-    go : (b : Bool) → ltb c.i (length (all_samples n w)) ≡ b
+    go : (s : Option Float) → slice_get (all_samples n w) c.i ≡ s
         → Gives (drop c.i (all_samples n w)) (λ d. drop d.i (all_samples n w))
-        (cond b (Some (get_or (all_samples n w) c.i nan, record { i = c.i + 1; j = c.j; used = c.used; last = c.last })) None)
-    go true e = step_here (all_samples n w) c.i (ltb-true c.i (length (all_samples n w)) e)
-    go false e = drop_of_length-le (all_samples n w) (ltb-false c.i (length (all_samples n w)) e)
+        (option_map (λ y. (y, record { i = c.i + 1; j = c.j; used = c.used; last = c.last })) s)
+    go (Some y) e =
+        step_here (all_samples n w) c.i (slice_get_within (all_samples n w) c.i y e)
+        ∙ ap (λ (x : Float). x ∷ drop (c.i + 1) (all_samples n w)) (get_or_from_slice_get (all_samples n w) c.i y nan e)
+    go None e = drop_of_length-le (all_samples n w) (slice_get_none (all_samples n w) c.i e)
 
 -- THEOREM: A step gives the first of what is to come, and leaves the rest.
 pub step_gives : (p : Plan) (w : List Float) (c : Cursor) → Ready p w → Gives (to_come p w c) (to_come p w) (step p w c)
-step_gives of.Short w c g = refl
 step_gives (of.Lists n) w c g = sample_gives n w c
 step_gives (of.Halves h) w c g =
     let a = take h.first w in

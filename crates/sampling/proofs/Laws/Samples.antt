@@ -1,9 +1,10 @@
 -- Laws of a free joint's samples: angles and roots one by one, and which sample stands at which position.
-use Rattle.std.specs.Prelude.{ℕ, zero, suc, ◌+◌, ◌-◌, ◌*◌, ◌<◌, ◌≤◌, ◌≡◌, refl, List, [], ◌∷◌, ◌++◌, take, Float}
+use Rattle.std.specs.Prelude.{Some, None, slice_get, ℕ, zero, suc, ◌+◌, ◌-◌, ◌*◌, ◌/◌, ◌%◌, ◌<◌, ◌≤◌, ◌≡◌, refl, List, [], ◌∷◌, ◌++◌, take, Float}
 use Rattle.std.proofs.Common.{add-one, arith, sym, ◌∙◌, append_assoc, append-nil, take-suc}
 use Rattle.std.proofs.Math.Path.{ap}
-use Rattle.std.proofs.Math.ListN.{length, drop, drop_of_length-le, get_or, length-append, get_or-append, get_or-eq_default}
-use Rattle.std.proofs.Math.Seq.{slice, slice-cons, slice_empty, drop-cons, get_or-append-add}
+use Rattle.std.proofs.Math.ListN.{length, drop, drop_of_length-le, get_or, length-append, get_or-append}
+use Rattle.std.proofs.Math.Seq.{slice, slice-cons, slice_empty, drop-cons}
+use Rattle.std.proofs.lemmas.Option.{slice_get_past, slice_get-get_or}
 use Rattle.std.specs.Float.Ieee.{nan}
 use Rattle.sampling.specs.Samples.{copies, all_copies, windings, all_windings, between, all_between, samples, sample_count, three_samples}
 
@@ -77,22 +78,39 @@ between_here (x ∷ (y ∷ l)) (suc k) j h b =
     let e : 3 * suc k + j ≡ suc (suc (suc (3 * k + j))) = omega arith in
     ap (λ (m : ℕ). get_or (between x y ++ all_between (y ∷ l)) m nan) e ∙ between_here (y ∷ l) k j (omega (arith, h)) b
 
-pub sample_cut : (l : List Float) (i : ℕ) → i < length l → get_or (samples l) i nan ≡ get_or l i nan
-unfolding samples
-sample_cut l i h = get_or-append l (all_between l) nan i h
+get_left : (a b : List Float) (i : ℕ) → i < length a → slice_get (a ++ b) i ≡ slice_get a i
+get_left a b i h =
+    let within : i < length (a ++ b) = omega (arith, length-append a b, h) in
+    slice_get-get_or (a ++ b) i nan within ∙ ap Some (get_or-append a b nan i h) ∙ sym (slice_get-get_or a i nan h)
 
-behind_cuts : (l : List Float) (i m : ℕ) → i ≡ length l + m → get_or (samples l) i nan ≡ get_or (all_between l) m nan
+get_right : (a b : List Float) (i j : ℕ) → i ≡ length a + j → slice_get (a ++ b) i ≡ slice_get b j
+get_right [] b i j e = ap (slice_get b) (omega (arith, e))
+get_right (x ∷ a) b zero j e = absurd (omega (arith, e))
+get_right (x ∷ a) b (suc i) j e = get_right a b i j (omega (arith, e))
+
+pub sample_cut : (l : List Float) (i : ℕ) → i < length l → slice_get (samples l) i ≡ Some (get_or l i nan)
 unfolding samples
-behind_cuts l i m e = ap (λ (z : ℕ). get_or (l ++ all_between l) z nan) e ∙ get_or-append-add l (all_between l) m nan
+sample_cut l i h = get_left l (all_between l) i h ∙ slice_get-get_or l i nan h
+
+behind_cuts : (l : List Float) (i m : ℕ) → i ≡ length l + m → slice_get (samples l) i ≡ slice_get (all_between l) m
+unfolding samples
+behind_cuts l i m e = get_right l (all_between l) i m e
 
 pub sample_between : (l : List Float) (i k j : ℕ) → i ≡ length l + (3 * k + j) → k + 1 < length l → j < 3
-    → get_or (samples l) i nan ≡ get_or (between (get_or l k nan) (get_or l (k + 1) nan)) j nan
-sample_between l i k j e h b = behind_cuts l i (3 * k + j) e ∙ rw add-one (between_here l k j (omega (arith, h)) b)
+    → slice_get (samples l) i ≡ Some (get_or (between (get_or l k nan) (get_or l (k + 1) nan)) j nan)
+sample_between l i k j e h b =
+    behind_cuts l i (3 * k + j) e
+    ∙ slice_get-get_or (all_between l) (3 * k + j) nan (omega (arith, between_length l, h, b))
+    ∙ ap Some (rw add-one (between_here l k j (omega (arith, h)) b))
 
-pub sample_behind : (l : List Float) (i k j : ℕ) → i ≡ length l + (3 * k + j) → length l ≤ k + 1 → get_or (samples l) i nan ≡ nan
+pub sample_behind : (l : List Float) (i k j : ℕ) → i ≡ length l + (3 * k + j) → length l ≤ k + 1 → slice_get (samples l) i ≡ None
 sample_behind l i k j e h =
     let q : length (all_between l) ≤ 3 * k + j = omega (arith, between_length l, h) in
-    behind_cuts l i (3 * k + j) e ∙ get_or-eq_default (all_between l) nan {n = 3 * k + j} q
+    behind_cuts l i (3 * k + j) e ∙ slice_get_past (all_between l) (3 * k + j) q
+
+-- the same of the position alone
+pub sample_none : (l : List Float) (i : ℕ) → length l ≤ i → length l ≤ (i - length l) / 3 + 1 → slice_get (samples l) i ≡ None
+sample_none l i h k = let m = i - length l in sample_behind l i (m / 3) (m % 3) (omega (arith, h)) k
 
 -- ---- how many
 
@@ -111,24 +129,22 @@ samples_length l = omega (arith, length-append l (all_between l), between_length
 
 -- by position: the first list's samples, the second's behind them, the third's behind those
 module _ (a b c : List Float) (i : ℕ) where
-  pub three_first : i < sample_count (length a) → get_or (three_samples a b c) i nan ≡ get_or (samples a) i nan
+  pub three_first : i < sample_count (length a) → slice_get (three_samples a b c) i ≡ slice_get (samples a) i
   unfolding three_samples
   three_first h =
       let p : i < length (samples a) = omega (arith, samples_length a, h) in
       let q : i < length (samples a ++ samples b) = omega (arith, length-append (samples a) (samples b), p) in
-      get_or-append (samples a ++ samples b) (samples c) nan i q ∙ get_or-append (samples a) (samples b) nan i p
+      get_left (samples a ++ samples b) (samples c) i q ∙ get_left (samples a) (samples b) i p
 
-  pub three_second : (j : ℕ) → i ≡ sample_count (length a) + j → j < sample_count (length b) → get_or (three_samples a b c) i nan ≡ get_or (samples b) j nan
+  pub three_second : (j : ℕ) → i ≡ sample_count (length a) + j → j < sample_count (length b) → slice_get (three_samples a b c) i ≡ slice_get (samples b) j
   unfolding three_samples
   three_second j e h =
       let p : i ≡ length (samples a) + j = omega (arith, samples_length a, e) in
       let q : i < length (samples a ++ samples b) = omega (arith, length-append (samples a) (samples b), p, samples_length b, h) in
-      get_or-append (samples a ++ samples b) (samples c) nan i q
-      ∙ ap (λ (m : ℕ). get_or (samples a ++ samples b) m nan) p
-      ∙ get_or-append-add (samples a) (samples b) j nan
+      get_left (samples a ++ samples b) (samples c) i q ∙ get_right (samples a) (samples b) i j p
 
-  pub three_third : (j : ℕ) → i ≡ sample_count (length a) + sample_count (length b) + j → get_or (three_samples a b c) i nan ≡ get_or (samples c) j nan
+  pub three_third : (j : ℕ) → i ≡ sample_count (length a) + sample_count (length b) + j → slice_get (three_samples a b c) i ≡ slice_get (samples c) j
   unfolding three_samples
   three_third j e =
       let p : i ≡ length (samples a ++ samples b) + j = omega (arith, length-append (samples a) (samples b), samples_length a, samples_length b, e) in
-      ap (λ (m : ℕ). get_or ((samples a ++ samples b) ++ samples c) m nan) p ∙ get_or-append-add (samples a ++ samples b) (samples c) j nan
+      get_right (samples a ++ samples b) (samples c) i j p

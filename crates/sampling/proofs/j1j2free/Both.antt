@@ -1,9 +1,9 @@
 -- Both halves' lists, one after the other in the front of a slice, by what `half_cuts` says of each.
-use Rattle.std.specs.Prelude.{Option, Some, None}
+use Rattle.std.specs.Prelude.{Option, Some, None, IfSome}
 use Prim.Native.Nat.{ℕ, ◌+◌, ◌-◌, ◌≤◌, ◌<◌}
 use native.Mathlib.Omega.{arith}
 use mathlib.Core.Path.{◌≡◌, refl, sym, ap, subst, ◌∙◌}
-use mathlib.Core.List.{List, [], ◌++◌, append_assoc}
+use mathlib.Core.List.{List, ◌++◌, append_assoc}
 use lib.Dec.{T}
 use lib.ListN.{length, take, drop, length-drop}
 use lib.Seq.{take_at, drop_at, drop-drop}
@@ -18,7 +18,7 @@ use Rattle.polynomial.specs.Laws.Lists.{tail_part, tail_post}
 use Rattle.polynomial.specs.declared.curve.Curve.{Curve}
 use Rattle.sampling.specs.J1j2free.{curves, bends, first_half, second_half}
 use Rattle.sampling.specs.Promises.Halves.{half_values, start, both}
-use Rattle.sampling.specs.Promises.Plan.{halves_of, granted, where_laid}
+use Rattle.sampling.specs.Promises.Plan.{halves_of, granted}
 use Rattle.sampling.proofs.Laws.J1j2free.{half_cuts_are}
 use Rattle.sampling.specs.declared.j1j2free.Folded.{Folded}
 use Rattle.sampling.specs.declared.lists.Plan.{Plan}
@@ -50,7 +50,7 @@ module _ (r : Float) (a b w v u : List Float) where
       rw (lt-leb count (length w) e)
 
   lists : (s t : Option ℕ) → Kept a w v s → Kept b (drop (start s (length v)) v) u t
-      → where_laid (both r s t) (take (start s (length v)) v ++ u) [] ≡ where_laid (both r s t) ((cuts a ++ cuts b) ++ drop count w) []
+      → IfSome (both r s t) (λ p. take (start s (length v)) v ++ u ≡ (cuts a ++ cuts b) ++ drop count w)
   lists (Some n) (Some m) k l =
       let h = k.held n refl in
       let i = l.held m refl in
@@ -58,8 +58,8 @@ module _ (r : Float) (a b w v u : List Float) where
       let y : drop n v ≡ drop n w = ap (drop n) h.list ∙ drop_at (cuts a) (drop n w) n (sym h.count) in
       let z : drop m (drop n v) ≡ drop count w = ap (drop m) y ∙ drop-drop m n w ∙ rw (h.count, i.count) in
       rw (x, i.list, z) (sym (append_assoc (cuts a) (cuts b) (drop count w)))
-  lists (Some n) None k l = refl
-  lists None t k l = refl
+  lists (Some n) None k l = tt
+  lists None t k l = tt
 
 module _ (t : Folded) (lower upper m : Float) (f : T (fits binary64 lower)) (g : T (fits binary64 upper)) (em : m ≡ middle lower upper)
     (cs : List Curve) (ec : cs ≡ curves t) (bs : List Float) (eb : bs ≡ bends t)
@@ -76,12 +76,11 @@ module _ (t : Folded) (lower upper m : Float) (f : T (fits binary64 lower)) (g :
   behind : Kept (half_values cs bs m upper) (drop (start s (length v)) v) last r
   behind = rw (← en) (subst (λ (d : List Float). Kept (half_values cs bs m upper) d last r) (tail_part n v) l)
 
-  pub laid_halves : (q : Plan) → q ≡ both t.reference s r
+  pub laid_halves : (q : Option Plan) → q ≡ both t.reference s r
       → (q ≡ granted (length (first_half t lower upper) + length (second_half t lower upper))
       (halves_of t.reference (first_half t lower upper) (second_half t lower upper)) (length w))
-      × (where_laid q (take n v ++ (last ++ drop (length v - n) (drop n v))) []
-      ≡ where_laid q
-      ((first_half t lower upper ++ second_half t lower upper) ++ drop (length (first_half t lower upper) + length (second_half t lower upper)) w) [])
+      × IfSome q (λ p. take n v ++ (last ++ drop (length v - n) (drop n v))
+      ≡ (first_half t lower upper ++ second_half t lower upper) ++ drop (length (first_half t lower upper) + length (second_half t lower upper)) w)
   laid_halves q eq = (
     eq ∙ rw (first, second) (answers t.reference (half_values cs bs lower m) (half_values cs bs m upper) w v last s r k behind),
     rw (eq, tail_post n v last, en, first, second) (lists t.reference (half_values cs bs lower m) (half_values cs bs m upper) w v last s r k behind),

@@ -1,46 +1,19 @@
--- What the proofs of the stream share: a step over the three heads, test by test; a step of the loop that drops what equals the last value.
+-- What the proofs of the stream share: a step of the loop that drops what equals the last value; where a number stands.
 use Rattle.std.specs.Prelude.{Some, None}
-use Prim.Native.Nat.{ℕ, suc, ◌+◌, ◌<◌}
+use Prim.Native.Nat.{ℕ, suc, ◌+◌, ◌/◌, ◌%◌, ◌<◌, ◌≤◌}
 use native.Mathlib.Omega.{arith}
-use mathlib.Core.Path.{◌≡◌, sym, ◌∙◌}
-use mathlib.Core.Bool.{true, false, ◌&&◌}
-use mathlib.Core.List.{List, ◌∷◌}
-use lib.ListN.{length}
-use lib.Ieee.{Float, ne}
-use Rattle.float.specs.Number.{total_le}
-use Rattle.float.specs.Laws.Tests.{ne_self}
-use Rattle.sampling.specs.Promises.Stream.{Step, least, advance, next_of}
+use mathlib.Core.Path.{◌≡◌, subst}
+use mathlib.Core.Bool.{true, false, not}
+use mathlib.Core.List.{List}
+use lib.Dec.{T}
+use lib.ListN.{length, get_or, get_or-eq_default}
+use lib.Ieee.{Float, nan, ne, is_nan}
+use Rattle.sampling.specs.Promises.Stream.{weave, advance, next_of}
+use Rattle.sampling.proofs.Laws.Weave.{weave_length, weave_even, weave_odd, weave_past}
+use Rattle.sampling.proofs.Laws.Step.{advance_drops}
+use Rattle.float.specs.Number.{middle}
+use Rattle.sampling.proofs.Laws.Heads.{number_index}
 use Rattle.sampling.specs.declared.stream.Cursor.{Cursor}
-
-module _ (x y z : Float) (c : Cursor) where
-  module _ (p : total_le x y ≡ true) (q : total_le x z ≡ true) where
-    pub first_none : ne x x ≡ true → ◌≡◌ {A = Step} None (least x y z c)
-    unfolding least
-    first_none n = rw (p, q, sym (ne_self x) ∙ n)
-
-    pub first_some : ne x x ≡ false → ◌≡◌ {A = Step} (Some (x, record { i = c.i + 1; j = c.j; used = c.used; last = c.last })) (least x y z c)
-    unfolding least
-    first_some n = rw (p, q, sym (ne_self x) ∙ n)
-
-  module _ (p : (total_le x y && total_le x z) ≡ false) where
-    pub second_none : total_le y z ≡ true → ne y y ≡ true → ◌≡◌ {A = Step} None (least x y z c)
-    unfolding least
-    second_none q n = rw (p, q, sym (ne_self y) ∙ n)
-
-    pub second_some : total_le y z ≡ true → ne y y ≡ false
-        → ◌≡◌ {A = Step} (Some (y, record { i = c.i; j = c.j + 1; used = c.used; last = c.last })) (least x y z c)
-    unfolding least
-    second_some q n = rw (p, q, sym (ne_self y) ∙ n)
-
-    pub third_none : total_le y z ≡ false → ne z z ≡ true → ◌≡◌ {A = Step} None (least x y z c)
-    unfolding least
-    third_none q n = rw (p, q, sym (ne_self z) ∙ n)
-
-    pub third_some : total_le y z ≡ false → ne z z ≡ false → ◌≡◌ {A = Step} (Some (z, record { i = c.i; j = c.j; used = true; last = c.last })) (least x y z c)
-    unfolding least
-    third_some q n = rw (p, q, sym (ne_self z) ∙ n)
-
--- ---- a step of the loop
 
 module _ (a b : List Float) (r last : Float) (k : ℕ) (c : Cursor) where
   pub next_end : advance a b r c ≡ None → next_of (suc k) a b r last c ≡ None
@@ -56,6 +29,29 @@ module _ (a b : List Float) (r last : Float) (k : ℕ) (c : Cursor) where
     unfolding next_of
     next_skip n = rw (e, n)
 
--- each step takes one value
-pub step_less : (y : Float) (s t : List Float) → s ≡ y ∷ t → length t < length s
-step_less y s t e = rw e (omega arith)
+-- where the value at an index is a number, the index is within
+pub index_in : (l : List Float) (k : ℕ) (x : Float) → x ≡ get_or (weave l) k nan → is_nan x ≡ false → k < length l + length l
+index_in l k x e n =
+    let w = weave_length l in
+    let h = number_index (weave l) k (subst (λ (v : Float). T (not (is_nan v))) e (rw n tt)) in omega arith
+
+-- ---- the k-th of a list's cuts and middles
+
+module _ (l : List Float) (k : ℕ) where
+  pub cut_here : k % 2 ≡ 0 → get_or (weave l) k nan ≡ get_or l (k / 2) nan
+  cut_here e = weave_even l k (k / 2) (omega arith)
+
+  pub no_cut : length l ≤ k / 2 → get_or (weave l) k nan ≡ nan
+  no_cut h = get_or-eq_default (weave l) nan {n = k} (omega (arith, h, weave_length l))
+
+  module _ (o : k % 2 ≡ 0 → ⊥) where
+    pub middle_here : k / 2 + 1 < length l → get_or (weave l) k nan ≡ middle (get_or l (k / 2) nan) (get_or l (k / 2 + 1) nan)
+    middle_here h = weave_odd l k (k / 2) (omega arith) h
+
+    pub no_middle : length l ≤ k / 2 + 1 → get_or (weave l) k nan ≡ nan
+    no_middle h = weave_past l k (k / 2) (omega arith) h
+
+pub ruleset weaving = (cut_here, no_cut, middle_here, no_middle)
+
+-- what a step of `next` goes by
+pub ruleset skipping = (advance_drops, next_end, next_keep, next_skip)

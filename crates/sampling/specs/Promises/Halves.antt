@@ -4,7 +4,7 @@ use Rattle.polynomial.specs.declared.curve.Curve.{Curve}
 use Rattle.sampling.specs.Samples.{all_copies}
 use Rattle.sampling.specs.CriticalSlices.{chart, critical}
 use Rattle.sampling.specs.declared.lists.Plan.{Plan}
-use Rattle.sampling.specs.declared.lists.Plan.TheVariants.{Short, Halves}
+use Rattle.sampling.specs.declared.lists.Plan.TheVariants.{Halves}
 
 -- the values whose cuts a half's list is
 abbrev pub half_values : List Curve → List Float → Float → Float → List Float
@@ -16,7 +16,7 @@ start (Some n) end = n
 start None end = end
 
 -- both lists, if there are places for both
-abbrev pub both : Float → Option ℕ → Option ℕ → Plan
-both r (Some a) (Some b) = Halves (record { reference = r; first = a; second = b })
-both r (Some a) None = Short
-both r None p = Short
+abbrev pub both : Float → Option ℕ → Option ℕ → Option Plan
+both r (Some a) (Some b) = Some (Halves (record { reference = r; first = a; second = b }))
+both r (Some a) None = None
+both r None p = None

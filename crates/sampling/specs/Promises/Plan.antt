@@ -1,6 +1,8 @@
 -- What `plan_of` makes of a job and leaves in the lent work slice, and how the angles are read off the cuts there, one at a time.
-use Rattle.std.specs.Prelude.{Some, None, ◌≡◌, ◌⊎◌, not, cond, List, [], ◌∷◌, ◌++◌, ℕ, ◌+◌, ◌^◌, ◌≤◌, T, leb, ltb, length, get_or, take, drop, replicate, Float}
-use Rattle.std.specs.Float.{binary64, nan}
+use Rattle.std.specs.Prelude.{Option, Some, None, IfSome}
+use Rattle.std.specs.Prelude.{◌≡◌, ◌⊎◌, not, cond, List, [], ◌∷◌, ◌++◌, ℕ, ◌+◌, ◌^◌, ◌≤◌, T, leb, length, slice_get, take, drop, replicate, Float}
+use Rattle.std.specs.Option.{option_map}
+use Rattle.std.specs.Float.{binary64}
 use Rattle.std.specs.Float.Ieee.{neg, is_nan, fits}
 use Rattle.std.specs.Float.Ieee.Scale.{finite}
 use Rattle.float.specs.Number.{zero_float, one_float}
@@ -65,21 +67,19 @@ all_cuts job = by_kind job.kind (free_cuts (first_free job)) (free_cuts (second_
 -- ---- the plan
 
 -- l, if there are places for so many cuts
-abbrev pub granted : ℕ → Plan → ℕ → Plan
-granted count l places = cond (leb count places) l of.Short
+abbrev pub granted : ℕ → Plan → ℕ → Option Plan
+granted count l places = cond (leb count places) (Some l) None
 
-unfoldable pub plan : Job → ℕ → Plan
+unfoldable pub plan : Job → ℕ → Option Plan
 plan job places = granted (cut_count job) (laid job) places
 
--- what a plan has, by what came: short, laid
-abbrev pub by_plan : {A : Type 0} → Plan → A → A → A
-by_plan of.Short short found = short
-by_plan (of.Lists n) short found = found
-by_plan (of.Halves h) short found = found
+-- short where there is no plan, else found
+abbrev pub by_plan : {A : Type 0} → Option Plan → A → A → A
+by_plan None short found = short
+by_plan (Some p) short found = found
 
 -- how many places the cuts take
 abbrev pub filled : Plan → ℕ
-filled of.Short = 0
 filled (of.Lists n) = n.first + n.second + n.third
 filled (of.Halves h) = h.first + h.second
 
@@ -89,15 +89,15 @@ filled (of.Halves h) = h.first + h.second
 abbrev pub zeros : ℕ → List Float
 zeros n = replicate n zero_float
 
--- l where there are cuts to read, and other where the plan is short
-abbrev pub where_laid : Plan → List Float → List Float → List Float
+-- l where there are cuts to read, and other where there is no plan
+abbrev pub where_laid : Option Plan → List Float → List Float → List Float
 where_laid p l other = by_plan p other l
 
 -- a, b and c one after the other in w, which becomes after, where r says that there are places
-abbrev pub ListsLaid : List Float → List Float → List Float → List Float → Plan → List Float → Type 0
+abbrev pub ListsLaid : List Float → List Float → List Float → List Float → Option Plan → List Float → Type 0
 ListsLaid a b c w r after =
     let count = length a + length b + length c in
-    (r ≡ granted count (lists_of a b c) (length w)) × (where_laid r after [] ≡ where_laid r (((a ++ b) ++ c) ++ drop count w) [])
+    (r ≡ granted count (lists_of a b c) (length w)) × IfSome r (λ p. after ≡ ((a ++ b) ++ c) ++ drop count w)
 
 -- the cuts in front, and the rest as it was
 unfoldable pub work_after : Job → List Float → List Float
@@ -115,7 +115,6 @@ all_samples n w = three_samples (take n.first w) (take n.second (drop n.first w)
 
 -- what is still to come at a cursor
 abbrev pub to_come : Plan → List Float → Cursor → List Float
-to_come of.Short w c = []
 to_come (of.Lists n) w c = drop c.i (all_samples n w)
 to_come (of.Halves h) w c = distinct (take h.first w) (take h.second (drop h.first w)) h.reference c
 
@@ -128,20 +127,15 @@ pub record Streamable (h : Halves) (w : List Float) : Type 0 where
   pub fit : T (fits binary64 h.reference)
 
 abbrev pub Ready : Plan → List Float → Type 0
-Ready of.Short w = Unit {0}
 Ready (of.Lists n) w = n.first + n.second + n.third ≤ length w
 Ready (of.Halves h) w = Streamable h w
 
 -- the sample at the cursor, and the cursor behind it
 unfoldable pub sample_step : Lists → List Float → Cursor → Step
-sample_step n w c =
-    cond (ltb c.i (length (all_samples n w)))
-    (Some (get_or (all_samples n w) c.i nan, record { i = c.i + 1; j = c.j; used = c.used; last = c.last }))
-    None
+sample_step n w c = option_map (λ y. (y, record { i = c.i + 1; j = c.j; used = c.used; last = c.last })) (slice_get (all_samples n w) c.i)
 
 -- the next angle and the cursor behind it, or the end; `Laws.Plan` has that it gives the first of what is to come
 abbrev pub step : Plan → List Float → Cursor → Step
-step of.Short w c = None
 step (of.Lists n) w c = sample_step n w c
 step (of.Halves h) w c = next (take h.first w) (take h.second (drop h.first w)) h.reference c
 

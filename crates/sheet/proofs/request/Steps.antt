@@ -4,7 +4,7 @@ use Prim.Native.Nat.{ℕ, zero, suc, ◌+◌, ◌-◌, ◌/◌, ◌%◌, ◌≤�
 use native.Mathlib.Omega.{arith}
 use native.Mathlib.Nat.{add-zero}
 use mathlib.Core.Path.{◌≡◌, refl, sym, ap, subst, ◌∙◌}
-use mathlib.Core.List.{List, ◌∷◌, ◌++◌}
+use mathlib.Core.List.{List, [], ◌∷◌, ◌++◌}
 use mathlib.Core.Bool.{Bool, true, false, cond, false≢true}
 use lib.Dec.{ltb}
 use lib.ListN.{length, get_or, drop, set, drop_of_length-le}
@@ -13,19 +13,15 @@ use borrow.Author.Tests.{ltb-true, ltb-false, lt-ltb, le-ltb}
 use Rattle.sampling.specs.declared.reads.Shape.{Shape}
 use Rattle.sheet.specs.Bytes.{bytes, part, same_bytes}
 use Rattle.sheet.specs.Request.{name_at, byte_read, blank_from}
-use Rattle.sheet.specs.Laws.Bytes.{bytes_suc, bytes_zero, length_bytes, length_part, sets_append, same_step, same_stop, same_nil}
+use Rattle.sheet.specs.Laws.Bytes.{bytes_suc, bytes_zero, length_bytes, length_part, same_step, same_stop, same_nil}
 use Rattle.sheet.specs.Laws.Blank.{blank_cons, blank_nil}
 
 -- a step stores the first byte of those that are left
-pub put_step : (out r : List ℕ) (at i v : ℕ) (s : Option Shape) → i < length r → v ≡ cond (byte_read s i) (get_or r i 0) 0
-    → sets (set out (at + i) v) (at + (i + 1)) (blank_from s (i + 1) (drop (i + 1) r)) ≡ sets out (at + i) (blank_from s i (drop i r))
-put_step out r at i v s h q =
-    let e : at + (i + 1) ≡ suc (at + i) = omega arith in
+pub put_step : (out r : List ℕ) (i v : ℕ) (s : Option Shape) → i < length r → v ≡ cond (byte_read s i) (get_or r i 0) 0
+    → sets (set out i v) (i + 1) (blank_from s (i + 1) (drop (i + 1) r)) ≡ sets out i (blank_from s i (drop i r))
+put_step out r i v s h q =
     let f : i + 1 ≡ suc i = omega arith in
-    rw (q, drop-cons r i 0, blank_cons, e, f)
-
-pub put_end : (out r : List ℕ) (at i : ℕ) (s : Option Shape) → length r ≤ i → out ≡ sets out (at + i) (blank_from s i (drop i r))
-put_end out r at i s h = rw (drop_of_length-le r h, blank_nil)
+    rw (q, drop-cons r i 0, blank_cons, f)
 
 -- a byte that is kept, as it is read or zero, and one that is not
 pub kept_read : (t : Bool) (b : ℕ) → t ≡ true → cond t b 0 ≡ b
@@ -60,6 +56,9 @@ module _ (s : Option Shape) (r : List ℕ) (i : ℕ) (l : i < length r) where
 -- no step is left
 pub blank_end : (s : Option Shape) (r : List ℕ) (i : ℕ) → length r ≤ i → true ≡ same_bytes (blank_from s i (drop i r)) (drop i r)
 blank_end s r i h = rw (drop_of_length-le r h, blank_nil) same_nil
+
+-- what `unread_zero` goes by
+pub ruleset comparing = (blank_step, blank_stop, blank_end, kept_read, kept_zero, kept_not)
 
 -- ---- a field's bytes are read together
 
@@ -128,10 +127,25 @@ module _ (s : Option Shape) (r : List ℕ) where
     field true e = run_read 8 i room (λ k l. alike k l ∙ e)
     field false e = run_unread 8 i room (λ k l. alike k l ∙ e)
 
-    -- a step stores the first field of those that are left
-    pub field_step : (out : List ℕ) (at : ℕ) (bs : List ℕ) (b : Bool) → byte_read s i ≡ b → bs ≡ cond b (part i 8 r) (bytes 8 0) → (n : ℕ) → n ≡ i + 8
-        → sets (sets out (at + i) bs) (at + n) (blank_from s n (drop n r)) ≡ sets out (at + i) (blank_from s i (drop i r))
-    field_step out at bs b t q n m =
-        let l : (b : Bool) → length (cond b (part i 8 r) (bytes 8 0)) ≡ 8 = elim [ true ↦ length_part i 8 r room | false ↦ length_bytes 8 0 ] in
-        let e : at + n ≡ at + i + length bs = omega (arith, ap length q ∙ l b) in
-        rw (field b t, sets_append, ← q, e, m)
+    -- the first field of those that are left, of eight bytes
+    pub field_left : (b : Bool) → byte_read s i ≡ b → (blank_from s i (drop i r) ≡ cond b (part i 8 r) (bytes 8 0) ++ blank_from s (i + 8) (drop (i + 8) r))
+        × (length (cond b (part i 8 r) (bytes 8 0)) ≡ 8)
+    field_left true e = (field true e, length_part i 8 r room)
+    field_left false e = (field false e, length_bytes 8 0)
+
+  -- from the name on each byte is kept
+  pub name_kept : (l : List ℕ) (i : ℕ) → 264 ≤ i → blank_from s i l ≡ l
+  unfolding blank_from byte_read
+  name_kept [] i h = refl
+  name_kept (b ∷ l) i h =
+      rw (
+        le-ltb i 4 (omega arith),
+        le-ltb i 10 (omega arith),
+        le-ltb i 48 (omega arith),
+        le-ltb i 72 (omega arith),
+        le-ltb i 120 (omega arith),
+        le-ltb i 168 (omega arith),
+        le-ltb i 216 (omega arith),
+        le-ltb i name_at (omega arith),
+        name_kept l (suc i) (omega arith),
+      )

@@ -6,7 +6,7 @@ use lib.Dec.{eqb}
 use Rattle.float.specs.Laws.Tests.{and_left, and_right}
 use Rattle.sheet.specs.Bytes.{part}
 use Rattle.sheet.specs.Request.{core_size}
-use Rattle.sheet.specs.Validate.{all_from, zero_at, all_zero, is_character, is_name}
+use Rattle.sheet.specs.Validate.{all_from, zero_at, all_zero, is_character, is_name, name_right}
 
 -- a test that holds exactly if each byte is zero
 zeros_true : (bs : List ℕ) → EachIndex bs (λ (k : ℕ). get_or bs k 0 ≡ 0) → all_zero bs ≡ true
@@ -32,6 +32,10 @@ zeros_each false bs h = go (all_zero bs) refl
 pub take_all_drop : (r : List ℕ) (i : ℕ) → take (length r - i) (drop i r) ≡ drop i r
 take_all_drop r i = take_all (length r - i) (drop i r) (omega (arith, length-drop i r))
 
+pub name_behind : (r : List ℕ) → is_name (take (length r - 264) (drop 264 r)) ≡ name_right r
+unfolding name_right
+name_behind r = rw (take_all_drop r 264)
+
 -- n bytes from a position
 pub zeros_part : (n : ℕ) (r : List ℕ) (i : ℕ) → i + n ≤ length r → all_zero (part i n r) ≡ all_from n i (zero_at r)
 unfolding all_from all_zero
@@ -56,3 +60,6 @@ module _ (r : List ℕ) (i : ℕ) (h : i < length r) where
 pub name_end : (r : List ℕ) (i : ℕ) → length r ≤ i → true ≡ is_name (drop i r)
 unfolding is_name
 name_end r i h = rw (drop_of_length-le r h)
+
+-- what `is_name` goes by
+pub ruleset reading = (name_step, name_stop, name_end, take_all_drop)

@@ -1,5 +1,6 @@
 -- A test at each of n numbers in a row: what a loop that leaves at the first failure needs.
-use Prim.Native.Nat.{ℕ, suc}
+use native.Mathlib.Omega.{arith}
+use Prim.Native.Nat.{ℕ, zero, suc, ◌<◌}
 use mathlib.Core.Path.{◌≡◌}
 use mathlib.Core.Bool.{Bool, true, false}
 use Rattle.sheet.specs.Validate.{all_from}
@@ -10,11 +11,14 @@ unfolding all_from
 all_step p n m j k e f h = rw (e, f, h)
 
 -- a step whose test fails
-pub all_stop : (p : ℕ → Bool) (n m j : ℕ) → m ≡ suc n → p j ≡ false → false ≡ all_from m j p
+pub all_stop : (p : ℕ → Bool) (m j : ℕ) → 0 < m → p j ≡ false → false ≡ all_from m j p
 unfolding all_from
-all_stop p n m j e h = rw (e, h)
+all_stop p zero j l h = absurd (omega arith)
+all_stop p (suc m) j l h = rw h
 
 -- no step is left
 pub all_end : (p : ℕ → Bool) (m j : ℕ) → m ≡ 0 → true ≡ all_from m j p
 unfolding all_from
 all_end p m j e = rw e
+
+pub ruleset tests = (all_step, all_stop, all_end)

@@ -4,7 +4,6 @@ use Rattle.std.proofs.Common.{arith, ◌∙◌, append_assoc, length-append, tak
 use Rattle.std.proofs.Math.Path.{◌≡◌, refl, sym, ap}
 use Rattle.std.proofs.Math.Bool.{true, false, cond}
 use Rattle.std.proofs.Math.ListN.{length}
-use Rattle.std.proofs.lemmas.List.Edits.{sets}
 use Rattle.std.proofs.Math.Dec.{leb, ltb}
 use borrow.Author.Tests.{eqb-true, leb-true, eq-eqb, ne_eqb, le-leb, lt-leb, lt-ltb, le-ltb}
 use Rattle.sheet.specs.Bytes.{little_endian, bytes, part, same_bytes}
@@ -17,7 +16,7 @@ use Rattle.sheet.specs.Request.{core_size, request_size}
 use Rattle.sheet.specs.Check.{trailer_of, count_of, edition_of, request_of, items_of, formed, by_edition, by_said, answer}
 use Rattle.sheet.specs.Promises.Plan.{work_left, work_by, work_said, work_checked, compared, checked}
 use Rattle.float.specs.Laws.Tests.{and_left, and_right}
-use Rattle.sheet.specs.Laws.Bytes.{sets_all, length_bytes, length_part, pair_is, same_is}
+use Rattle.sheet.specs.Laws.Bytes.{length_bytes, length_part, pair_is, same_is}
 use Rattle.sheet.specs.Laws.Sheet.{length_trailer}
 
 -- ---- 31, and the edition
@@ -98,12 +97,11 @@ module _ (e : Edition) (s : List ℕ) where
   formed_wide n c h k =
       rw (eq-eqb (length s) (sheet_size e (count_of s)) (h ∙ ap (sheet_size e) c), le-ltb (count_of s) items_bound (omega (arith, c)))
 
-  -- the trailer is written into sixteen places, which are compared
-  pub formed_by : (z b : List ℕ) (n : ℕ) → n ≡ count_of s → length s ≡ sheet_size e n → n < items_bound → length z ≡ trailer_size
-      → b ≡ sets z 0 (trailer e n) → same_bytes (part (length s - trailer_size) (length b) s) b ≡ formed e s
+  -- the last bytes are compared with the trailer's
+  pub formed_by : (b : List ℕ) (n : ℕ) → n ≡ count_of s → length s ≡ sheet_size e n → n < items_bound
+      → b ≡ trailer e n → same_bytes (part (length s - trailer_size) (length b) s) b ≡ formed e s
   unfolding formed
-  formed_by z b n c h w l f =
-      let g : b ≡ trailer e n = f ∙ sets_all z (trailer e n) (length_trailer e n ∙ sym l) in
+  formed_by b n c h w g =
       let k : length s ≡ sheet_size e (count_of s) = h ∙ ap (sheet_size e) c in
       let v : ltb (count_of s) items_bound ≡ true = lt-ltb (count_of s) items_bound (omega (arith, c)) in
       rw (eq-eqb (length s) (sheet_size e (count_of s)) k, v, g, length_trailer e n)

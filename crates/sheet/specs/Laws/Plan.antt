@@ -1,6 +1,6 @@
 -- What inner functions find of a request that passed its tests is what the definitions say of it.
-use Rattle.std.specs.Prelude.{ℕ, ◌≡◌, refl, ◌⊎◌, List, [], ◌∷◌, Bool, cond, ◌&&◌, length, get_or, T, eqb, leb, Float, Result, Ok, Err, Option, Some, None}
-use Rattle.std.proofs.Common.{arith, sym, subst, ◌∙◌, inl, inr, leb-true}
+use Rattle.std.specs.Prelude.{ℕ, ◌≡◌, refl, ◌⊎◌, List, Bool, cond, ◌&&◌, length, get_or, T, eqb, leb, Float, Result, Ok, Err, Option, Some, None}
+use Rattle.std.proofs.Common.{arith, sym, ◌∙◌, inl, inr, leb-true, le-leb}
 use Rattle.std.proofs.Math.Path.{ap}
 use Rattle.std.proofs.Math.Bool.{true, false}
 use Rattle.std.proofs.lemmas.Bool.{false≢true}
@@ -15,12 +15,12 @@ use Rattle.float.specs.Promises.Order.{Within}
 use Rattle.float.specs.Laws.Interval.{in_of, in_within}
 use Rattle.polynomial.specs.Angle.{two_pi}
 use Rattle.sampling.specs.Reads.{joint_read, reference_read}
-use Rattle.sampling.specs.Promises.Stream.{Step, start}
-use Rattle.sampling.specs.Promises.Plan.{Moderate, Drawable, plan, work_after, to_come, Ready, Gives, step}
+use Rattle.sampling.specs.Promises.Stream.{start}
+use Rattle.sampling.specs.Promises.Plan.{Moderate, Drawable, by_plan, plan, work_after, to_come, Ready}
 use Rattle.sampling.proofs.Laws.Charts.{moderate_drawable}
-use Rattle.sampling.proofs.Laws.Plan.{plan_by, plan_ready, plan_yields, step_gives}
+use Rattle.sampling.proofs.Laws.Plan.{plan_by, plan_ready, plan_yields}
 use Rattle.sampling.specs.declared.lists.Plan.{Plan}
-use Rattle.sampling.specs.declared.stream.Cursor.{Cursor}
+use Rattle.sampling.specs.Angles as Angles
 use Rattle.sampling.specs.declared.job.Kind.{Kind}
 use Rattle.sampling.specs.declared.job.Kind.TheVariants.{J1free, J2free, J1j2free}
 use Rattle.sampling.specs.declared.pose.Quaternion.{Quaternion}
@@ -38,7 +38,7 @@ use Rattle.sheet.specs.Sampling.{angles, items, cut_count, by_work, answer}
 use Rattle.sheet.specs.Check.{is_accepted, meets_none}
 use Rattle.sheet.specs.Promises.Floats.{floats_bytes}
 use Rattle.sheet.specs.Promises.Tested.{tested, Passed}
-use Rattle.sheet.specs.Promises.Plan.{is_short, PlannedFor, work_tested, work_left, planned_answer}
+use Rattle.sheet.specs.Promises.Plan.{PlannedFor, work_tested, work_left, planned_answer}
 use Rattle.sheet.specs.Laws.Bytes.{floats_words}
 use Rattle.sheet.specs.Laws.Sampling.{length_items}
 use Rattle.sheet.specs.Laws.Tested.{passed_validate, tested_refused, passed_reference, passed_offset}
@@ -91,61 +91,45 @@ module _ {e : Edition} (r : List ℕ) (g : Passed e r) where
   pub passed_drawable : Drawable (job_of r)
   passed_drawable = moderate_drawable (job_of r) reference_fits passed_moderate
 
-  pub planned_for : (p : Plan) (v w : List Float) → p ≡ plan (job_of r) (length v) → w ≡ work_after (job_of r) v → length w ≡ length v → PlannedFor r p w
-  unfolding cut_count angles
-  planned_for p v w a b l =
-      record {
-        made = a ∙ ap (plan (job_of r)) (sym l);
-        ready = rw (a, b) (plan_ready v (job_of r) reference_fits passed_moderate);
-        yields = λ k. rw (a, b) (plan_yields v (job_of r) reference_fits passed_moderate (omega (arith, l)));
-      }
+  -- what comes of it, from work v, is its plan, or none where there are too few places
+  module _ (s : Option Plan) (v w : List Float) (a : s ≡ plan (job_of r) (length v)) (b : w ≡ work_after (job_of r) v) (l : length w ≡ length v) where
+    fits_by : (t : Bool) → by_plan s false true ≡ t → leb (cut_count r) (length w) ≡ t
+    unfolding cut_count
+    fits_by t e =
+        go (leb (Angles.cut_count (job_of r)) (length w))
+        (rw l (sym (plan_by false true (job_of r) (length v)) ∙ ap (λ (o : Option Plan). by_plan o false true) (sym a) ∙ e))
+      where
+        go : (u : Bool) → cond u true false ≡ t → u ≡ t
+        go true h = h
+        go false h = h
+
+    pub not_planned : s ≡ None → leb (cut_count r) (length w) ≡ false
+    not_planned e = fits_by false (ap (λ (o : Option Plan). by_plan o false true) e)
+
+    module _ (p : Plan) (f : s ≡ Some p) where
+      pub plan_asked : Ready p w
+      plan_asked = rw b (plan_ready v (job_of r) reference_fits passed_moderate p (sym a ∙ f))
+
+      pub planned_for : PlannedFor r p w
+      unfolding angles
+      planned_for =
+          record {
+            room = leb-true (cut_count r) (length w) (fits_by true (ap (λ (o : Option Plan). by_plan o false true) f));
+            yields = rw b (plan_yields v (job_of r) reference_fits passed_moderate p (sym a ∙ f));
+          }
 
 -- ---- 10
 
-short_no : (b : Bool) → cond b false true ≡ true → b ≡ false
-short_no true e = sym e
-short_no false e = refl
-
-short_yes : (b : Bool) → cond b false true ≡ false → b ≡ true
-short_yes true e = refl
-short_yes false e = sym e
-
 module _ (r : List ℕ) (p : Plan) (w : List Float) (g : PlannedFor r p w) where
-  abbrev fits_in : Bool
-  fits_in = leb (cut_count r) (length w)
+  pub fits_yes : leb (cut_count r) (length w) ≡ true
+  fits_yes = le-leb (cut_count r) (length w) g.room
 
-  short_is : is_short p ≡ cond fits_in false true
-  unfolding cut_count
-  short_is = ap is_short g.made ∙ plan_by true false (job_of r) (length w)
+  pub found_count : length (to_come p w start) ≡ length (items r)
+  found_count = ap length g.yields ∙ sym (length_items r)
 
-  pub fits_no : is_short p ≡ true → fits_in ≡ false
-  fits_no e = short_no fits_in (sym short_is ∙ e)
-
-  module _ (f : is_short p ≡ false) where
-    pub fits_yes : fits_in ≡ true
-    fits_yes = short_yes fits_in (sym short_is ∙ f)
-
-    pub found_angles : to_come p w start ≡ angles r
-    found_angles = g.yields (leb-true (cut_count r) (length w) fits_yes)
-
-    pub found_count : length (to_come p w start) ≡ length (items r)
-    found_count = ap length found_angles ∙ sym (length_items r)
-
-    pub found_items : floats_bytes (to_come p w start) ≡ words_bytes (items r)
-    unfolding items
-    found_items = ap floats_bytes found_angles ∙ floats_words (angles r)
-
--- ---- the angles one at a time
-
-module _ (p : Plan) (w : List Float) (c : Cursor) (t : Step) (g : Ready p w) (e : t ≡ step p w c) where
-  gives : (s : Step) → t ≡ s → Gives (to_come p w c) (to_come p w) s
-  gives s f = subst (Gives (to_come p w c) (to_come p w)) (sym e ∙ f) (step_gives p w c g)
-
-  pub step_yields : (y : Float) (d : Cursor) → t ≡ Some (y, d) → to_come p w c ≡ y ∷ to_come p w d
-  step_yields y d f = gives (Some (y, d)) f
-
-  pub step_done : t ≡ None → to_come p w c ≡ []
-  step_done f = gives None f
+  pub found_items : floats_bytes (to_come p w start) ≡ words_bytes (items r)
+  unfolding items
+  found_items = ap floats_bytes g.yields ∙ floats_words (angles r)
 
 -- ---- work, before it is cleared
 

@@ -1,7 +1,7 @@
 -- What inner functions of Sampling and Check promise one another of a request's plan. Definitions only; `Laws.Plan` joins them to `Sampling` and `Check`.
-use Rattle.std.specs.Prelude.{ℕ, ◌+◌, ◌≤◌, ◌≡◌, Bool, true, false, cond, List, length, leb, Float, Result, Ok, Err, Option, Some, None}
+use Rattle.std.specs.Prelude.{ℕ, ◌+◌, ◌≤◌, ◌≡◌, cond, List, length, leb, Float, Result, Ok, Err, Option, Some, None}
 use Rattle.sampling.specs.Promises.Stream.{start}
-use Rattle.sampling.specs.Promises.Plan.{by_plan, plan, work_after, Ready, to_come}
+use Rattle.sampling.specs.Promises.Plan.{work_after, to_come}
 use Rattle.sampling.specs.declared.lists.Plan.{Plan}
 use Rattle.sheet.specs.Bytes.{words_bytes, same_bytes}
 use Rattle.sheet.specs.Fields.{job_of}
@@ -16,15 +16,10 @@ use Rattle.sheet.specs.declared.edition.Edition.{Edition}
 use Rattle.sheet.specs.declared.refusals.Refusal.{Refusal}
 use Rattle.sampling.specs.declared.pose.Quaternion.{Quaternion}
 
--- 10
-abbrev pub is_short : Plan → Bool
-is_short p = by_plan p true false
-
 -- the plan for a request that passed its tests, whose cuts stand in w
 pub record PlannedFor (r : List ℕ) (p : Plan) (w : List Float) : Type 0 where
-  pub made : p ≡ plan (job_of r) (length w)
-  pub ready : Ready p w
-  pub yields : cut_count r ≤ length w → to_come p w start ≡ angles r
+  pub room : cut_count r ≤ length w
+  pub yields : to_come p w start ≡ angles r
 
 -- what work holds before it is cleared: what the plan leaves of a request that passed its tests, else what it held
 abbrev pub work_tested : Result Quaternion Refusal → List ℕ → List Float → List Float

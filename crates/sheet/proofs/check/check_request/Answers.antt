@@ -1,9 +1,13 @@
 -- `sheet::check::check_request` meets its contract: at each return, what the calls and the tests on the way to it say.
 use native.Mathlib.Omega.{arith}
-use mathlib.Core.Path.{sym, ◌∙◌}
+use Rattle.std.specs.Prelude.{Some, None}
+use Rattle.std.proofs.lemmas.Result.{err_from_is_err_and}
+use borrow.Author.Tests.{not-true, not-false}
+use mathlib.Core.Path.{◌≡◌, refl, sym, ◌∙◌}
 use Rattle.sheet.specs.Refusals.{need}
-use Rattle.sheet.specs.Promises.Plan.{checked}
-use Rattle.sheet.specs.Laws.Plan.{passed_drawable, planned_for, left_passed, left_refused, refused_meets}
+use Rattle.sheet.specs.Promises.Plan.{checked, compared}
+use Rattle.sheet.specs.Laws.Plan.{passed_drawable, not_planned, plan_asked, planned_for, fits_yes, found_items, refused_meets}
+use Rattle.sheet.specs.declared.refusals.Fault.TheVariants.{Work}
 use Rattle.sheet.specs.Laws.Accepted.{passed_meets}
 use Rattle.sheet.specs.Laws.Places.{core_least}
 use Rattle.sheet.specs.Laws.Tested.{tested_passed, tested_unit}
@@ -19,27 +23,55 @@ plan_request-plan-requires c = let e = sym c.validate.ensures ∙ c.in-Ok.is in
     let g = tested_passed a.e _ _ e in
     record { request_value = tested_unit a.e _ _ e; drawable = passed_drawable _ g }
 
-pub compare-requires : goal.compare-requires
-compare-requires c = let e = sym c.validate.ensures ∙ c.in-Ok.is in
-    let p = c.plan_request-plan in
-    let g = tested_passed _ _ _ e in
-    let a = c.args in
-    let f = planned_for _ g p.result a.work.now p.new.work p.ensures.value p.ensures.work_after p.auto.work in
-    f
-
-pub returns : goal.returns
+pub returns-in_default-clause-result_value : goal.returns-in_default-clause-result_value
 unfolding checked need
-returns c = let e = sym c.validate.ensures ∙ c.in-Ok.is in
-    let p = c.plan_request-plan in
-    let g = tested_passed _ _ _ e in
-    let w = c.args.work.now in
-    record {
-      result_value = rw (passed_meets _ _ g, ← p.auto.work) c.compare.ensures;
-      work_after = left_passed _ _ _ w p.new.work e p.ensures.work_after;
-    }
+returns-in_default-clause-result_value c = let a = c.args in
+    rw (refused_meets a.e a.request.now _ (sym c.validate.ensures ∙ c.in_default.is)) refl
 
-pub returns-in_default : goal.returns-in_default
-unfolding checked need
-returns-in_default c = let a = c.args in
-    let e = sym c.validate.ensures ∙ c.in_default.is in
-    record { result_value = rw (refused_meets a.e a.request.now _ e); work_after = left_refused a.e a.request.now _ a.work.now e }
+pub returns-then-not-unread_zero-clause-result_value : goal.returns-then-not-unread_zero-clause-result_value
+unfolding checked compared need
+returns-then-not-unread_zero-clause-result_value c =
+    let g = tested_passed _ _ _ (sym c.validate.ensures ∙ c.in-Ok.is) in
+    let u = sym c.unread_zero.ensures ∙ not-true _ c.if-not-unread_zero.true-raw in
+    rw (passed_meets _ _ g, u) refl
+
+pub returns-in_err-plan-clause-result_value : goal.returns-in_err-plan-clause-result_value
+unfolding checked compared need
+returns-in_err-plan-clause-result_value c = let a = c.args in
+    let g = tested_passed _ _ _ (sym c.validate.ensures ∙ c.in-Ok.is) in
+    let p = c.plan_request-plan in
+    let u = sym c.unread_zero.ensures ∙ not-false _ c.if-not-unread_zero.false-raw in
+    let n : p.result ≡ None = grind arith in
+    let h = not_planned _ g p.result a.work.now p.new.work p.ensures.value p.ensures.work_after p.auto.work n in
+    let k = err_from_is_err_and c.from_residual.result c.from_residual.ensures.1 in
+    let r : c.in_err-plan.field-0.0 ≡ Work = grind arith in
+    rw (k.1, k.2, r, passed_meets _ _ g, u, ← p.auto.work, h) refl
+
+pub invariant_of-same_angles : goal.invariant_of-same_angles
+invariant_of-same_angles c = let a = c.args in
+    let g = tested_passed _ _ _ (sym c.validate.ensures ∙ c.in-Ok.is) in
+    let p = c.plan_request-plan in
+    let s : p.result ≡ Some c.in_ok-plan.plan = grind arith in
+    record { ready = ∣ plan_asked _ g p.result a.work.now p.new.work p.ensures.value p.ensures.work_after p.auto.work _ s ∣₁ }
+
+pub returns-then-not-same_angles-clause-result_value : goal.returns-then-not-same_angles-clause-result_value
+unfolding checked compared need
+returns-then-not-same_angles-clause-result_value c = let a = c.args in
+    let g = tested_passed _ _ _ (sym c.validate.ensures ∙ c.in-Ok.is) in
+    let p = c.plan_request-plan in
+    let s : p.result ≡ Some c.in_ok-plan.plan = grind arith in
+    let f = planned_for _ g p.result a.work.now p.new.work p.ensures.value p.ensures.work_after p.auto.work _ s in
+    let u = sym c.unread_zero.ensures ∙ not-false _ c.if-not-unread_zero.false-raw in
+    let q = sym c.same_angles.ensures ∙ not-true _ c.if-not-same_angles.true-raw in
+    rw (passed_meets _ _ g, u, ← p.auto.work, fits_yes _ _ _ f, ← found_items _ _ _ f, q) refl
+
+pub returns-clause-result_value : goal.returns-clause-result_value
+unfolding checked compared need
+returns-clause-result_value c = let a = c.args in
+    let g = tested_passed _ _ _ (sym c.validate.ensures ∙ c.in-Ok.is) in
+    let p = c.plan_request-plan in
+    let s : p.result ≡ Some c.in_ok-plan.plan = grind arith in
+    let f = planned_for _ g p.result a.work.now p.new.work p.ensures.value p.ensures.work_after p.auto.work _ s in
+    let u = sym c.unread_zero.ensures ∙ not-false _ c.if-not-unread_zero.false-raw in
+    let q = sym c.same_angles.ensures ∙ not-false _ c.if-not-same_angles.false-raw in
+    rw (passed_meets _ _ g, u, ← p.auto.work, fits_yes _ _ _ f, ← found_items _ _ _ f, q) refl

@@ -1,49 +1,36 @@
--- `sheet::check::same_angles` meets its contract. The invariant: the bytes and the angles that are left decide. The measure is what is still to come.
-use native.Mathlib.Omega.{arith}
-use mathlib.Core.Path.{sym, ap, ◌∙◌}
-use mathlib.Core.List.{List}
-use lib.ListN.{length}
-use lib.Ieee.{Float}
-use borrow.Author.Tests.{not-true, not-false}
-use Rattle.sampling.specs.Promises.Plan.{to_come}
-use Rattle.sampling.specs.declared.stream.Cursor.{Cursor}
-use Rattle.sheet.specs.Laws.Plan.{step_yields, step_done}
-use Rattle.sheet.proofs.check.Floats.{float_short, float_step, float_stop, float_end}
+-- `sheet::check::same_angles` meets its contract. The invariant: the bytes and the angles that are left decide.
+use Rattle.std.proofs.Common.{◌≤◌, sym, ◌∙◌, arith, length}
+use Rattle.sheet.proofs.bytes.Same.{number_part}
+use Rattle.sheet.proofs.check.Floats.{float_short, float_step, float_stop, float_end, drop_bytes}
 use Rattle.sheet.proofs.check.same_angles.Goals as goal
 
-pub returns-in-None : goal.returns-in-None
-returns-in-None c = let l = c.loop-y in
-    let p = c.args in
-    let e = step_done p.plan p.work.now l.c _ c.requires c.next-t.ensures c.in-None.is in
-    float_end p.s.now l.at (to_come p.plan p.work.now l.c) e l.invariant.0 ∙ l.invariant.1
+pub returns-in_default : goal.returns-in_default
+returns-in_default c = let l = c.loop-y in
+    float_short l.left.now c.in-Some.y _ _ c.in-Some.ensures.steps c.in_default.ensures.cases ∙ l.invariant.3
 
-pub returns-then-s-at-lt8 : goal.returns-then-s-at-lt8
-returns-then-s-at-lt8 c = let p = c.args in
-    let l = c.loop-y in
-    let left : Cursor → List Float = to_come p.plan p.work.now in
-    let came = step_yields c.args.plan c.args.work.now c.loop-y.c _ c.requires c.next-t.ensures _ _ c.in-Some.is in
-    float_short p.s.now l.at c.in-Some.y (left l.c) (left c.in-Some.d) came l.invariant.0 c.if-s-at-lt8.true ∙ l.invariant.1
-
-pub returns-then-not-same_float : goal.returns-then-not-same_float
-returns-then-not-same_float c = let p = c.args in
-    let l = c.loop-y in
-    let left : Cursor → List Float = to_come p.plan p.work.now in
-    let came = step_yields c.args.plan c.args.work.now c.loop-y.c _ c.requires c.next-t.ensures _ _ c.in-Some.is in
-    float_stop p.s.now l.at c.in-Some.y (left l.c) (left c.in-Some.d) came (omega (arith, c.if-s-at-lt8.false, l.invariant.0))
-    (sym c.same_float.ensures ∙ not-true _ c.if-not-same_float.true-raw)
-    ∙ l.invariant.1
-
-pub loop-y-smaller : goal.loop-y-smaller
-loop-y-smaller c = let k = ap length (step_yields c.args.plan c.args.work.now c.loop-y.c _ c.requires c.next-t.ensures _ _ c.in-Some.is) in
-    omega arith
+pub returns-then-from_le_bytes-bits : goal.returns-then-from_le_bytes-bits
+returns-then-from_le_bytes-bits c = let l = c.loop-y in
+    let p = c.in-Some-split_first_chunk in
+    let h : 8 ≤ length l.left.now = omega (arith, p.ensures.cases.2) in
+    let n = c.from_le_bytes.ensures ∙ number_part 7 l.left.now 0 p.bytes.now h p.ensures.cases.0 in
+    float_stop l.left.now c.in-Some.y _ _ c.in-Some.ensures.steps h l.invariant.2
+    (omega (arith, c.bits.ensures, c.bits.type_inv)) _ n (λ q. c.if-from_le_bytes-bits.true (q ∙ sym c.bits.ensures))
+    ∙ l.invariant.3
 
 pub loop-y-preserved : goal.loop-y-preserved
-loop-y-preserved c = let p = c.args in
-    let l = c.loop-y in
-    let left : Cursor → List Float = to_come p.plan p.work.now in
-    let came = step_yields c.args.plan c.args.work.now c.loop-y.c _ c.requires c.next-t.ensures _ _ c.in-Some.is in (
-      omega (arith, c.if-s-at-lt8.false, l.invariant.0),
-      float_step p.s.now l.at c.in-Some.y (left l.c) (left c.in-Some.d) came (omega (arith, c.if-s-at-lt8.false, l.invariant.0))
-          (sym c.same_float.ensures ∙ not-false _ c.if-not-same_float.false-raw)
-          ∙ l.invariant.1,
+loop-y-preserved c = let l = c.loop-y in
+    let p = c.in-Some-split_first_chunk in
+    let h : 8 ≤ length l.left.now = omega (arith, p.ensures.cases.2) in
+    let n = c.from_le_bytes.ensures ∙ number_part 7 l.left.now 0 p.bytes.now h p.ensures.cases.0 in (
+      tt,
+      tt,
+      rw p.ensures.cases.1 (drop_bytes l.left.now l.invariant.2),
+      rw p.ensures.cases.1
+          (float_step l.left.now c.in-Some.y _ _ c.in-Some.ensures.steps h l.invariant.2
+          (omega (arith, c.bits.ensures, c.bits.type_inv)) _ n (c.if-from_le_bytes-bits.false ∙ c.bits.ensures)
+          ∙ l.invariant.3),
     )
+
+pub returns : goal.returns
+returns c = let l = c.loop-y in
+    c.is_empty.ensures ∙ float_end l.left.now _ c.in-None.ensures.steps.0 ∙ l.invariant.3

@@ -1,9 +1,9 @@
 -- `sheet::request::put_fields` meets its contract. The invariant: what is still to be stored, stored now, gives what is asked.
-use Rattle.std.proofs.Common.{ℕ, ◌+◌, ◌*◌, ◌%◌, ◌≤◌, ◌≡◌, arith, refl, ap, ◌∙◌, sym, List, cond, length, drop}
-use Rattle.std.proofs.lemmas.List.Edits.{sets}
+use Rattle.std.proofs.Common.{◌+◌, ◌*◌, ◌%◌, ◌≤◌, ◌≡◌, arith, refl, ap, ◌∙◌, sym, cond, length, drop}
 use Rattle.sheet.specs.Bytes.{bytes, part}
 use Rattle.sheet.specs.Request.{blank_from, byte_read}
-use Rattle.sheet.proofs.request.Steps.{field_step, put_end}
+use Rattle.sheet.proofs.bytes.Same.{put_next}
+use Rattle.sheet.proofs.request.Steps.{field_left}
 use Rattle.sheet.proofs.request.put_fields.Goals as goal
 use Rattle.sheet.proofs.request.put_fields.Goals.{then-byte_read, else-byte_read}
 
@@ -19,15 +19,14 @@ loop-k-preserved c = let a = c.args in
     elim c.if-byte_read.branch [
       | then-byte_read w ↦ rw (w.field-is, sym c.byte_read.ensures ∙ w.if-byte_read.true) w.bytes_at-field.ensures
       | else-byte_read w ↦ rw (w.field-is, sym c.byte_read.ensures ∙ w.if-byte_read.false)
-    ] in (
-      omega arith,
-      omega arith,
-      c.put.auto.out ∙ c.loop-k.invariant.2,
-      ap (λ (o : List ℕ). sets o (a.at + 8 * (k + 1)) (blank_from a.s (8 * (k + 1)) (drop (8 * (k + 1)) r))) c.put.ensures
-          ∙ field_step a.s r (8 * k) (omega arith) whole room c.loop-k.out a.at c.if-byte_read.field (byte_read a.s (8 * k)) refl v (8 * (k + 1)) n
-          ∙ c.loop-k.invariant.3,
-    )
+    ] in
+    let q = c.copy_from_slice.ensures.after ∙ v in
+    let left = field_left a.s r (8 * k) (omega arith) whole room (byte_read a.s (8 * k)) refl in
+    let h = put_next c.loop-k.out c.copy_from_slice.new.self (blank_from a.s (8 * k + 8) (drop (8 * k + 8) r)) (blank_from a.s (8 * k) (drop (8 * k) r))
+    (8 * k) (8 * k + 8)
+    (omega (arith, ap length q, left.1)) (omega (arith, c.loop-k.invariant.2, c.requires.1)) (rw q left.0) in
+    (omega arith, omega arith, h.0 ∙ c.loop-k.invariant.2, rw n h.1 ∙ c.loop-k.invariant.3)
 
 pub returns : goal.returns
-returns c = let a = c.args in
-    put_end c.loop-k.out a.request.now a.at (8 * c.loop-k.k) a.s (omega arith) ∙ c.loop-k.invariant.3
+returns c = let k : c.loop-k.k ≡ 33 = omega arith in
+    rw k at c.loop-k.invariant.3

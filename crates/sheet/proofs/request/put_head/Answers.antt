@@ -16,5 +16,5 @@ loop-i-preserved c = let a = c.args in
     ] in (
       omega arith,
       simp length-set c.loop-i.invariant.1,
-      put_step c.loop-i.out a.request.now a.at i c.if-byte_read.b a.s k v ∙ c.loop-i.invariant.2,
+      put_step c.loop-i.out a.request.now i c.if-byte_read.b a.s k v ∙ c.loop-i.invariant.2,
     )

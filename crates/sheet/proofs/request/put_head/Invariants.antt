@@ -1,4 +1,4 @@
-use Prim.Native.Nat.{◌≤◌, ◌+◌}
+use Prim.Native.Nat.{◌≤◌}
 use mathlib.Core.Path.{◌≡◌}
 use lib.ListN.{length, drop}
 use lib.Seq.{sets}
@@ -8,4 +8,4 @@ use Rattle.sheet.proofs.request.put_head.Given as goal
 abbrev pub invariant-loop-i : goal.invariant-loop-i
 invariant-loop-i l =
     (l.i ≤ 16) × (length l.out ≡ length l.initial.out)
-    × (sets l.out (l.at + l.i) (blank_from l.s l.i (drop l.i l.request)) ≡ sets l.initial.out l.at (blank_from l.s 0 l.request))
+    × (sets l.out l.i (blank_from l.s l.i (drop l.i l.request)) ≡ sets l.initial.out 0 (blank_from l.s 0 l.request))

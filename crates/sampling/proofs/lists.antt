@@ -1,0 +1,2 @@
+-- What the proof of `angle_at` goes by.
+mod Parts

@@ -1,7 +1,0 @@
--- `sheet::bytes::put_float` meets its contract: std's eight bytes of a number are those of `Bytes`.
-use Rattle.std.proofs.Common.{◌∙◌}
-use Rattle.sheet.specs.Laws.Bytes.{to_le}
-use Rattle.sheet.proofs.bytes.put_float.Goals as goal
-
-pub returns : goal.returns
-returns c = c.put.ensures ∙ rw (c.to_le_bytes.ensures ∙ to_le 8 c.bits.result, c.bits.ensures)

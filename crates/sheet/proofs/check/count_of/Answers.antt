@@ -1,8 +1,0 @@
--- `sheet::check::count_of` meets its contract: std's number of four bytes is that of `Bytes`.
-use Rattle.std.proofs.Common.{◌∙◌, arith, length, ◌-◌}
-use Rattle.sheet.proofs.bytes.Same.{number_part}
-use Rattle.sheet.proofs.check.count_of.Goals as goal
-
-pub returns-clause-value : goal.returns-clause-value
-returns-clause-value c = let s = c.args.sheet.now in
-    c.from_le_bytes.ensures ∙ number_part 3 s (length s - 16) c.bytes_at.result (omega arith) c.bytes_at.ensures
