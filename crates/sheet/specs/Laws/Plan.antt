@@ -1,6 +1,6 @@
 -- What inner functions find of a request that passed its tests is what the definitions say of it.
-use Rattle.std.specs.Prelude.{ℕ, ◌≡◌, refl, ◌⊎◌, List, Bool, cond, ◌&&◌, length, get_or, T, eqb, leb, Float, Result, Ok, Err, Option, Some, None}
-use Rattle.std.proofs.Common.{arith, sym, ◌∙◌, inl, inr, leb-true, le-leb}
+use Rattle.std.specs.Prelude.{ℕ, ◌≡◌, refl, ◌⊎◌, List, [], ◌∷◌, Bool, cond, ◌&&◌, length, get_or, T, eqb, leb, Float, Result, Ok, Err, Option, Some, None}
+use Rattle.std.proofs.Common.{arith, sym, subst, ◌∙◌, inl, inr, leb-true, le-leb}
 use Rattle.std.proofs.Math.Path.{ap}
 use Rattle.std.proofs.Math.Bool.{true, false}
 use Rattle.std.proofs.lemmas.Bool.{false≢true}
@@ -15,10 +15,11 @@ use Rattle.float.specs.Promises.Order.{Within}
 use Rattle.float.specs.Laws.Interval.{in_of, in_within}
 use Rattle.polynomial.specs.Angle.{two_pi}
 use Rattle.sampling.specs.Reads.{joint_read, reference_read}
-use Rattle.sampling.specs.Promises.Stream.{start}
-use Rattle.sampling.specs.Promises.Plan.{Moderate, Drawable, by_plan, plan, work_after, to_come, Ready}
+use Rattle.sampling.specs.Promises.Stream.{Step, start}
+use Rattle.sampling.specs.Promises.Plan.{Moderate, Drawable, by_plan, plan, work_after, to_come, Ready, Gives, step}
 use Rattle.sampling.proofs.Laws.Charts.{moderate_drawable}
-use Rattle.sampling.proofs.Laws.Plan.{plan_by, plan_ready, plan_yields}
+use Rattle.sampling.proofs.Laws.Plan.{plan_by, plan_ready, plan_yields, step_gives}
+use Rattle.sampling.specs.declared.stream.Cursor.{Cursor}
 use Rattle.sampling.specs.declared.lists.Plan.{Plan}
 use Rattle.sampling.specs.Angles as Angles
 use Rattle.sampling.specs.declared.job.Kind.{Kind}
@@ -103,8 +104,8 @@ module _ {e : Edition} (r : List ℕ) (g : Passed e r) where
         go true h = h
         go false h = h
 
-    pub not_planned : s ≡ None → leb (cut_count r) (length w) ≡ false
-    not_planned e = fits_by false (ap (λ (o : Option Plan). by_plan o false true) e)
+    pub fits_no : s ≡ None → leb (cut_count r) (length w) ≡ false
+    fits_no e = fits_by false (ap (λ (o : Option Plan). by_plan o false true) e)
 
     module _ (p : Plan) (f : s ≡ Some p) where
       pub plan_asked : Ready p w
@@ -124,12 +125,27 @@ module _ (r : List ℕ) (p : Plan) (w : List Float) (g : PlannedFor r p w) where
   pub fits_yes : leb (cut_count r) (length w) ≡ true
   fits_yes = le-leb (cut_count r) (length w) g.room
 
+  pub found_angles : to_come p w start ≡ angles r
+  found_angles = g.yields
+
   pub found_count : length (to_come p w start) ≡ length (items r)
-  found_count = ap length g.yields ∙ sym (length_items r)
+  found_count = ap length found_angles ∙ sym (length_items r)
 
   pub found_items : floats_bytes (to_come p w start) ≡ words_bytes (items r)
   unfolding items
-  found_items = ap floats_bytes g.yields ∙ floats_words (angles r)
+  found_items = ap floats_bytes found_angles ∙ floats_words (angles r)
+
+-- ---- the angles one at a time
+
+module _ (p : Plan) (w : List Float) (c : Cursor) (t : Step) (g : Ready p w) (e : t ≡ step p w c) where
+  gives : (s : Step) → t ≡ s → Gives (to_come p w c) (to_come p w) s
+  gives s f = subst (Gives (to_come p w c) (to_come p w)) (sym e ∙ f) (step_gives p w c g)
+
+  pub step_yields : (y : Float) (d : Cursor) → t ≡ Some (y, d) → to_come p w c ≡ y ∷ to_come p w d
+  step_yields y d f = gives (Some (y, d)) f
+
+  pub step_done : t ≡ None → to_come p w c ≡ []
+  step_done f = gives None f
 
 -- ---- work, before it is cleared
 

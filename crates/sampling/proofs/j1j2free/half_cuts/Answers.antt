@@ -1,7 +1,5 @@
 -- `sampling::j1j2free::half_cuts` meets its contract: at each return, what the calls and the tests on the way to it say.
 use Rattle.std.proofs.Common.{rules}
-use mathlib.Core.Path.{sym, subst}
-use Rattle.sampling.specs.Promises.Charts.{Bounded}
 use Rattle.sampling.proofs.Grown.{then, whole}
 use Rattle.sampling.proofs.j1j2free.half_cuts.Goals as goal
 

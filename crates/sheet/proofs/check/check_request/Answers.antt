@@ -6,7 +6,7 @@ use borrow.Author.Tests.{not-true, not-false}
 use mathlib.Core.Path.{◌≡◌, refl, sym, ◌∙◌}
 use Rattle.sheet.specs.Refusals.{need}
 use Rattle.sheet.specs.Promises.Plan.{checked, compared}
-use Rattle.sheet.specs.Laws.Plan.{passed_drawable, not_planned, plan_asked, planned_for, fits_yes, found_items, refused_meets}
+use Rattle.sheet.specs.Laws.Plan.{passed_drawable, fits_no, plan_asked, planned_for, fits_yes, found_items, refused_meets}
 use Rattle.sheet.specs.declared.refusals.Fault.TheVariants.{Work}
 use Rattle.sheet.specs.Laws.Accepted.{passed_meets}
 use Rattle.sheet.specs.Laws.Places.{core_least}
@@ -42,7 +42,7 @@ returns-in_err-plan-clause-result_value c = let a = c.args in
     let p = c.plan_request-plan in
     let u = sym c.unread_zero.ensures ∙ not-false _ c.if-not-unread_zero.false-raw in
     let n : p.result ≡ None = grind arith in
-    let h = not_planned _ g p.result a.work.now p.new.work p.ensures.value p.ensures.work_after p.auto.work n in
+    let h = fits_no _ g p.result a.work.now p.new.work p.ensures.value p.ensures.work_after p.auto.work n in
     let k = err_from_is_err_and c.from_residual.result c.from_residual.ensures.1 in
     let r : c.in_err-plan.field-0.0 ≡ Work = grind arith in
     rw (k.1, k.2, r, passed_meets _ _ g, u, ← p.auto.work, h) refl

@@ -2,7 +2,7 @@
 use Rattle.std.proofs.Common.{◌≡◌, arith, sym, ap, ◌∙◌, Option, length, drop, length-drop}
 use Rattle.std.proofs.lemmas.List.Edits.{sets}
 use Rattle.polynomial.specs.Laws.Lists.{tail_part}
-use Rattle.sheet.specs.declared.request.Shape.{Shape}
+use Rattle.sampling.specs.declared.reads.Shape.{Shape}
 use Rattle.sheet.specs.Request.{blank_from}
 use Rattle.sheet.specs.Laws.Bytes.{sets_all}
 use Rattle.sheet.specs.Laws.Blank.{length_blank}

@@ -11,7 +11,7 @@ use Rattle.sheet.specs.Refusals.{need}
 use Rattle.sheet.specs.Sampling.{cut_count}
 use lib.Dec.{leb}
 use mathlib.Core.Bool.{false}
-use Rattle.sheet.specs.Laws.Plan.{passed_drawable, not_planned, plan_asked, planned_for, passed_answer, refused_answer}
+use Rattle.sheet.specs.Laws.Plan.{passed_drawable, fits_no, plan_asked, planned_for, passed_answer, refused_answer}
 use Rattle.sheet.specs.Laws.Tested.{tested_passed, tested_unit}
 use Rattle.sheet.proofs.sample.run.Goals as goal
 
@@ -34,7 +34,7 @@ returns-in_err-plan-clause-result_value c = let a = c.args in
     let g = tested_passed newest _ _ (sym c.validate.ensures ∙ c.in_ok-q.was) in
     let p = c.plan_request in
     let n : p.result ≡ None = grind arith in
-    let h = not_planned _ g p.result a.work.now p.new.work p.ensures.value p.ensures.work_after p.auto.work n in
+    let h = fits_no _ g p.result a.work.now p.new.work p.ensures.value p.ensures.work_after p.auto.work n in
     let k = err_from_is_err_and c.from_residual-in_err-plan.result c.from_residual-in_err-plan.ensures.1 in
     let r : c.in_err-plan.field-0.0 ≡ Work = grind arith in
     let places : leb (cut_count a.request.now) (length a.work.now) ≡ false = rw p.auto.work at h in
