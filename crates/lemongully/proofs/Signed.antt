@@ -1,9 +1,13 @@
 -- What C gets of a result is the number of the operation's answer, and small counts fit.
-use Rattle.std.proofs.Common.{ℕ, ◌<◌, ◌≤◌, ◌^◌, ◌≡◌, refl, arith, nat_abs, Result, Ok, Err, IfOk}
+use Rattle.std.proofs.Common.{ℕ, ◌<◌, ◌^◌, ◌≡◌, refl, arith, Result, Ok, Err, IfOk}
 use Rattle.polynomial.specs.Operation as Roots
 use Rattle.polynomial.specs.declared.refusals.Refusal as roots
 use Rattle.sheet.specs.Refusals.{number, fault_number}
 use Rattle.sheet.specs.Refusals as Refusals
+use Rattle.std.proofs.Common.{List, length, sym}
+use Rattle.sheet.specs.Edition.{newest}
+use Rattle.sheet.specs.Laws.Demands.{checked_length}
+use Rattle.sheet.specs.Laws.Accepted.{answer_room}
 use Rattle.sheet.specs.Sampling as Sampling
 use Rattle.sheet.specs.Check as Check
 use Rattle.sheet.specs.declared.refusals.Refusal.{Refusal}
@@ -28,11 +32,13 @@ pub signed_roots : (a : Result ℕ roots.Refusal) → signed Roots.refusal_numbe
 signed_roots (Ok n) = refl
 signed_roots (Err k) = refl
 
--- a count that is small wherever there is one
-pub small : {E : Type 0} (a : Result ℕ E) → ((n : ℕ) → a ≡ Ok n → n < 2 ^ 63) → IfOk a (λ n. n < 2 ^ 63)
-small (Ok n) h = h n refl
-small (Err k) h = tt
+-- ---- a count that is small
+pub small_sampled : (r : List ℕ) (places room : ℕ) (a : Result ℕ Refusal) → Sampling.answer_of a ≡ Sampling.answer r places room → room < 2 ^ 63
+    → IfOk a (λ n. n < 2 ^ 63)
+small_sampled r places room (Ok n) e h = let k = answer_room r places room n (sym e) in omega arith
+small_sampled r places room (Err k) e h = tt
 
-pub small_roots : (a : Result ℕ roots.Refusal) → nat_abs (Roots.number a) ≤ 509 → IfOk a (λ n. n < 2 ^ 63)
-small_roots (Ok n) h = omega arith
-small_roots (Err k) h = tt
+pub small_checked : (s : List ℕ) (places : ℕ) (a : Result ℕ Fault) → Check.answer_of a ≡ Check.answer newest s places → length s < 2 ^ 63
+    → IfOk a (λ n. n < 2 ^ 63)
+small_checked s places (Ok n) e h = let k = checked_length newest s places n (sym e) in omega arith
+small_checked s places (Err f) e h = tt

@@ -12,7 +12,7 @@ use float::number::of_bits;
 
 // Success fills the first bytes of the text with the page; its rest, and all of it on refusal, is
 // left. After every answer each work place is +0.0.
-#[tactic(auto, using(crate::proofs::Signed::signed_page))]
+#[tactic(auto, using(crate::proofs::Signed::signed_page, crate::proofs::of_page::Room::small_page))]
 #[unsafe(no_mangle)]
 pub extern "C" fn page_text(sheet: &[u8], page: u64, work: &mut [f64], text: &mut [u8]) -> i64
     ensures value { result ≡ Refusals.signed (Operation.answer sheet.now page (length work.old) (length text.old)) }
@@ -26,7 +26,7 @@ pub extern "C" fn page_text(sheet: &[u8], page: u64, work: &mut [f64], text: &mu
 
 // Columns 27 to 42 of the float of bits x in the first 16 bytes, and 16; or -42, and the text left, if
 // it has fewer.
-#[tactic(auto, using(crate::proofs::Signed::signed_page))]
+#[tactic(auto, using(crate::proofs::Signed::signed_page, crate::proofs::of_page::Room::small_decimal))]
 #[unsafe(no_mangle)]
 pub extern "C" fn page_decimal(x: u64, text: &mut [u8]) -> i64
     ensures value { result ≡ Refusals.signed (Operation.decimal_answer (length text.old)) }

@@ -8,6 +8,7 @@ use crate::numbers::signed_number;
 
 // The result slice gets the roots in its first places, and kinds how each arose, 1 for a touch and 2
 // for a crossing; the rest of both, and all of it on refusal, is left.
+#[tactic(auto, using(crate::proofs::Signed::signed_roots, crate::proofs::of_polynomial::Largest::small_roots))]
 #[unsafe(no_mangle)]
 pub extern "C" fn polynomial_roots(
     coefficients: &[f64],

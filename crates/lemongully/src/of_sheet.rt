@@ -12,7 +12,7 @@ use sheet::sample::sample;
 
 // Success fills the first bytes of the output with the sheet; a refusal leaves it. After every
 // answer each work place is +0.0.
-#[tactic(auto, using(crate::proofs::Signed::signed_sampled))]
+#[tactic(auto, using(crate::proofs::Signed::signed_sampled, crate::proofs::Signed::small_sampled))]
 #[unsafe(no_mangle)]
 pub extern "C" fn sheet_sample(request: &[u8], work: &mut [f64], output: &mut [u8]) -> i64
     ensures value { result ≡ Refusals.signed (Sampling.answer request.now (length work.old) (length output.old)) }
@@ -25,7 +25,7 @@ pub extern "C" fn sheet_sample(request: &[u8], work: &mut [f64], output: &mut [u
 }
 
 // After every answer each work place is +0.0.
-#[tactic(auto, using(crate::proofs::Signed::signed_checked))]
+#[tactic(auto, using(crate::proofs::Signed::signed_checked, crate::proofs::Signed::small_checked))]
 #[unsafe(no_mangle)]
 pub extern "C" fn sheet_check(sheet: &[u8], work: &mut [f64]) -> i64
     ensures value { result ≡ Refusals.signed (Check.answer newest sheet.now (length work.old)) }

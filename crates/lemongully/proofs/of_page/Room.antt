@@ -10,7 +10,9 @@ use Rattle.sheet.specs.Edition.{newest}
 use Rattle.sheet.specs.Refusals.{Answer, accepted, refused, need}
 use Rattle.sheet.specs.Laws.Tested.{need_holds, need_accepted}
 use Rattle.sheet.specs.Check as Check
-use Rattle.page.specs.Operation.{text, is_page, laid, by_check, answer, decimal_answer}
+use Rattle.page.specs.Operation.{text, is_page, laid, by_check, answer, answer_of, decimal_answer}
+use Rattle.page.specs.declared.refusals.Refusal.{Refusal}
+use Rattle.std.proofs.Common.{◌<◌, ◌^◌, refl, Result, Ok, Err, IfOk}
 
 fit : (m k room n : ℕ) → need (leb m room) k (accepted m) ≡ accepted n → n ≤ room
 fit m k room n e =
@@ -31,3 +33,11 @@ text_fits s k places room n a e =
 
 pub decimal_fits : (room n : ℕ) {v : Answer} → v ≡ decimal_answer room → v ≡ accepted n → n ≤ room
 decimal_fits room n a e = fit 16 42 room n (sym a ∙ e)
+
+pub small_page : (s : List ℕ) (k places room : ℕ) (a : Result ℕ Refusal) → answer_of a ≡ answer s k places room → room < 2 ^ 63 → IfOk a (λ n. n < 2 ^ 63)
+small_page s k places room (Ok n) e h = let l = text_fits s k places room n e refl in omega arith
+small_page s k places room (Err f) e h = tt
+
+pub small_decimal : (room : ℕ) (a : Result ℕ Refusal) → answer_of a ≡ decimal_answer room → room < 2 ^ 63 → IfOk a (λ n. n < 2 ^ 63)
+small_decimal room (Ok n) e h = let l = decimal_fits room n e refl in omega arith
+small_decimal room (Err f) e h = tt

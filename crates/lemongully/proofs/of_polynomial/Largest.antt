@@ -1,6 +1,7 @@
 -- The operation's number is at most 2 ^ 9 - 3 in magnitude, since there are at most nine coefficients.
 use Rattle.std.proofs.Common.{ℕ, ◌+◌, ◌%◌, ◌≤◌, zero-le, arith, ◌≡◌, refl, sym, Bool, true, false, cond, ◌&&◌, ◌||◌, List, [], ◌∷◌, length}
 use mathlib.Core.Bool.{false≢true}
+use Rattle.std.proofs.Common.{◌<◌, ◌^◌, IfOk}
 use lib.IntN.{nat_abs}
 use lib.Dec.{ltb, leb, eqb, lit≤}
 use lib.Ieee.{Float}
@@ -47,3 +48,11 @@ module _ (s : List Float) (lower upper : Float) (room bytes : ℕ) where
       (λ _. few_roots h) (λ _. lit≤ tt))
       (λ _. lit≤ tt))
       (λ _. lit≤ tt))
+
+small_number : (a : Result ℕ Refusal) → Few a → IfOk a (λ n. n < 2 ^ 63)
+small_number (Ok n) h = omega arith
+small_number (Err k) h = tt
+
+pub small_roots : (s : List Float) (lower upper : Float) (room bytes : ℕ) (a : Result ℕ Refusal) → a ≡ answer s lower upper room bytes
+    → IfOk a (λ n. n < 2 ^ 63)
+small_roots s lower upper room bytes a e = small_number a (rw e (answer_few s lower upper room bytes))
