@@ -143,13 +143,8 @@ pub(crate) fn cut(work: &mut [f64], t: &Folded) -> Option<Plan>
     ensures value { result ≡ granted (Of.cut_count t.now) (folded_plan t.now) (length work.old) }
     ensures work_after { IfSome result (λ p. work.new ≡ folded_cuts t.now ++ drop (Of.cut_count t.now) work.old) }
 {
-    let range1 = t.range1;
-    match range1 {
-        None => Some(Plan::Lists(Lists {
-            first: 0,
-            second: 0,
-            third: 0,
-        })),
+    match t.range1 {
+        None => Some(Plan::Lists(Lists::default())),
         Some((lower, upper)) => cut_halves(work, t, lower, upper),
     }
 }

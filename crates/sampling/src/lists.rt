@@ -6,7 +6,7 @@ ghost use Rattle.sampling.specs.Promises.Plan.{countable};
 use crate::samples::sample_at;
 
 // How many cuts each interval has. Fields and no array, since the definitions name each of the three.
-#[derive(Clone, Copy)]
+#[derive(Clone, Copy, Default)]
 pub struct Lists {
     pub first: usize,
     pub second: usize,

@@ -123,8 +123,7 @@ fn cut(work: &mut [f64], job: Job) -> Option<Plan>
     ensures value { result ≡ Of.plan job (length work.old) }
     ensures work_after { IfSome result (λ p. work.new ≡ all_cuts job ++ drop (cut_count job) work.old) }
 {
-    let kind = job.kind;
-    match kind {
+    match job.kind {
         Kind::J1free => sample_angles::cut(work, &first_free(job)),
         Kind::J2free => sample_angles::cut(work, &second_free(job)),
         Kind::J1j2free => j1j2free::cut(work, &folded_of(job)),

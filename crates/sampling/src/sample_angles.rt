@@ -112,9 +112,5 @@ pub(crate) fn cut(work: &mut [f64], f: &Free) -> Option<Plan>
         let three = wrist_limit_intervals(f.limits, f.near, 1.0);
         return cut_intervals(work, f.near, three, &roots);
     }
-    Some(Plan::Lists(Lists {
-        first: 0,
-        second: 0,
-        third: 0,
-    }))
+    Some(Plan::Lists(Lists::default()))
 }

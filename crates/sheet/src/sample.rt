@@ -72,13 +72,7 @@ fn fill(output: &mut [u8], draft: &Draft, n: usize)
 fn has_room(n: usize, room: usize) -> bool
     ensures { result ≡ leb (Sheet.sheet_size newest n) room }
 {
-    if room < FRAME {
-        return false;
-    }
-    if n <= (room - FRAME) / 8 {
-        return true;
-    }
-    false
+    FRAME <= room && n <= (room - FRAME) / 8
 }
 
 // 11, and else the sheet.
