@@ -56,10 +56,7 @@ fn cosine(r: f64) -> f64
 fn quadrant(k: i64) -> u64
     ensures { result ≡ Trig.quadrant k }
 {
-    if k >= 0 {
-        return (k as u64) % 4;
-    }
-    3 - ((-1 - k) as u64) % 4
+    k.rem_euclid(4) as u64
 }
 
 // Sine and cosine from those of the reduced argument, by the quadrant.
@@ -94,8 +91,8 @@ pub fn sin_cos(x: f64) -> SinCos
         return by_quadrant(quadrant(k), sine(r), cosine(r));
     }
     SinCos {
-        sine: 0.0 / 0.0,
-        cosine: 0.0 / 0.0,
+        sine: f64::NAN,
+        cosine: f64::NAN,
     }
 }
 
