@@ -1,10 +1,10 @@
--- `float::sqrt::beside` meets its contract, by `Middles`.
+-- `float::sqrt::Operand::beside` meets its contract, by `Middles`.
 use Rattle.std.proofs.Common.{◌≤◌, inl, inr, arith}
 use Rattle.float.proofs.sqrt.Middles as Middles
-use Rattle.float.proofs.sqrt.beside.Goals as goal
-use Rattle.float.proofs.sqrt.beside.Lts as lts
-use Rattle.float.proofs.sqrt.beside.Reads as reads
-use Rattle.float.proofs.sqrt.beside.Goals.{else-d-q, else-d-q-le13510798882111488, then-d-q, then-d-q-le13510798882111488}
+use Rattle.float.proofs.sqrt.Operand.beside.Goals as goal
+use Rattle.float.proofs.sqrt.Operand.beside.Lts as lts
+use Rattle.float.proofs.sqrt.Operand.beside.Reads as reads
+use Rattle.float.proofs.sqrt.Operand.beside.Goals.{else-d-q, else-d-q-le13510798882111488, then-d-q, then-d-q-le13510798882111488}
 
 up_le : (c : lts.Joined2 reads.Pre reads.Post) → c.if-d-q.up ≤ 1
 up_le c = elim c.if-d-q.branch [ then-d-q w ↦ omega arith | else-d-q w ↦ omega arith ]
@@ -13,15 +13,15 @@ down_le : (c : lts.Joined2 reads.Pre reads.Post) → c.if-d-q-le1351079888211148
 down_le c = elim c.if-d-q-le13510798882111488.branch [ then-d-q-le13510798882111488 w ↦ omega arith | else-d-q-le13510798882111488 w ↦ omega arith ]
 
 pub overflow_add-result : goal.overflow_add-result
-overflow_add-result c = omega (arith, up_le c.before.before, c.requires.2)
+overflow_add-result c = omega (arith, up_le c.before.before, c.requires.1)
 
 pub overflow_sub-result : goal.overflow_sub-result
-overflow_sub-result c = omega (arith, down_le c.before.before, c.requires.1)
+overflow_sub-result c = omega (arith, down_le c.before.before, c.requires.0)
 
 pub returns : goal.returns
 returns c = let a = c.args in
     let p = c.requires in
-    Middles.beside a.m a.d a.q p.1 p.5 p.0 p.3 p.4 c.if-d-q.up c.if-d-q-le13510798882111488.down
+    Middles.beside a.self.m a.d a.q p.0 p.4 a.self.least p.2 p.3 c.if-d-q.up c.if-d-q-le13510798882111488.down
     (elim c.if-d-q.branch [ then-d-q w ↦ inl (w.if-d-q.true, w.up-is) | else-d-q w ↦ inr (w.if-d-q.false, w.up-is) ])
     (elim c.if-d-q-le13510798882111488.branch [
       | then-d-q-le13510798882111488 w ↦ inl (w.if-d-q-le13510798882111488.true, w.down-is)

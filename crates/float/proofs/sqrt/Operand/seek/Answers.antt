@@ -1,11 +1,11 @@
--- `float::sqrt::seek` meets its contract. The first loop ends with q * (q - 1) below n, which m * 2 ^ 52 is, and
+-- `float::sqrt::Operand::seek` meets its contract. The first loop ends with q * (q - 1) below n, which m * 2 ^ 52 is, and
 -- the second keeps that and ends with n at most q * (q + 1), whatever the first guess was:
 -- the guess decides only how many steps they take.
 use Rattle.std.proofs.Common.{◌≡◌, ℕ, zero, suc, ◌+◌, ◌-◌, ◌*◌, ◌^◌, ◌<◌, ◌≤◌, sym, ◌∙◌, subst, le_trans, lt_of_le_of_lt, mul-le-mul, lt_of_not-le}
 use Rattle.std.proofs.Common.{not-le_of_lt, arith, lit≤, ltb-false, ltb-true}
 use Rattle.std.proofs.Common.{rules}
 use borrow.Author.Tests.{not-true, not-false}
-use Rattle.float.proofs.sqrt.seek.Goals as goal
+use Rattle.float.proofs.sqrt.Operand.seek.Goals as goal
 
 -- a q whose product with q - 1 is not below a number above 0 is not 1
 not_one : (q n : ℕ) → 1 ≤ q → 0 < n → n ≤ q * (q - 1) → 2 ≤ q
@@ -37,21 +37,21 @@ next q n h = subst (λ (x : ℕ). (q + 1) * x < n) (back q) (lt_of_le_of_lt (le_
     le_of_comm q = omega arith
 
 -- what the tests say
-over : (c : goal.In-loop-q) → c.args.m * 2 ^ 52 ≤ c.loop-q.q *
+over : (c : goal.In-loop-q) → c.args.self.m * 2 ^ 52 ≤ c.loop-q.q *
     (c.loop-q.q - 1)
 over c = ltb-false _ _ (sym c.below.ensures ∙ not-true _ (search rules))
 
 under : (c : goal.After-loop-q) → c.loop-q.q *
-    (c.loop-q.q - 1) < c.args.m * 2 ^ 52
+    (c.loop-q.q - 1) < c.args.self.m * 2 ^ 52
 under c = ltb-true _ _ (sym c.below.ensures ∙ not-false _ (search rules))
 
-still : (c : goal.In-loop-q-2) → c.loop-q-2.q *
-    (c.loop-q-2.q + 1) < c.args.m * 2 ^ 52
-still c = ltb-true _ _ (sym c.below-in-loop-q-2.ensures ∙ c.loop-q-2-test.true)
+still : (c : goal.In-loop-self) → c.loop-self.q *
+    (c.loop-self.q + 1) < c.args.self.m * 2 ^ 52
+still c = ltb-true _ _ (sym c.below-in-loop-self.ensures ∙ c.loop-self-test.true)
 
-enough : (c : goal.After-loop-q-2)
-    → c.args.m * 2 ^ 52 ≤ c.loop-q-2.q * (c.loop-q-2.q + 1)
-enough c = ltb-false _ _ (sym c.below-in-loop-q-2.ensures ∙ c.loop-q-2-test.false)
+enough : (c : goal.After-loop-self)
+    → c.args.self.m * 2 ^ 52 ≤ c.loop-self.q * (c.loop-self.q + 1)
+enough c = ltb-false _ _ (sym c.below-in-loop-self.ensures ∙ c.loop-self-test.false)
 
 pub overflow_sub-q-in-loop-q : goal.overflow_sub-q-in-loop-q
 overflow_sub-q-in-loop-q c = c.loop-q.invariant.0
@@ -63,24 +63,24 @@ some : (m : ℕ) → 2 ^ 52 ≤ m → 0 < m * 2 ^ 52
 some m h = omega arith
 
 pub loop-q-preserved : goal.loop-q-preserved
-loop-q-preserved c = let m = c.args.m in
-    let h : 2 ≤ c.loop-q.q = not_one c.loop-q.q (m * 2 ^ 52) c.loop-q.invariant.0 (some m c.requires.0) (over c) in
+loop-q-preserved c = let m = c.args.self.m in
+    let h : 2 ≤ c.loop-q.q = not_one c.loop-q.q (m * 2 ^ 52) c.loop-q.invariant.0 (some m c.args.self.least) (over c) in
     (omega arith, omega (arith, c.loop-q.invariant.1))
 
-pub loop-q-2-init : goal.loop-q-2-init
-loop-q-2-init c = (c.loop-q.invariant.0, c.loop-q.invariant.1, under c)
+pub loop-self-init : goal.loop-self-init
+loop-self-init c = (c.loop-q.invariant.0, c.loop-q.invariant.1, under c)
 
-pub overflow_add-q-in-loop-q-2 : goal.overflow_add-q-in-loop-q-2
-overflow_add-q-in-loop-q-2 c = omega (arith, c.loop-q-2.invariant.1)
+pub overflow_add-q-in-loop-self : goal.overflow_add-q-in-loop-self
+overflow_add-q-in-loop-self c = omega (arith, c.loop-self.invariant.1)
 
-lower : (c : goal.In-loop-q-2) → c.loop-q-2.q < 2 ^ 53
-lower c = small c.loop-q-2.q c.args.m c.requires.1 (still c)
+lower : (c : goal.In-loop-self) → c.loop-self.q < 2 ^ 53
+lower c = small c.loop-self.q c.args.self.m c.args.self.most (still c)
 
-pub loop-q-2-smaller : goal.loop-q-2-smaller
-loop-q-2-smaller c = omega (arith, lower c)
+pub loop-self-smaller : goal.loop-self-smaller
+loop-self-smaller c = omega (arith, lower c)
 
-pub loop-q-2-preserved : goal.loop-q-2-preserved
-loop-q-2-preserved c = (omega arith, omega (arith, lower c), next c.loop-q-2.q _ (still c))
+pub loop-self-preserved : goal.loop-self-preserved
+loop-self-preserved c = (omega arith, omega (arith, lower c), next c.loop-self.q _ (still c))
 
 pub returns : goal.returns
-returns c = record { above = c.loop-q-2.invariant.2; below = enough c }
+returns c = record { above = c.loop-self.invariant.2; below = enough c }
