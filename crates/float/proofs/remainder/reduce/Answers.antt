@@ -39,7 +39,7 @@ pub loop-left-init : goal.loop-left-init
 loop-left-init c = (mod-lt c.args.p c.requires.1, mod_factor c.args.p (2 ^ c.args.d) c.args.q)
 
 pub step-r-requires : goal.step-r-requires
-step-r-requires c = (c.loop-left.invariant.0, c.requires.2, refl)
+step-r-requires c = c.loop-left.invariant.0
 
 pub loop-left-preserved : goal.loop-left-preserved
 loop-left-preserved c = let h : 11 < c.loop-left.left = omega arith in (

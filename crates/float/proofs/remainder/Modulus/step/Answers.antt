@@ -1,8 +1,8 @@
--- `float::remainder::step` meets its contract: the quotient that it takes is the right one or one less.
+-- `float::remainder::Modulus::step` meets its contract: the quotient that it takes is the right one or one less.
 use Rattle.std.proofs.Common.{◌≡◌, ℕ, ◌+◌, ◌-◌, ◌*◌, ◌/◌, ◌%◌, ◌^◌, ◌<◌, ◌≤◌, sym, refl, ap, ◌∙◌, subst, le_of_lt, mul-le-mul_right, mod-lt}
 use Rattle.std.proofs.Common.{mul-le-mul_left, div-add-mod', arith, pow_pos}
 use lib.Arith.{digits_mod}
-use Rattle.float.proofs.remainder.step.Goals as goal
+use Rattle.float.proofs.remainder.Modulus.step.Goals as goal
 
 -- v is the inverse, and h the quotient that its product with r gives
 module _ (r q v h : ℕ) (R : r < q) (Q : q < 2 ^ 53) (E : v ≡ (2 ^ 64 - 1) / q) (H : h ≡ r * v / 2 ^ 53) where
@@ -61,20 +61,20 @@ module _ (r q v h : ℕ) (R : r < q) (Q : q < 2 ^ 53) (E : v ≡ (2 ^ 64 - 1) / 
       back = omega (arith, low, kept)
 
 pub overflow_mul-quotient : goal.overflow_mul-quotient
-overflow_mul-quotient c = record { fits = fits c.args.r c.args.q c.args.inverse _ c.requires.0 c.requires.1 c.requires.2 refl }
+overflow_mul-quotient c = record { fits = fits c.args.r c.args.self.q c.args.self.inverse _ c.requires c.args.self.short c.args.self.inverted refl }
 
 pub overflow_mul-rest : goal.overflow_mul-rest
-overflow_mul-rest c = let l : c.args.r * c.args.inverse / 2 ^ 53 * c.args.q ≤ c.args.r * 2 ^ 11 =
-    low c.args.r c.args.q c.args.inverse _ c.requires.0 c.requires.1 c.requires.2 refl in
+overflow_mul-rest c = let l : c.args.r * c.args.self.inverse / 2 ^ 53 * c.args.self.q ≤ c.args.r * 2 ^ 11 =
+    low c.args.r c.args.self.q c.args.self.inverse _ c.requires c.args.self.short c.args.self.inverted refl in
     omega arith
 
 pub overflow_sub-rest : goal.overflow_sub-rest
-overflow_sub-rest c = let l = low c.args.r c.args.q c.args.inverse _ c.requires.0 c.requires.1 c.requires.2 refl in
-    subst (λ (x : ℕ). c.args.r * c.args.inverse / 2 ^ 53 * c.args.q ≤ x)
-    (sym (kept c.args.r c.args.q c.args.inverse _ c.requires.0 c.requires.1 c.requires.2 refl)) l
+overflow_sub-rest c = let l = low c.args.r c.args.self.q c.args.self.inverse _ c.requires c.args.self.short c.args.self.inverted refl in
+    subst (λ (x : ℕ). c.args.r * c.args.self.inverse / 2 ^ 53 * c.args.self.q ≤ x)
+    (sym (kept c.args.r c.args.self.q c.args.self.inverse _ c.requires c.args.self.short c.args.self.inverted refl)) l
 
-pub returns-then-rest-q : goal.returns-then-rest-q
-returns-then-rest-q c = one c.args.r c.args.q c.args.inverse _ c.requires.0 c.requires.1 c.requires.2 refl c.if-rest-q.true
+pub returns-then-rest-self : goal.returns-then-rest-self
+returns-then-rest-self c = one c.args.r c.args.self.q c.args.self.inverse _ c.requires c.args.self.short c.args.self.inverted refl c.if-rest-self.true
 
-pub returns-else-rest-q : goal.returns-else-rest-q
-returns-else-rest-q c = two c.args.r c.args.q c.args.inverse _ c.requires.0 c.requires.1 c.requires.2 refl (omega arith)
+pub returns-else-rest-self : goal.returns-else-rest-self
+returns-else-rest-self c = two c.args.r c.args.self.q c.args.self.inverse _ c.requires c.args.self.short c.args.self.inverted refl (omega arith)
