@@ -1,7 +1,7 @@
 // Bisecting an interval until no float lies strictly inside. First by plain arithmetic, as long as that
 // tells the sign at the middle. Then mostly two steps at a time: the values at the middle and at both
 // middles that can come next are worked out side by side.
-ghost use Rattle.std.specs.Prelude.{◌≡◌, ◌≤◌, length};
+ghost use Rattle.std.specs.Prelude.{◌≡◌};
 ghost use Rattle.polynomial.specs.Polynomial as Of;
 ghost use Rattle.polynomial.specs.Roots as Roots;
 ghost use Rattle.float.specs.Promises.Order.{Span};
@@ -9,9 +9,8 @@ ghost use Rattle.polynomial.specs.Promises.Inside as Inside;
 ghost use Rattle.polynomial.specs.Promises.Plain.{AllTidy};
 
 use crate::bounds::Bounds;
-use crate::compensated::Compensated;
 use crate::plain::{all_tidy, plain_sign};
-use crate::polynomial::{evaluate, evaluate_three};
+use crate::polynomial::Polynomial;
 use float::number::{is_sign_positive, middle};
 use std::ops::ControlFlow;
 
@@ -53,15 +52,15 @@ fn narrowed_once(lo: f64, hi: f64, m: f64, v: f64, positive: bool) -> ControlFlo
 }
 
 // What a step leaves or, where the three values are known, two steps.
-fn narrowed(p: &[Compensated], lo: f64, hi: f64, positive: bool) -> ControlFlow<f64, (f64, f64)>
+fn narrowed(p: Polynomial, lo: f64, hi: f64, positive: bool) -> ControlFlow<f64, (f64, f64)>
     requires { Span 2 lo hi }
-    ensures { Inside.Leaves (Of.evaluate p.now) positive lo hi result }
+    ensures { Inside.Leaves (Of.evaluate p.entry.terms.now) positive lo hi result }
 {
     let m = middle(lo, hi);
     let below = middle(lo, m);
     let above = middle(m, hi);
-    let Some((u, v, w)) = evaluate_three(p, below, m, above) else {
-        return narrowed_once(lo, hi, m, evaluate(p, m), positive);
+    let Some((u, v, w)) = p.evaluate_three(below, m, above) else {
+        return narrowed_once(lo, hi, m, p.evaluate(m), positive);
     };
     match step_at(lo, hi, m, v, positive)? {
         Half::Upper => narrowed_once(m, hi, above, w, positive),
@@ -70,9 +69,9 @@ fn narrowed(p: &[Compensated], lo: f64, hi: f64, positive: bool) -> ControlFlow<
 }
 
 // Bisects the interval while plain arithmetic tells the sign at the middle.
-fn roughly(p: &[Compensated], from: f64, to: f64, positive: bool) -> ControlFlow<f64, (f64, f64)>
-    requires { (length p.now ≤ 9) × Span 2 from to × AllTidy p.now }
-    ensures { Inside.Rest (Of.evaluate p.now) positive from to result }
+fn roughly(p: Polynomial, from: f64, to: f64, positive: bool) -> ControlFlow<f64, (f64, f64)>
+    requires { Span 2 from to × AllTidy p.terms.now }
+    ensures { Inside.Rest (Of.evaluate p.entry.terms.now) positive from to result }
 {
     let mut lo = from;
     let mut hi = to;
@@ -86,9 +85,9 @@ fn roughly(p: &[Compensated], from: f64, to: f64, positive: bool) -> ControlFlow
 }
 
 // Bisects the interval, by compensated values, until no float lies strictly inside.
-fn finely(p: &[Compensated], from: f64, to: f64, positive: bool) -> f64
+fn finely(p: Polynomial, from: f64, to: f64, positive: bool) -> f64
     requires { Span 2 from to }
-    ensures { result ≡ Roots.bisected (Of.evaluate p.now) positive from to }
+    ensures { result ≡ Roots.bisected (Of.evaluate p.entry.terms.now) positive from to }
 {
     let mut lo = from;
     let mut hi = to;
@@ -102,9 +101,8 @@ fn finely(p: &[Compensated], from: f64, to: f64, positive: bool) -> f64
 
 // Bisects the interval until no float lies strictly inside; the value at its lower end is positive
 // where `positive` says so.
-pub(crate) fn bisect(p: &[Compensated], at: Bounds, positive: bool) -> f64
-    requires { length p.now ≤ 9 }
-    ensures { result ≡ Roots.bisected (Of.evaluate p.now) positive at.lower at.upper }
+pub(crate) fn bisect(p: Polynomial, at: Bounds, positive: bool) -> f64
+    ensures { result ≡ Roots.bisected (Of.evaluate p.entry.terms.now) positive at.lower at.upper }
 {
     if !all_tidy(p) {
         return finely(p, at.lower, at.upper, positive);

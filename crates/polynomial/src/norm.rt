@@ -7,6 +7,7 @@ ghost use Rattle.polynomial.specs.Promises.Norm.{put_all};
 use crate::angle::wrapped_angle;
 use crate::bounds::Bounds;
 use crate::curve::{Harmonic, norm_polynomial};
+use crate::polynomial::Polynomial;
 use crate::roots::{keep, roots};
 use float::arc::atan;
 use float::number::middle;
@@ -40,12 +41,15 @@ fn half_roots(
 {
     let mut found = [0.0; 32];
     let origin = middle(lower, upper);
-    let p = norm_polynomial(x, y, norm, origin);
+    let list = norm_polynomial(x, y, norm, origin);
+    let p = Polynomial {
+        terms: list.as_slice(),
+    };
     let bounds = Bounds {
         lower: -1.0,
         upper: 1.0,
     };
-    let n = roots(p.as_slice(), bounds, &mut found);
+    let n = roots(p, bounds, &mut found);
     chart(&found[..n], origin, out, k)
 }
 

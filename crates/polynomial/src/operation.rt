@@ -1,13 +1,13 @@
 // The operation Roots of document 01, with its refusals in 01's order.
-ghost use Rattle.std.specs.Prelude.{◌≡◌, ◌≤◌, length};
+ghost use Rattle.std.specs.Prelude.{◌≡◌, length};
 ghost use Rattle.std.specs.List.{list_all};
 ghost use Rattle.polynomial.specs.Operation as Operation;
 ghost use Rattle.polynomial.specs.Roots as Roots;
 ghost use Rattle.polynomial.specs.Kinds as Kinds;
 
 use crate::bounds::Bounds;
-use crate::compensated::Compensated;
 use crate::flat;
+use crate::polynomial::Polynomial;
 use crate::refusals::Refusal;
 use crate::roots::marked_roots;
 use float::number::abs;
@@ -38,15 +38,14 @@ fn parts_hold(s: &[f64]) -> bool
 
 // The roots, found elsewhere first: the list may be too long for a slice.
 fn roots_apart(
-    p: &[Compensated],
+    p: Polynomial,
     bounds: Bounds,
     res: &mut [f64],
     kinds: &mut [u8],
 ) -> Result<usize, Refusal>
-    requires { length p.now ≤ 9 }
-    ensures value { result ≡ Operation.fitted (length (Roots.roots p.now bounds.lower bounds.upper)) (length res.old) (length kinds.old) }
-    ensures res_after { res.new ≡ Operation.filled result (Roots.roots p.now bounds.lower bounds.upper) res.old }
-    ensures kinds_after { kinds.new ≡ Operation.filled result (Kinds.kinds p.now bounds.lower bounds.upper) kinds.old }
+    ensures value { result ≡ Operation.fitted (length (Roots.roots p.entry.terms.now bounds.lower bounds.upper)) (length res.old) (length kinds.old) }
+    ensures res_after { res.new ≡ Operation.filled result (Roots.roots p.entry.terms.now bounds.lower bounds.upper) res.old }
+    ensures kinds_after { kinds.new ≡ Operation.filled result (Kinds.kinds p.entry.terms.now bounds.lower bounds.upper) kinds.old }
 {
     let mut found = [0.0; 512];
     let mut arose = [0; 512];
@@ -90,8 +89,10 @@ pub fn roots(
     }
     let bounds = Bounds { lower, upper };
     let list = flat::coefficients(coefficients);
-    let p = list.as_slice();
-    let n = p.len();
+    let p = Polynomial {
+        terms: list.as_slice(),
+    };
+    let n = p.terms.len();
     if 1 << n <= res.len() {
         if 1 << n <= kinds.len() {
             return Ok(marked_roots(p, bounds, res, kinds));

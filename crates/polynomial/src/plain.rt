@@ -1,9 +1,10 @@
 // Plain Horner arithmetic on the high parts alone. Where its value is far from zero beside the
 // coefficients' magnitudes, it has the sign of the compensated value, which is not near zero then.
-ghost use Rattle.std.specs.Prelude.{◌≡◌, true, ◌≤◌, length};
+ghost use Rattle.std.specs.Prelude.{◌≡◌, true};
 ghost use Rattle.polynomial.specs.Promises.Plain.{Tidy, AllTidy, Tells, sign_if_sure};
 
 use crate::compensated::Compensated;
+use crate::polynomial::Polynomial;
 use float::number::abs;
 
 // 2^500, 2^52 and 2^-1010. MARGIN is 2^-43: how far from zero a plain value has to be, as a part of
@@ -25,10 +26,10 @@ fn is_tidy(c: Compensated) -> bool
 }
 
 // Whether each coefficient has a small residual and is not large.
-pub(crate) fn all_tidy(p: &[Compensated]) -> bool
-    ensures { result ≡ true → AllTidy p.now }
+pub(crate) fn all_tidy(p: Polynomial) -> bool
+    ensures { result ≡ true → AllTidy p.entry.terms.now }
 {
-    for c in p {
+    for c in p.terms {
         if !is_tidy(*c) {
             return false;
         }
@@ -56,14 +57,14 @@ fn sign_of(size: f64, v: f64, scale: f64) -> Option<f64>
 }
 
 // The sign of the value at x, 1.0 or -1.0; none where plain arithmetic does not tell it.
-pub(crate) fn plain_sign(p: &[Compensated], x: f64) -> Option<f64>
-    requires { (length p.now ≤ 9) × AllTidy p.now }
-    ensures { Tells result p.now x }
+pub(crate) fn plain_sign(p: Polynomial, x: f64) -> Option<f64>
+    requires { AllTidy p.terms.now }
+    ensures { Tells result p.entry.terms.now x }
 {
     let size = abs(x);
     let mut sum = 0.0;
     let mut scale = 0.0;
-    for c in p.iter().rev() {
+    for c in p.terms.iter().rev() {
         sum = sum * x + c.high;
         scale = scale * size + abs(c.high);
     }

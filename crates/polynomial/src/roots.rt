@@ -16,7 +16,7 @@ use crate::compensated::Compensated;
 use crate::cuts::insert;
 use crate::kinds::mark;
 use crate::plain::{all_tidy, plain_sign};
-use crate::polynomial::{all_finite, derivative, evaluate, trimmed, value_near};
+use crate::polynomial::Polynomial;
 use float::number::is_sign_positive;
 
 // Two neighbouring points, and the values there.
@@ -50,9 +50,9 @@ pub(crate) fn keep(out: &mut [f64], k: usize, v: f64) -> usize
 
 // Puts the end of the bisection between two points, whose values are u and v, into the cuts in the
 // first k places of out if the values cross zero.
-fn cross(p: &[Compensated], at: Interval, out: &mut [f64], k: usize) -> usize
-    requires { (length p.now ≤ 9) × (k < length out.old) × Span 2 at.lo at.hi }
-    ensures { Front (crossed (Of.evaluate p.now) at (take k out.old)) out.old result out.new }
+fn cross(p: Polynomial, at: Interval, out: &mut [f64], k: usize) -> usize
+    requires { (k < length out.old) × Span 2 at.lo at.hi }
+    ensures { Front (crossed (Of.evaluate p.entry.terms.now) at (take k out.old)) out.old result out.new }
 {
     if crosses(at.u, at.v) {
         let between = Bounds {
@@ -75,11 +75,11 @@ pub struct Seen {
 
 // Looks at x, and puts it into the cuts in the first k places of out if the value there is near zero.
 // Where plain arithmetic tells the value's sign, it is not, and the sign stands for it.
-fn look(p: &[Compensated], tidy: bool, x: f64, out: &mut [f64], k: usize) -> Seen
-    requires { (length p.now ≤ 9) × (k < length out.old) × (tidy ≡ true → AllTidy p.now) }
-    ensures near_value { result.near ≡ Of.near_zero p.now x }
-    ensures stands { Stands result.v (Of.evaluate p.now x) }
-    ensures kept { Front (touched p.now x (take k out.old)) out.old result.k out.new }
+fn look(p: Polynomial, tidy: bool, x: f64, out: &mut [f64], k: usize) -> Seen
+    requires { (k < length out.old) × (tidy ≡ true → AllTidy p.terms.now) }
+    ensures near_value { result.near ≡ Of.near_zero p.entry.terms.now x }
+    ensures stands { Stands result.v (Of.evaluate p.entry.terms.now x) }
+    ensures kept { Front (touched p.entry.terms.now x (take k out.old)) out.old result.k out.new }
 {
     if tidy {
         if let Some(sign) = plain_sign(p, x) {
@@ -90,8 +90,8 @@ fn look(p: &[Compensated], tidy: bool, x: f64, out: &mut [f64], k: usize) -> See
             };
         }
     }
-    let v = evaluate(p, x);
-    if value_near(p, x, v) {
+    let v = p.evaluate(x);
+    if p.value_near(x, v) {
         let m = keep(out, k, x);
         return Seen {
             near: true,
@@ -112,10 +112,10 @@ pub struct Counts {
 // The points near zero and the ends of the bisections between neighbours, as cuts in the first places
 // of out. Each point is looked at once; those near zero are gathered in the first places of points,
 // where the others are no longer needed.
-fn scan(p: &[Compensated], points: &mut [f64], out: &mut [f64]) -> Counts
-    requires { (length p.now ≤ 9) × (0 < length points.old) × (length points.old + length points.old ≤ length out.old) × Ready points.old }
-    ensures near { (result.near ≤ length points.old) × (take result.near points.new ≡ Roots.touches p.now points.old) }
-    ensures roots { Front (found p.now points.old) out.old result.roots out.new }
+fn scan(p: Polynomial, points: &mut [f64], out: &mut [f64]) -> Counts
+    requires { (0 < length points.old) × (length points.old + length points.old ≤ length out.old) × Ready points.old }
+    ensures near { (result.near ≤ length points.old) × (take result.near points.new ≡ Roots.touches p.entry.terms.now points.old) }
+    ensures roots { Front (found p.entry.terms.now points.old) out.old result.roots out.new }
 {
     let tidy = all_tidy(p);
     let mut lo = points[0];
@@ -138,11 +138,14 @@ fn scan(p: &[Compensated], points: &mut [f64], out: &mut [f64]) -> Counts
 }
 
 // The coefficients that count: without the zeros at the end, and none where a part is not finite.
-fn counting(p: &[Compensated]) -> &[Compensated]
-    ensures { result.now ≡ counting_of p.now }
+fn counting(p: Polynomial) -> Polynomial
+    ensures { result.terms.now ≡ counting_of p.entry.terms.now }
 {
-    let left = trimmed(p);
-    if all_finite(left) { left } else { &[] }
+    let left = p.trimmed();
+    if left.all_finite() {
+        return left;
+    }
+    Polynomial { terms: &[] }
 }
 
 // The root of a + b * x, where it lies between the bounds, in the first place of out.
@@ -162,13 +165,17 @@ fn line_root(a: Compensated, b: Compensated, bounds: Bounds, out: &mut [f64]) ->
 // bounds with the derivative's roots between them, sorted, each once, come to the first places of
 // points; those near zero are left in front there.
 #[cycle(derivatives)]
-fn curve_roots(p: &[Compensated], bounds: Bounds, points: &mut [f64], out: &mut [f64]) -> Counts
-    requires { (2 < length p.now) × (length p.now ≤ 9) × (2 ^ length p.now ≤ length points.old) × (2 ^ length p.now ≤ length out.old) }
+fn curve_roots(p: Polynomial, bounds: Bounds, points: &mut [f64], out: &mut [f64]) -> Counts
+    requires { (2 < length p.terms.now) × (2 ^ length p.terms.now ≤ length points.old) × (2 ^ length p.terms.now ≤ length out.old) }
     ensures near { (result.near ≤ length points.old) × (take result.near points.new ≡
-        Roots.touches p.now (points_of p.now bounds.lower bounds.upper)) }
-    ensures roots { Front (found p.now (points_of p.now bounds.lower bounds.upper)) out.old result.roots out.new }
+        Roots.touches p.entry.terms.now (points_of p.entry.terms.now bounds.lower bounds.upper)) }
+    ensures roots { Front (found p.entry.terms.now (points_of p.entry.terms.now bounds.lower bounds.upper)) out.old result.roots out.new }
 {
-    let k = roots(derivative(p).as_slice(), bounds, points);
+    let derivative = p.derivative();
+    let slopes = Polynomial {
+        terms: derivative.as_slice(),
+    };
+    let k = roots(slopes, bounds, points);
     let with_lower = keep(points, k, bounds.lower);
     let count = keep(points, with_lower, bounds.upper);
     scan(p, &mut points[..count], out)
@@ -176,14 +183,14 @@ fn curve_roots(p: &[Compensated], bounds: Bounds, points: &mut [f64], out: &mut 
 
 // The roots, in the first places of out. What stands behind them is left.
 #[cycle(derivatives)]
-pub fn roots(p: &[Compensated], bounds: Bounds, out: &mut [f64]) -> usize
-    requires { (length p.now ≤ 9) × (2 ^ length p.now ≤ length out.old) }
-    ensures { Front (Roots.roots p.now bounds.lower bounds.upper) out.old result out.new }
+pub fn roots(p: Polynomial, bounds: Bounds, out: &mut [f64]) -> usize
+    requires { 2 ^ length p.terms.now ≤ length out.old }
+    ensures { Front (Roots.roots p.entry.terms.now bounds.lower bounds.upper) out.old result out.new }
 {
     let left = counting(p);
-    match left.len() {
+    match left.terms.len() {
         0 | 1 => 0,
-        2 => line_root(left[0], left[1], bounds, out),
+        2 => line_root(left.terms[0], left.terms[1], bounds, out),
         // fewer places have to be cleared than 512; a function in a cycle of calls has no const parameter
         3..=5 => curve_roots(left, bounds, &mut [0.0; 32], out).roots,
         _ => curve_roots(left, bounds, &mut [0.0; 512], out).roots,
@@ -192,17 +199,17 @@ pub fn roots(p: &[Compensated], bounds: Bounds, out: &mut [f64]) -> usize
 
 // As `curve_roots`, with the kinds of the roots in the first places of kinds.
 fn marked_curve(
-    p: &[Compensated],
+    p: Polynomial,
     bounds: Bounds,
     points: &mut [f64],
     out: &mut [f64],
     kinds: &mut [u8],
 ) -> usize
-    requires { (2 < length p.now) × (length p.now ≤ 9) × (2 ^ length p.now ≤ length points.old) × (2 ^ length p.now ≤ length out.old) ×
-        (2 ^ length p.now ≤ length kinds.old) }
-    ensures value { Front (found p.now (points_of p.now bounds.lower bounds.upper)) out.old result out.new }
-    ensures kinds_after { kinds.new ≡ kinds_of (Roots.touches p.now (points_of p.now bounds.lower bounds.upper))
-        (found p.now (points_of p.now bounds.lower bounds.upper)) ++ drop result kinds.old }
+    requires { (2 < length p.terms.now) × (2 ^ length p.terms.now ≤ length points.old) × (2 ^ length p.terms.now ≤ length out.old) ×
+        (2 ^ length p.terms.now ≤ length kinds.old) }
+    ensures value { Front (found p.entry.terms.now (points_of p.entry.terms.now bounds.lower bounds.upper)) out.old result out.new }
+    ensures kinds_after { kinds.new ≡ kinds_of (Roots.touches p.entry.terms.now (points_of p.entry.terms.now bounds.lower bounds.upper))
+        (found p.entry.terms.now (points_of p.entry.terms.now bounds.lower bounds.upper)) ++ drop result kinds.old }
 {
     let counts = curve_roots(p, bounds, points, out);
     mark(&points[..counts.near], &out[..counts.roots], kinds);
@@ -212,20 +219,20 @@ fn marked_curve(
 // As `roots`, with the kinds of the roots in the first places of kinds. A line's root is no partition
 // point, and so a crossing.
 pub(crate) fn marked_roots(
-    p: &[Compensated],
+    p: Polynomial,
     bounds: Bounds,
     out: &mut [f64],
     kinds: &mut [u8],
 ) -> usize
-    requires { (length p.now ≤ 9) × (2 ^ length p.now ≤ length out.old) × (2 ^ length p.now ≤ length kinds.old) }
-    ensures value { Front (Roots.roots p.now bounds.lower bounds.upper) out.old result out.new }
-    ensures kinds_after { kinds.new ≡ Kinds.kinds p.now bounds.lower bounds.upper ++ drop result kinds.old }
+    requires { (2 ^ length p.terms.now ≤ length out.old) × (2 ^ length p.terms.now ≤ length kinds.old) }
+    ensures value { Front (Roots.roots p.entry.terms.now bounds.lower bounds.upper) out.old result out.new }
+    ensures kinds_after { kinds.new ≡ Kinds.kinds p.entry.terms.now bounds.lower bounds.upper ++ drop result kinds.old }
 {
     let left = counting(p);
-    match left.len() {
+    match left.terms.len() {
         0 | 1 => 0,
         2 => {
-            let count = line_root(left[0], left[1], bounds, out);
+            let count = line_root(left.terms[0], left.terms[1], bounds, out);
             mark(&[], &out[..count], kinds);
             count
         }

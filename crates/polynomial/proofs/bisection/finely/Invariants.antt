@@ -8,7 +8,7 @@ use Rattle.polynomial.proofs.bisection.finely.Given as goal
 abbrev pub invariant-loop-x : goal.invariant-loop-x
 invariant-loop-x l = record {
   span : Span 2 l.lo l.hi;
-  same : bisected (evaluate l.p) l.positive l.lo l.hi ≡ bisected (evaluate l.p) l.positive l.from l.to;
+  same : bisected (evaluate l.p.terms.now) l.positive l.lo l.hi ≡ bisected (evaluate l.p.terms.now) l.positive l.from l.to;
 }
 
 abbrev pub decreases-loop-x : goal.decreases-loop-x

@@ -17,7 +17,7 @@ returns-in_err-lo c =
 pub loop-sign-smaller : goal.loop-sign-smaller
 loop-sign-smaller c =
     let t = c.in-Some.ensures in
-    (subst (Leaves (evaluate c.args.p.now) c.args.positive _ _) c.in_ok-lo.was
+    (subst (Leaves (evaluate c.args.p.terms.now) c.args.positive _ _) c.in_ok-lo.was
     (one_by_sign _ _ _ _ c.loop-sign.invariant.span _ c.middle-m.ensures _ t.0 t.1 _ c.narrowed_once.ensures)).0
 
 pub loop-sign-preserved : goal.loop-sign-preserved

@@ -3,4 +3,4 @@ use Rattle.polynomial.specs.Promises.Plain.{AllTidy}
 use Rattle.polynomial.proofs.plain.all_tidy.Given as goal
 
 abbrev pub invariant-loop-c : goal.invariant-loop-c
-invariant-loop-c l = AllTidy (drop l.c-index l.p) → AllTidy l.p
+invariant-loop-c l = AllTidy (drop l.c-index l.p.terms.now) → AllTidy l.p.terms.now

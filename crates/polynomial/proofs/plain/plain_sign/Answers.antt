@@ -24,4 +24,4 @@ loop-c-preserved c =
 pub returns : goal.returns
 returns c =
     let d = down_end c.loop-c.invariant c.in-None.ensures.steps.0 in
-    tells c.args.p.now c.args.x c.requires.0 c.requires.1 (search rules) _ _ _ c.abs-size.ensures d.0 d.1 _ c.sign_of.ensures
+    tells c.args.p.terms.now c.args.x c.args.p.few c.requires (search rules) _ _ _ c.abs-size.ensures d.0 d.1 _ c.sign_of.ensures

@@ -4,4 +4,4 @@ use Rattle.polynomial.proofs.Down.{Down}
 use Rattle.polynomial.proofs.plain.plain_sign.Given as goal
 
 abbrev pub invariant-loop-c : goal.invariant-loop-c
-invariant-loop-c l = Down (λ seen. (l.sum ≡ plain seen l.x) × (l.scale ≡ scale seen l.x)) l.p l.c-iterator.iter.rest.now
+invariant-loop-c l = Down (λ seen. (l.sum ≡ plain seen l.x) × (l.scale ≡ scale seen l.x)) l.p.terms.now l.c-iterator.iter.rest.now

@@ -10,8 +10,8 @@ counted l t b e f = ap (λ c. cond c l []) f ∙ ap (λ k. cond (all_finite k) k
 
 pub returns-then-all_finite : goal.returns-then-all_finite
 returns-then-all_finite c =
-    counted _ _ _ c.trimmed-left.ensures (sym c.if-all_finite.true ∙ c.all_finite.ensures ∙ all_finite_is c.trimmed-left.result.now)
+    counted _ _ _ c.trimmed-left.ensures (sym c.if-all_finite.true ∙ c.all_finite.ensures ∙ all_finite_is c.trimmed-left.result.terms.now)
 
-pub returns-else-all_finite : goal.returns-else-all_finite
-returns-else-all_finite c =
-    counted _ _ _ c.trimmed-left.ensures (sym c.if-all_finite.false ∙ c.all_finite.ensures ∙ all_finite_is c.trimmed-left.result.now)
+pub returns : goal.returns
+returns c =
+    counted _ _ _ c.trimmed-left.ensures (sym c.if-all_finite.false ∙ c.all_finite.ensures ∙ all_finite_is c.trimmed-left.result.terms.now)

@@ -9,7 +9,7 @@ pub mark-requires : goal.mark-requires
 mark-requires c =
     let b = c.args.bounds in
     let e = front_take _ _ _ _ c.curve_roots-counts.ensures.roots in
-    let m = found_room c.args.p.now b.lower b.upper c.requires.0 in
+    let m = found_room c.args.p.terms.now b.lower b.upper c.requires.0 in
     omega (arith, ap length e)
 
 pub returns-clause-kinds_after : goal.returns-clause-kinds_after

@@ -1,4 +1,4 @@
--- `polynomial::polynomial::derivative` meets its contract. The loop's invariant: what is stored, and then the coefficients
+-- `polynomial::polynomial::Polynomial::derivative` meets its contract. The loop's invariant: what is stored, and then the coefficients
 -- from i on times their powers.
 use Rattle.std.proofs.Common.{◌≡◌, suc, ◌^◌, ap, sym, ◌∙◌, List, [], ◌∷◌, ◌++◌, drop, append_assoc, arith, ℕ, ◌+◌, ◌<◌, length, get_or, add-one, ap₂}
 use Rattle.std.proofs.Math.Seq.{drop-cons}
@@ -10,7 +10,7 @@ use lib.IntN.{pos}
 use Rattle.polynomial.specs.Compensated.{from, times}
 use Rattle.polynomial.specs.Polynomial.{powered, derivative}
 use Rattle.polynomial.specs.declared.compensated.Compensated.{Compensated}
-use Rattle.polynomial.proofs.polynomial.derivative.Goals as goal
+use Rattle.polynomial.proofs.polynomial.Polynomial.derivative.Goals as goal
 
 start : (p d : List Compensated) → d ≡ [] → d ++ powered 1 (drop 1 p) ≡ derivative p
 unfolding powered derivative
@@ -29,7 +29,7 @@ more p d e i v z h E V W =
     ∙ W
 
 pub loop-i-init : goal.loop-i-init
-loop-i-init c = record { long = ap (λ l. length l + 1) c.new-d.ensures; whole = start c.args.p.now _ c.new-d.ensures }
+loop-i-init c = record { long = ap (λ l. length l + 1) c.new-d.ensures; whole = start c.args.self.terms.now _ c.new-d.ensures }
 
 pub int_to_float-i : goal.int_to_float-i
 unfolding in_float
@@ -38,12 +38,12 @@ int_to_float-i c = le→leb c.loop-i.i (2 ^ 53) (omega arith)
 pub loop-i-preserved : goal.loop-i-preserved
 loop-i-preserved c = record {
   long = omega arith;
-  whole = more c.args.p.now c.loop-i.d.items _ c.loop-i.i c.times.result _ c.loop-i-test.true c.push.ensures.items
+  whole = more c.args.self.terms.now c.loop-i.d.items _ c.loop-i.i c.times.result _ c.loop-i-test.true c.push.ensures.items
       (c.times.ensures ∙ ap (times _) c.from.ensures) c.loop-i.invariant.whole;
 }
 
 pub returns : goal.returns
 unfolding powered
 returns c =
-    let e = drop_of_length-le c.args.p.now {i = c.loop-i.i} c.loop-i-test.false in
+    let e = drop_of_length-le c.args.self.terms.now {i = c.loop-i.i} c.loop-i-test.false in
     sym (append-nil c.loop-i.d.items) ∙ ap (λ l. c.loop-i.d.items ++ powered c.loop-i.i l) (sym e) ∙ c.loop-i.invariant.whole

@@ -1,11 +1,11 @@
--- `polynomial::polynomial::evaluate_three` meets its contract. The loop's invariant: each sum is the value of the coefficients seen so far at its point.
+-- `polynomial::polynomial::Polynomial::evaluate_three` meets its contract. The loop's invariant: each sum is the value of the coefficients seen so far at its point.
 use Rattle.std.proofs.Common.{rules, ap, ◌∙◌}
 use Rattle.float.specs.Laws.Zero.{zero_bits}
 use Rattle.polynomial.specs.Compensated.{from, value}
 use Rattle.polynomial.specs.Polynomial.{horner, evaluate}
 use Rattle.polynomial.proofs.Down.{down_start, down_on, down_end}
 use Rattle.polynomial.proofs.polynomial.Horner.{horner_by}
-use Rattle.polynomial.proofs.polynomial.evaluate_three.Goals as goal
+use Rattle.polynomial.proofs.polynomial.Polynomial.evaluate_three.Goals as goal
 
 pub loop-c-init : goal.loop-c-init
 unfolding horner

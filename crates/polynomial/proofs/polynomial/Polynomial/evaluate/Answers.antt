@@ -1,11 +1,11 @@
--- `polynomial::polynomial::evaluate` meets its contract. The loop's invariant: the sum is the value of the coefficients seen so far.
+-- `polynomial::polynomial::Polynomial::evaluate` meets its contract. The loop's invariant: the sum is the value of the coefficients seen so far.
 use Rattle.std.proofs.Common.{rules, ap, ◌∙◌}
 use Rattle.float.specs.Laws.Zero.{zero_bits}
 use Rattle.polynomial.specs.Compensated.{from, value}
 use Rattle.polynomial.specs.Polynomial.{horner, evaluate}
 use Rattle.polynomial.proofs.Down.{down_start, down_on, down_end}
 use Rattle.polynomial.proofs.polynomial.Horner.{horner_on}
-use Rattle.polynomial.proofs.polynomial.evaluate.Goals as goal
+use Rattle.polynomial.proofs.polynomial.Polynomial.evaluate.Goals as goal
 
 pub loop-c-init : goal.loop-c-init
 unfolding horner

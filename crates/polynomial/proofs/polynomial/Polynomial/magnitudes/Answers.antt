@@ -1,10 +1,10 @@
--- `polynomial::polynomial::magnitudes` meets its contract. The loop's invariant: the sum is that of the coefficients seen so far.
+-- `polynomial::polynomial::Polynomial::magnitudes` meets its contract. The loop's invariant: the sum is that of the coefficients seen so far.
 use Rattle.std.proofs.Common.{rules, ap₂}
 use Rattle.float.specs.Number.{◌⊕◌, ◌⊗◌}
 use Rattle.float.specs.Laws.Zero.{zero_bits}
 use Rattle.polynomial.specs.Polynomial.{magnitudes}
 use Rattle.polynomial.proofs.Down.{down_start, down_on, down_end}
-use Rattle.polynomial.proofs.polynomial.magnitudes.Goals as goal
+use Rattle.polynomial.proofs.polynomial.Polynomial.magnitudes.Goals as goal
 
 pub loop-c-init : goal.loop-c-init
 unfolding magnitudes
