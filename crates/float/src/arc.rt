@@ -9,6 +9,7 @@ use crate::trig::{P, horner};
 use std::array::from_fn;
 
 // a / (1 + sqrt(1 + a * a)): the tangent of half the angle.
+#[tactic(auto, using(crate::proofs::arc::Sides::literals), unfolding(crate::specs::Trig::half_angle))]
 fn half_angle(a: f64) -> f64
     ensures { result ≡ Trig.half_angle a }
 {
@@ -122,12 +123,14 @@ pub fn other_side(x: f64) -> f64
     sqrt((1.0 - x) * (1.0 + x))
 }
 
+#[tactic(auto, using(crate::proofs::arc::Sides::literals), unfolding(crate::specs::Trig::acos))]
 pub fn acos(x: f64) -> f64
     ensures { result ≡ Trig.acos x }
 {
     atan2(other_side(x), x)
 }
 
+#[tactic(auto, using(crate::proofs::arc::Sides::literals), unfolding(crate::specs::Trig::asin))]
 pub fn asin(x: f64) -> f64
     ensures { result ≡ Trig.asin x }
 {

@@ -1,5 +1,5 @@
 -- `float::remainder::reduce` meets its contract: what is left to shift, times the remainder so far, has one remainder by q throughout.
-use Rattle.std.proofs.Common.{◌≡◌, ℕ, ◌+◌, ◌-◌, ◌*◌, ◌/◌, ◌%◌, ◌^◌, ◌<◌, ◌≤◌, sym, refl, ap, ◌∙◌, subst, lt_trans, lt_of_lt_of_le, mod-lt}
+use Rattle.std.proofs.Common.{◌≡◌, ℕ, ◌+◌, ◌-◌, ◌*◌, ◌/◌, ◌%◌, ◌^◌, ◌<◌, ◌≤◌, sym, ap, ◌∙◌, subst, lt_trans, lt_of_lt_of_le, mod-lt}
 use Rattle.std.proofs.Common.{mod-eq_of_lt, mul_assoc, add-mul, add_comm, div-add-mod', mul_right_comm, arith, pow_mono, pow-add, shl_lt}
 use native.Mathlib.Nat.{add-mul-mod_self_right}
 use Rattle.float.proofs.remainder.reduce.Goals as goal
