@@ -123,14 +123,14 @@ pub fn other_side(x: f64) -> f64
     sqrt((1.0 - x) * (1.0 + x))
 }
 
-#[tactic(auto, using(crate::proofs::arc::Sides::literals), unfolding(crate::specs::Trig::acos))]
+#[tactic(auto, unfolding(crate::specs::Trig::acos))]
 pub fn acos(x: f64) -> f64
     ensures { result ≡ Trig.acos x }
 {
     atan2(other_side(x), x)
 }
 
-#[tactic(auto, using(crate::proofs::arc::Sides::literals), unfolding(crate::specs::Trig::asin))]
+#[tactic(auto, unfolding(crate::specs::Trig::asin))]
 pub fn asin(x: f64) -> f64
     ensures { result ≡ Trig.asin x }
 {

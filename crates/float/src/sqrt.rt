@@ -27,6 +27,7 @@ fn digits(x: f64) -> u64
 // The square root of f, nearly: nothing is said of it. The fast inverse square root, two steps of
 // Newton's method with constants for that start, and one of the third order. For a normal f it is
 // the rounded root in five cases of six, and else a value beside it.
+#[tactic(auto, using(crate::proofs::sqrt::Guessed::plain))]
 fn estimate(f: f64) -> f64
     requires { T (not (is_nan f)) × (to_bits binary64 f < 2 ^ 63) }
 {

@@ -135,6 +135,7 @@ pub fn cos(x: f64) -> f64
 }
 
 // Sine over cosine.
+#[tactic(auto, unfolding(crate::specs::Trig::tan))]
 pub fn tan(x: f64) -> f64
     ensures { result ≡ Trig.tan x }
 {
@@ -142,6 +143,7 @@ pub fn tan(x: f64) -> f64
     both.sine / both.cosine
 }
 
+#[tactic(auto, unfolding(crate::specs::Trig::hypot))]
 pub fn hypot(x: f64, y: f64) -> f64
     ensures { result ≡ Trig.hypot x y }
 {
