@@ -18,6 +18,7 @@ use polynomial::arithmetic::{add, determinant, multiply};
 use polynomial::bounds::Bounds;
 use polynomial::compensated::{Coefficients, Compensated};
 use polynomial::curve::{Curve, Numerators};
+use polynomial::polynomial::Polynomial;
 use polynomial::roots::roots;
 
 // The chart u = tan((q1 - origin) / 2): its origin and its bounds.
@@ -52,9 +53,9 @@ fn angles(work: &mut [f64], cuts: Option<usize>, origin: f64, roots: &[f64]) -> 
 }
 
 // An inner call of the root finder.
-fn chart_roots(work: &mut [f64], cuts: Option<usize>, c: Chart, p: &[Compensated]) -> Option<usize>
-    requires { (length p.now ≤ 9) × Bounded c }
-    ensures { Grown (Of.chart_roots c p.now) work.old cuts work.new result }
+fn chart_roots(work: &mut [f64], cuts: Option<usize>, c: Chart, p: Polynomial) -> Option<usize>
+    requires { Bounded c }
+    ensures { Grown (Of.chart_roots c p.entry.terms.now) work.old cuts work.new result }
 {
     let mut found = [0.0; 512];
     let bounds = Bounds {
@@ -115,7 +116,10 @@ fn meetings(
     let mut state = cuts;
     for e in earlier {
         let both = intersection(*e, k);
-        state = chart_roots(work, state, c, both.as_slice());
+        let p = Polynomial {
+            terms: both.as_slice(),
+        };
+        state = chart_roots(work, state, c, p);
     }
     state
 }
@@ -135,7 +139,10 @@ pub(crate) fn critical(
     for curve in curves {
         let k = curve.polynomials(c.origin);
         let own = tangency(k);
-        let alone = chart_roots(work, state, c, own.as_slice());
+        let p = Polynomial {
+            terms: own.as_slice(),
+        };
+        let alone = chart_roots(work, state, c, p);
         state = meetings(work, alone, c, known.as_slice(), k);
         known.push(k);
     }

@@ -6,7 +6,7 @@ use Rattle.sampling.specs.CriticalSlices.{chart_roots}
 use Rattle.sampling.proofs.critical_slices.chart_roots.Goals as goal
 
 pub roots-m-requires : goal.roots-m-requires
-roots-m-requires c = (c.requires.0, pow_mono {i = length c.args.p.now} {j = 9} c.requires.0)
+roots-m-requires c = pow_mono {i = length c.args.p.terms.now} {j = 9} c.args.p.few
 
 pub returns : goal.returns
 unfolding chart_roots
