@@ -5,7 +5,6 @@ ghost use Rattle.polynomial.specs.Cuts.{put};
 ghost use Rattle.polynomial.specs.Polynomial as Of;
 ghost use Rattle.polynomial.specs.Roots as Roots;
 ghost use Rattle.polynomial.specs.Kinds as Kinds;
-ghost use Rattle.float.specs.Promises.Order.{Span};
 ghost use Rattle.polynomial.specs.Promises.Front.{Front};
 ghost use Rattle.polynomial.specs.Promises.Inside.{Ready, Stands, touched, crossed, found, kinds_of, points_of, counting_of};
 ghost use Rattle.polynomial.specs.Promises.Plain.{AllTidy};
@@ -22,8 +21,7 @@ use float::number::is_sign_positive;
 // Two neighbouring points, and the values there.
 #[derive(Clone, Copy)]
 pub struct Interval {
-    pub lo: f64,
-    pub hi: f64,
+    pub ends: Bounds,
     pub u: f64,
     pub v: f64,
 }
@@ -51,15 +49,11 @@ pub(crate) fn keep(out: &mut [f64], k: usize, v: f64) -> usize
 // Puts the end of the bisection between two points, whose values are u and v, into the cuts in the
 // first k places of out if the values cross zero.
 fn cross(p: Polynomial, at: Interval, out: &mut [f64], k: usize) -> usize
-    requires { (k < length out.old) × Span 2 at.lo at.hi }
-    ensures { Front (crossed (Of.evaluate p.entry.terms.now) at (take k out.old)) out.old result out.new }
+    requires { k < length out.old }
+    ensures { Front (crossed (Of.evaluate p.entry.terms.now) at.ends.lower at.ends.upper at.u at.v (take k out.old)) out.old result out.new }
 {
     if crosses(at.u, at.v) {
-        let between = Bounds {
-            lower: at.lo,
-            upper: at.hi,
-        };
-        return keep(out, k, bisect(p, between, is_sign_positive(at.u)));
+        return keep(out, k, bisect(p, at.ends, is_sign_positive(at.u)));
     }
     k
 }
@@ -130,7 +124,11 @@ fn scan(p: Polynomial, points: &mut [f64], out: &mut [f64]) -> Counts
         let v = seen.v;
         points[near] = hi;
         near += usize::from(seen.near);
-        k = cross(p, Interval { lo, hi, u, v }, out, seen.k);
+        let ends = Bounds {
+            lower: lo,
+            upper: hi,
+        };
+        k = cross(p, Interval { ends, u, v }, out, seen.k);
         lo = hi;
         u = v;
     }

@@ -7,7 +7,7 @@ use Rattle.polynomial.proofs.roots.cross.Goals as goal
 pub returns-then-crosses : goal.returns-then-crosses
 returns-then-crosses c =
     let a = c.args in
-    crossed_taken (evaluate a.p.terms.now) a.at a.out.now _ a.k _ _ _ _ c.crosses.ensures c.if-crosses.true c.is_sign_positive.ensures c.bisect.ensures
+    crossed_taken (evaluate a.p.terms.now) a.at.ends.lower a.at.ends.upper a.at.u a.at.v a.out.now _ a.k _ _ _ _ c.crosses.ensures c.if-crosses.true c.is_sign_positive.ensures c.bisect.ensures
     (c.keep.ensures.value, c.keep.ensures.out_after)
 
 pub returns : goal.returns

@@ -21,11 +21,16 @@ pub cross-k-requires : goal.cross-k-requires
 cross-k-requires c = let a = c.args in
     let n = length a.points.now in
     let i = c.loop-i-test.true in
-    let e = next_point a.p.terms.now a.points.now c.loop-i.points c.loop-i.near c.loop-i.i c.loop-i.invariant.gathered i nan in (
-      cross_room a.p.terms.now a.points.now n (le_refl n) _ _ _ _ _ _ _ c.loop-i.invariant.scanned i nan _ e c.look-seen.result.v _ _ c.look-seen.ensures.stands
-          c.look-seen.ensures.kept,
-      span a.p.terms.now a.points.now n (le_refl n) _ _ _ _ _ _ _ c.loop-i.invariant.scanned i nan _ e,
-    )
+    let e = next_point a.p.terms.now a.points.now c.loop-i.points c.loop-i.near c.loop-i.i c.loop-i.invariant.gathered i nan in
+    cross_room a.p.terms.now a.points.now n (le_refl n) _ _ _ _ _ _ _ c.loop-i.invariant.scanned i nan _ e c.look-seen.result.v _ _
+    c.look-seen.ensures.stands c.look-seen.ensures.kept
+
+pub invariant_of-ends : goal.invariant_of-ends
+invariant_of-ends c = let a = c.args in
+    let n = length a.points.now in
+    let i = c.loop-i-test.true in
+    let e = next_point a.p.terms.now a.points.now c.loop-i.points c.loop-i.near c.loop-i.i c.loop-i.invariant.gathered i nan in
+    record { span = span a.p.terms.now a.points.now n (le_refl n) _ _ _ _ _ _ _ c.loop-i.invariant.scanned i nan _ e }
 
 pub loop-i-preserved : goal.loop-i-preserved
 loop-i-preserved c = let a = c.args in
