@@ -1,6 +1,7 @@
 -- `polynomial::cuts::shift` meets its contract.
 use Rattle.std.proofs.Common.{◌≡◌, ℕ, zero, suc, ◌+◌, ◌-◌, ◌<◌, List, [], ◌∷◌, ◌++◌, length, take, drop, refl, sym, ap, ap₂, ◌∙◌}
-use Rattle.std.proofs.Common.{append_assoc, add-one, arith, length-take, length-append, le_of_suc-le-suc}
+use Rattle.std.proofs.Common.{append_assoc, add-one, arith, length-take, length-append, drop_of_length-le, le_of_suc-le-suc}
+use mathlib.Core.List.{append-nil}
 use lib.ListN.{set}
 use lib.Seq.{paste, set-append_left}
 use lib.Ieee.{Float}
@@ -24,8 +25,17 @@ stored d s at m n v h e =
     (append_assoc (take at d) (v ∷ []) (take n s) ∙ ap (λ (j : ℕ). take at d ++ v ∷ take j s) e
     ∙ sym (ap (λ (j : ℕ). take at d ++ take j (v ∷ s)) (add-one m)))
 
+-- and behind the last there is nothing
+whole : (d : List Float) (v : Float) (m : ℕ) → m + 1 ≡ length d → paste d 0 (v ∷ d) (m + 1) ≡ v ∷ take m d
+whole d v m e =
+    ap (λ r. take (m + 1) (v ∷ d) ++ r) (drop_of_length-le d {i = 0 + (m + 1)} (omega arith))
+    ∙ append-nil (take (m + 1) (v ∷ d)) ∙ ap (λ (j : ℕ). take j (v ∷ d)) (add-one m)
+
 pub returns : goal.returns
 returns c =
-    let a = c.args in
-    ap (λ r. set r a.at a.v) c.copy_within.ensures.after
-    ∙ stored a.room.now (drop a.at a.room.now) a.at a.many (a.at + a.many - a.at) a.v (omega arith) (omega arith)
+    let d = c.args.places.now in
+    let v = c.args.v in
+    let m = length d - 1 in
+    ap (λ r. set r 0 v) c.copy_within.ensures.after
+    ∙ stored d d 0 m (m - 0) v c.requires (omega arith)
+    ∙ whole d v m (omega (arith, c.requires))
