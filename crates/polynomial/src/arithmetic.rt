@@ -6,6 +6,7 @@ use crate::compensated::{Coefficients, Compensated};
 use arrayvec::ArrayVec;
 
 // a + scale * b, of as many coefficients each.
+#[tactic(auto, unfolding(crate::specs::Polynomial::add))]
 pub fn add(a: &[Compensated], b: &[Compensated], scale: f64) -> Coefficients
     requires { (length a.now ≤ 9) × (length b.now ≡ length a.now) }
     ensures { result.items ≡ Of.add a.now b.now scale }

@@ -22,6 +22,7 @@ pub enum Half {
 }
 
 // A step at the middle m of lo and hi, where the value is v: the result, or the half to go on in.
+#[tactic(auto, unfolding(crate::specs::Promises::Inside::step_at))]
 fn step_at(lo: f64, hi: f64, m: f64, v: f64, positive: bool) -> ControlFlow<f64, Half>
     ensures { result ≡ Inside.step_at lo hi m v positive }
 {
@@ -42,6 +43,7 @@ fn step_at(lo: f64, hi: f64, m: f64, v: f64, positive: bool) -> ControlFlow<f64,
 
 // What a step at the middle m of lo and hi, where the value is v, leaves: the result, or the ends of
 // an interval to go on in. They are no `Bounds`: that they can be bisected is known for the middle alone.
+#[tactic(auto, unfolding(crate::specs::Promises::Inside::narrowed_once))]
 fn narrowed_once(lo: f64, hi: f64, m: f64, v: f64, positive: bool) -> ControlFlow<f64, (f64, f64)>
     ensures { result ≡ Inside.narrowed_once lo hi m v positive }
 {

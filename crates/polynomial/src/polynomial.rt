@@ -52,6 +52,7 @@ impl Polynomial<'_> {
     }
 
     // The coefficients' magnitudes, added up as the value at x is.
+    #[tactic(auto, unfolding(crate::specs::Polynomial::magnitudes))]
     fn magnitudes(self, x: f64) -> f64
         ensures { result ≡ Of.magnitudes self.entry.terms.now x }
     {

@@ -69,6 +69,7 @@ pub struct Seen {
 
 // Looks at x, and puts it into the cuts in the first k places of out if the value there is near zero.
 // Where plain arithmetic tells the value's sign, it is not, and the sign stands for it.
+#[tactic(auto, unfolding(crate::specs::Polynomial::near_zero, crate::specs::Polynomial::evaluate))]
 fn look(p: Polynomial, tidy: bool, x: f64, out: &mut [f64], k: usize) -> Seen
     requires { (k < length out.old) × (tidy ≡ true → AllTidy p.terms.now) }
     ensures near_value { result.near ≡ Of.near_zero p.entry.terms.now x }
@@ -147,6 +148,7 @@ fn counting(p: Polynomial) -> Polynomial
 }
 
 // The root of a + b * x, where it lies between the bounds, in the first place of out.
+#[tactic(auto, unfolding(crate::specs::Roots::quotient))]
 fn line_root(a: Compensated, b: Compensated, bounds: Bounds, out: &mut [f64]) -> usize
     requires { 0 < length out.old }
     ensures { Front (Roots.quotient a b bounds.lower bounds.upper) out.old result out.new }
