@@ -20,6 +20,8 @@ pub fn add(a: &[Compensated], b: &[Compensated], scale: f64) -> Coefficients
 }
 
 // The coefficient k of a * b: from zero, the sum over each place i of a that has a partner k - i in b.
+// Here, in `multiply` and in `determinant` the sizes add up to ten at most, so that the product has nine
+// coefficients: a clause of two factors, which a type of one cannot hold.
 fn coefficient(a: &[Compensated], b: &[Compensated], k: usize) -> Compensated
     requires { (length a.now + length b.now ≤ 10) × (k < length a.now + length b.now - 1) }
     ensures { result ≡ Of.coefficient a.now b.now k }

@@ -47,7 +47,9 @@ pub(crate) fn keep(out: &mut [f64], k: usize, v: f64) -> usize
 }
 
 // Puts the end of the bisection between two points, whose values are u and v, into the cuts in the
-// first k places of out if the values cross zero.
+// first k places of out if the values cross zero. Here and in `look` out may be what C lends, so the
+// list is no `ArrayVec`, and its length goes beside it; a struct of both would be made of the parts at
+// each point and taken apart again.
 fn cross(p: Polynomial, at: Interval, out: &mut [f64], k: usize) -> usize
     requires { k < length out.old }
     ensures { Front (crossed (Of.evaluate p.entry.terms.now) at.ends.lower at.ends.upper at.u at.v (take k out.old)) out.old result out.new }
@@ -163,7 +165,9 @@ fn line_root(a: Compensated, b: Compensated, bounds: Bounds, out: &mut [f64]) ->
 
 // The roots of three coefficients or more, in the first places of out. The partition points, the
 // bounds with the derivative's roots between them, sorted, each once, come to the first places of
-// points; those near zero are left in front there.
+// points; those near zero are left in front there. That the places suffice is asked here, in `roots`,
+// `marked_curve` and `marked_roots` of polynomial and slice together: a struct of both would be made
+// anew at each call, since points and out change places for the derivative.
 #[cycle(derivatives)]
 fn curve_roots(p: Polynomial, bounds: Bounds, points: &mut [f64], out: &mut [f64]) -> Counts
     requires { (2 < length p.terms.now) × (2 ^ length p.terms.now ≤ length points.old) × (2 ^ length p.terms.now ≤ length out.old) }
@@ -217,7 +221,8 @@ fn marked_curve(
 }
 
 // As `roots`, with the kinds of the roots in the first places of kinds. A line's root is no partition
-// point, and so a crossing.
+// point, and so a crossing. The arms are those of `roots`, which stands in a cycle of calls: one function
+// for both would need a trait for what is done with the touches, with clauses of its own in that cycle.
 pub(crate) fn marked_roots(
     p: Polynomial,
     bounds: Bounds,

@@ -16,7 +16,7 @@ invariant_of-bounds c = record { span = subst (λ one. Span 2 (neg one) one) (sy
 pub chart-requires : goal.chart-requires
 chart-requires c =
     let a = c.args in
-    let f = half_count a.x a.y a.norm a.lower a.upper c.middle-origin.result _ _ _ _ _ c.middle-origin.ensures
+    let f = half_count a.x a.y a.norm a.half.start a.half.end c.middle-origin.result _ _ _ _ _ c.middle-origin.ensures
     (c.as_slice.ensures.value ∙ c.norm_polynomial-list.ensures) one_bits c.roots-n.ensures in
     let t = length-take c.roots-n.result c.roots-n.new.out in
     omega arith
@@ -24,7 +24,7 @@ chart-requires c =
 pub returns : goal.returns
 returns c =
     let a = c.args in
-    let e = half_angles a.x a.y a.norm a.lower a.upper c.middle-origin.result _ _ _ _ _ c.middle-origin.ensures
+    let e = half_angles a.x a.y a.norm a.half.start a.half.end c.middle-origin.result _ _ _ _ _ c.middle-origin.ensures
     (c.as_slice.ensures.value ∙ c.norm_polynomial-list.ensures) one_bits c.roots-n.ensures in
     front_same _ _ _ _ c.chart.ensures _ (ap (λ l. put_all l (take a.k a.out.now)) (sym e))
 
