@@ -9,7 +9,6 @@ ghost use Rattle.polynomial.specs.Promises.Inside as Inside;
 ghost use Rattle.polynomial.specs.Promises.Plain.{AllTidy};
 
 use crate::bounds::Bounds;
-use crate::plain::{all_tidy, plain_sign};
 use crate::polynomial::Polynomial;
 use float::number::{is_sign_positive, middle};
 use std::ops::ControlFlow;
@@ -53,64 +52,66 @@ fn narrowed_once(lo: f64, hi: f64, m: f64, v: f64, positive: bool) -> ControlFlo
     }
 }
 
-// What a step leaves or, where the three values are known, two steps.
-fn narrowed(p: Polynomial, lo: f64, hi: f64, positive: bool) -> ControlFlow<f64, (f64, f64)>
-    requires { Span 2 lo hi }
-    ensures { Inside.Leaves (Of.evaluate p.entry.terms.now) positive lo hi result }
-{
-    let m = middle(lo, hi);
-    let below = middle(lo, m);
-    let above = middle(m, hi);
-    let Some((u, v, w)) = p.evaluate_three(below, m, above) else {
-        return narrowed_once(lo, hi, m, p.evaluate(m), positive);
-    };
-    match step_at(lo, hi, m, v, positive)? {
-        Half::Upper => narrowed_once(m, hi, above, w, positive),
-        Half::Lower => narrowed_once(lo, m, below, u, positive),
-    }
-}
-
-// Bisects the interval while plain arithmetic tells the sign at the middle.
-fn roughly(p: Polynomial, from: f64, to: f64, positive: bool) -> ControlFlow<f64, (f64, f64)>
-    requires { Span 2 from to × AllTidy p.terms.now }
-    ensures { Inside.Rest (Of.evaluate p.entry.terms.now) positive from to result }
-{
-    let mut lo = from;
-    let mut hi = to;
-    loop {
+impl Polynomial<'_> {
+    // What a step leaves or, where the three values are known, two steps.
+    fn narrowed(self, lo: f64, hi: f64, positive: bool) -> ControlFlow<f64, (f64, f64)>
+        requires { Span 2 lo hi }
+        ensures { Inside.Leaves (Of.evaluate self.entry.terms.now) positive lo hi result }
+    {
         let m = middle(lo, hi);
-        let Some(sign) = plain_sign(p, m) else {
-            return ControlFlow::Continue((lo, hi));
+        let below = middle(lo, m);
+        let above = middle(m, hi);
+        let Some((u, v, w)) = self.evaluate_three(below, m, above) else {
+            return narrowed_once(lo, hi, m, self.evaluate(m), positive);
         };
-        (lo, hi) = narrowed_once(lo, hi, m, sign, positive)?;
-    }
-}
-
-// Bisects the interval, by compensated values, until no float lies strictly inside.
-fn finely(p: Polynomial, from: f64, to: f64, positive: bool) -> f64
-    requires { Span 2 from to }
-    ensures { result ≡ Roots.bisected (Of.evaluate p.entry.terms.now) positive from to }
-{
-    let mut lo = from;
-    let mut hi = to;
-    loop {
-        match narrowed(p, lo, hi, positive) {
-            ControlFlow::Break(x) => return x,
-            ControlFlow::Continue(left) => (lo, hi) = left,
+        match step_at(lo, hi, m, v, positive)? {
+            Half::Upper => narrowed_once(m, hi, above, w, positive),
+            Half::Lower => narrowed_once(lo, m, below, u, positive),
         }
     }
-}
 
-// Bisects the interval until no float lies strictly inside; the value at its lower end is positive
-// where `positive` says so.
-pub(crate) fn bisect(p: Polynomial, at: Bounds, positive: bool) -> f64
-    ensures { result ≡ Roots.bisected (Of.evaluate p.entry.terms.now) positive at.lower at.upper }
-{
-    if !all_tidy(p) {
-        return finely(p, at.lower, at.upper, positive);
+    // Bisects the interval while plain arithmetic tells the sign at the middle.
+    fn roughly(self, from: f64, to: f64, positive: bool) -> ControlFlow<f64, (f64, f64)>
+        requires { Span 2 from to × AllTidy self.terms.now }
+        ensures { Inside.Rest (Of.evaluate self.entry.terms.now) positive from to result }
+    {
+        let mut lo = from;
+        let mut hi = to;
+        loop {
+            let m = middle(lo, hi);
+            let Some(sign) = self.plain_sign(m) else {
+                return ControlFlow::Continue((lo, hi));
+            };
+            (lo, hi) = narrowed_once(lo, hi, m, sign, positive)?;
+        }
     }
-    match roughly(p, at.lower, at.upper, positive) {
-        ControlFlow::Break(x) => x,
-        ControlFlow::Continue((lo, hi)) => finely(p, lo, hi, positive),
+
+    // Bisects the interval, by compensated values, until no float lies strictly inside.
+    fn finely(self, from: f64, to: f64, positive: bool) -> f64
+        requires { Span 2 from to }
+        ensures { result ≡ Roots.bisected (Of.evaluate self.entry.terms.now) positive from to }
+    {
+        let mut lo = from;
+        let mut hi = to;
+        loop {
+            match self.narrowed(lo, hi, positive) {
+                ControlFlow::Break(x) => return x,
+                ControlFlow::Continue(left) => (lo, hi) = left,
+            }
+        }
+    }
+
+    // Bisects the interval until no float lies strictly inside; the value at its lower end is positive
+    // where `positive` says so.
+    pub(crate) fn bisect(self, at: Bounds, positive: bool) -> f64
+        ensures { result ≡ Roots.bisected (Of.evaluate self.entry.terms.now) positive at.lower at.upper }
+    {
+        if !self.all_tidy() {
+            return self.finely(at.lower, at.upper, positive);
+        }
+        match self.roughly(at.lower, at.upper, positive) {
+            ControlFlow::Break(x) => x,
+            ControlFlow::Continue((lo, hi)) => self.finely(lo, hi, positive),
+        }
     }
 }

@@ -25,18 +25,6 @@ fn is_tidy(c: Compensated) -> bool
     size <= LARGEST && abs(c.low) * LIFT <= size
 }
 
-// Whether each coefficient has a small residual and is not large.
-pub(crate) fn all_tidy(p: Polynomial) -> bool
-    ensures { result ≡ true → AllTidy p.entry.terms.now }
-{
-    for c in p.terms {
-        if !is_tidy(*c) {
-            return false;
-        }
-    }
-    true
-}
-
 // The sign, 1.0 or -1.0, of the plain value v at a point of this size; none where v may have another
 // sign than the compensated value. A number, since it stands for the value where signs are compared.
 fn sign_of(size: f64, v: f64, scale: f64) -> Option<f64>
@@ -56,17 +44,31 @@ fn sign_of(size: f64, v: f64, scale: f64) -> Option<f64>
     None
 }
 
-// The sign of the value at x, 1.0 or -1.0; none where plain arithmetic does not tell it.
-pub(crate) fn plain_sign(p: Polynomial, x: f64) -> Option<f64>
-    requires { AllTidy p.terms.now }
-    ensures { Tells result p.entry.terms.now x }
-{
-    let size = abs(x);
-    let mut sum = 0.0;
-    let mut scale = 0.0;
-    for c in p.terms.iter().rev() {
-        sum = sum * x + c.high;
-        scale = scale * size + abs(c.high);
+impl Polynomial<'_> {
+    // Whether each coefficient has a small residual and is not large.
+    pub(crate) fn all_tidy(self) -> bool
+        ensures { result ≡ true → AllTidy self.entry.terms.now }
+    {
+        for c in self.terms {
+            if !is_tidy(*c) {
+                return false;
+            }
+        }
+        true
     }
-    sign_of(size, sum, scale)
+
+    // The sign of the value at x, 1.0 or -1.0; none where plain arithmetic does not tell it.
+    pub(crate) fn plain_sign(self, x: f64) -> Option<f64>
+        requires { AllTidy self.terms.now }
+        ensures { Tells result self.entry.terms.now x }
+    {
+        let size = abs(x);
+        let mut sum = 0.0;
+        let mut scale = 0.0;
+        for c in self.terms.iter().rev() {
+            sum = sum * x + c.high;
+            scale = scale * size + abs(c.high);
+        }
+        sign_of(size, sum, scale)
+    }
 }

@@ -9,12 +9,10 @@ ghost use Rattle.polynomial.specs.Promises.Front.{Front};
 ghost use Rattle.polynomial.specs.Promises.Inside.{Ready, Stands, touched, crossed, found, kinds_of, points_of, counting_of};
 ghost use Rattle.polynomial.specs.Promises.Plain.{AllTidy};
 
-use crate::bisection::bisect;
 use crate::bounds::Bounds;
 use crate::compensated::Compensated;
 use crate::cuts::insert;
 use crate::kinds::mark;
-use crate::plain::{all_tidy, plain_sign};
 use crate::polynomial::Polynomial;
 use float::number::is_sign_positive;
 
@@ -55,7 +53,7 @@ fn cross(p: Polynomial, at: Interval, out: &mut [f64], k: usize) -> usize
     ensures { Front (crossed (Of.evaluate p.entry.terms.now) at.ends.lower at.ends.upper at.u at.v (take k out.old)) out.old result out.new }
 {
     if crosses(at.u, at.v) {
-        return keep(out, k, bisect(p, at.ends, is_sign_positive(at.u)));
+        return keep(out, k, p.bisect(at.ends, is_sign_positive(at.u)));
     }
     k
 }
@@ -79,7 +77,7 @@ fn look(p: Polynomial, tidy: bool, x: f64, out: &mut [f64], k: usize) -> Seen
     ensures kept { Front (touched p.entry.terms.now x (take k out.old)) out.old result.k out.new }
 {
     if tidy {
-        if let Some(sign) = plain_sign(p, x) {
+        if let Some(sign) = p.plain_sign(x) {
             return Seen {
                 near: false,
                 v: sign,
@@ -114,7 +112,7 @@ fn scan(p: Polynomial, points: &mut [f64], out: &mut [f64]) -> Counts
     ensures near { (result.near ≤ length points.old) × (take result.near points.new ≡ Roots.touches p.entry.terms.now points.old) }
     ensures roots { Front (found p.entry.terms.now points.old) out.old result.roots out.new }
 {
-    let tidy = all_tidy(p);
+    let tidy = p.all_tidy();
     let mut lo = points[0];
     let first = look(p, tidy, lo, out, 0);
     let mut u = first.v;

@@ -1,9 +1,9 @@
--- `polynomial::bisection::narrowed` meets its contract.
+-- `polynomial::polynomial::Polynomial::narrowed` meets its contract.
 use Rattle.std.proofs.Common.{ap, sym, subst, ◌∙◌}
 use Rattle.std.specs.declared.ops.ControlFlow.TheVariants.{Continue}
 use Rattle.polynomial.specs.Promises.Inside.{Leaves}
 use Rattle.polynomial.proofs.bisection.Steps.{one, done, upper, lower}
-use Rattle.polynomial.proofs.bisection.narrowed.Goals as goal
+use Rattle.polynomial.proofs.polynomial.Polynomial.narrowed.Goals as goal
 
 pub returns-in_default : goal.returns-in_default
 returns-in_default c = one _ _ _ _ c.requires _ c.middle-m.ensures _ c.evaluate.ensures _ c.narrowed_once.ensures

@@ -1,11 +1,11 @@
--- `polynomial::plain::plain_sign` meets its contract. The loop's invariant: value and scale are those of the coefficients seen so far.
+-- `polynomial::polynomial::Polynomial::plain_sign` meets its contract. The loop's invariant: value and scale are those of the coefficients seen so far.
 use Rattle.std.proofs.Common.{rules, ap, ap₂}
 use Rattle.float.specs.Number.{◌⊕◌, ◌⊗◌}
 use Rattle.float.specs.Laws.Zero.{zero_bits}
 use Rattle.polynomial.specs.Promises.Plain.{plain, scale}
 use Rattle.polynomial.proofs.Down.{down_start, down_on, down_end}
 use Rattle.polynomial.proofs.plain.Sure.{tells}
-use Rattle.polynomial.proofs.plain.plain_sign.Goals as goal
+use Rattle.polynomial.proofs.polynomial.Polynomial.plain_sign.Goals as goal
 
 pub loop-c-init : goal.loop-c-init
 unfolding plain scale
@@ -24,4 +24,4 @@ loop-c-preserved c =
 pub returns : goal.returns
 returns c =
     let d = down_end c.loop-c.invariant c.in-None.ensures.steps.0 in
-    tells c.args.p.terms.now c.args.x c.args.p.few c.requires (search rules) _ _ _ c.abs-size.ensures d.0 d.1 _ c.sign_of.ensures
+    tells c.args.self.terms.now c.args.x c.args.self.few c.requires (search rules) _ _ _ c.abs-size.ensures d.0 d.1 _ c.sign_of.ensures
