@@ -72,6 +72,7 @@ pub struct Numerators {
 }
 
 // A harmonic as a polynomial numerator in u = tan((q1 - origin) / 2).
+#[tactic(auto, using(crate::proofs::curve::Harmonics::numerator_of))]
 pub(crate) fn numerator(h: Harmonic, origin: f64) -> [Compensated; 3]
     ensures { result ≡ Of.numerator h origin }
 {
@@ -118,6 +119,7 @@ impl Curve {
 }
 
 // (1 + u^2)^2 * norm^2.
+#[tactic(auto, using(crate::proofs::curve::Squares::times_more, crate::proofs::curve::Squares::times_end))]
 fn norm_target(norm: f64) -> Coefficients
     ensures { result.items ≡ Of.target norm }
 {

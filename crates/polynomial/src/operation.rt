@@ -16,6 +16,7 @@ use float::number::abs;
 const LARGEST_PART: f64 = 2.5822498780869086e120;
 
 // Whether the bounds are numbers within ±4, in order.
+#[tactic(auto, using(crate::proofs::Literals::literals))]
 pub(crate) fn bounds_hold(lower: f64, upper: f64) -> bool
     ensures { result ≡ Operation.bounds_hold lower upper }
 {
@@ -23,6 +24,7 @@ pub(crate) fn bounds_hold(lower: f64, upper: f64) -> bool
 }
 
 // Whether a part is finite, and at most 2^400 in magnitude.
+#[tactic(auto, using(crate::proofs::Literals::literals))]
 pub(crate) fn part_holds(x: f64) -> bool
     ensures { result ≡ Operation.part_holds x }
 {

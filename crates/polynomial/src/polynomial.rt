@@ -65,6 +65,7 @@ impl Polynomial<'_> {
     }
 
     // Whether v, the value at x, fits a coefficient-scaled roundoff bound.
+    #[tactic(auto, using(crate::proofs::Literals::literals), unfolding(crate::specs::Polynomial::value_near))]
     pub(crate) fn value_near(self, x: f64, v: f64) -> bool
         ensures { result ≡ Of.value_near self.entry.terms.now x v }
     {

@@ -36,6 +36,7 @@ fn crosses(u: f64, v: f64) -> bool
 
 // Puts v into the cuts in the first k places of out, which has a place more. The list stands in the
 // slice that C lends, so its length goes beside it.
+#[tactic(auto, using(crate::proofs::roots::Kept::kept_some))]
 pub(crate) fn keep(out: &mut [f64], k: usize, v: f64) -> usize
     requires { k < length out.old }
     ensures value { result ≡ length (put v (take k out.old)) }
@@ -137,6 +138,7 @@ fn scan(p: Polynomial, points: &mut [f64], out: &mut [f64]) -> Counts
 }
 
 // The coefficients that count: without the zeros at the end, and none where a part is not finite.
+#[tactic(auto, using(crate::proofs::polynomial::Every::all_finite_is))]
 fn counting(p: Polynomial) -> Polynomial
     ensures { result.terms.now ≡ counting_of p.entry.terms.now }
 {
