@@ -35,7 +35,7 @@ fn coefficient(a: &[Compensated], b: &[Compensated], k: usize) -> Compensated
 }
 
 // a * b.
-#[tactic(auto, using(crate::proofs::arithmetic::Products::product_start, crate::proofs::arithmetic::Products::product_more, crate::proofs::arithmetic::Products::product_end))]
+#[tactic(auto, using(crate::proofs::arithmetic::Products::product_steps))]
 pub fn multiply(a: &[Compensated], b: &[Compensated]) -> Coefficients
     requires { (0 < length a.now) × (length a.now + length b.now ≤ 10) }
     ensures { result.items ≡ Of.multiply a.now b.now }

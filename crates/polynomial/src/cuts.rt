@@ -14,7 +14,7 @@ fn negative(x: f64) -> bool
 }
 
 // v goes past w: it comes later, and does not equal it. A NaN goes past every number.
-#[tactic(auto, using(crate::proofs::cuts::Passed::passed_less, crate::proofs::cuts::Passed::passed_nan, crate::proofs::cuts::Passed::passed_not))]
+#[tactic(auto, using(crate::proofs::cuts::Passed::passed_cases))]
 fn passes(w: f64, v: f64) -> bool
     ensures { result ≡ passed v w }
 {

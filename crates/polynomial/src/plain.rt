@@ -58,6 +58,7 @@ impl Polynomial<'_> {
     }
 
     // The sign of the value at x, 1.0 or -1.0; none where plain arithmetic does not tell it.
+    #[tactic(auto, using(crate::proofs::Literals::literals), unfolding(crate::specs::Promises::Plain::plain, crate::specs::Promises::Plain::scale))]
     pub(crate) fn plain_sign(self, x: f64) -> Option<f64>
         requires { AllTidy self.terms.now }
         ensures { Tells result self.entry.terms.now x }

@@ -202,6 +202,7 @@ pub fn roots(p: Polynomial, bounds: Bounds, out: &mut [f64]) -> usize
 }
 
 // As `curve_roots`, with the kinds of the roots in the first places of kinds.
+#[tactic(auto, using(crate::proofs::roots::Kept::front_take, crate::proofs::kinds::Marks::marked_as, crate::proofs::roots::Cycle::found_room))]
 fn marked_curve(
     p: Polynomial,
     bounds: Bounds,
