@@ -54,6 +54,7 @@ fn narrowed_once(lo: f64, hi: f64, m: f64, v: f64, positive: bool) -> ControlFlo
 
 impl Polynomial<'_> {
     // What a step leaves or, where the three values are known, two steps.
+    #[tactic(auto, using(crate::proofs::bisection::Steps::two_steps))]
     fn narrowed(self, lo: f64, hi: f64, positive: bool) -> ControlFlow<f64, (f64, f64)>
         requires { Span 2 lo hi }
         ensures { Inside.Leaves (Of.evaluate self.entry.terms.now) positive lo hi result }
