@@ -7,7 +7,8 @@
 -- is finite), `Extremes` (the largest value), `Literals` (constants of the code),
 -- `Under` (bounds by powers of two, for any exponent).
 -- Exactness: `Units` (values as whole numbers of units, and their order), `Near` (half a unit),
--- `Whole` (the counts of units as functions), `Close` (errors of rounding, in units), `Half` (the same of a half; closeness as a bound).
+-- `Whole` (the counts of units as functions), `Close` (errors of rounding, in units), `Half` (the same of a half; closeness as a bound),
+-- `Operand` (an operand's halves are its own).
 -- Bisection: `Middle` (the middle of an interval lies in it, and each half is narrower), `Between` (it stands between the ends in the order of `total_cmp`),
 -- `Narrow` (the halves of an interval around a centre are hardly wider than P, and their half angles within 101/128).
 -- Roots: `Grow` (what is not negative: squares, sums that do not go down), `Root` (bounds through the square root; normalized parts are within 2).
@@ -34,6 +35,7 @@ pub mod Cut
 pub mod Whole
 pub mod Close
 pub mod Half
+pub mod Operand
 pub mod Extremes
 pub mod Middle
 pub mod Between

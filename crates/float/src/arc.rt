@@ -5,10 +5,11 @@ ghost use Rattle.float.specs.Promises.Beside as Of;
 
 use crate::number::{abs, is_sign_positive};
 use crate::sqrt::sqrt;
-use crate::trig::P;
+use crate::trig::{P, horner};
 use std::array::from_fn;
 
 // a / (1 + sqrt(1 + a * a)): the tangent of half the angle.
+#[tactic(auto, using(crate::proofs::arc::Sides::literals), unfolding(crate::specs::Trig::half_angle))]
 fn half_angle(a: f64) -> f64
     ensures { result ≡ Trig.half_angle a }
 {
@@ -20,20 +21,26 @@ fn atan_value(a: f64) -> f64
     ensures { result ≡ Trig.atan_value a }
 {
     let z = a * a;
-    let p = -0.043478260869565216 * z + 0.047619047619047616;
-    let p = p * z - 0.05263157894736842;
-    let p = p * z + 0.058823529411764705;
-    let p = p * z - 0.06666666666666667;
-    let p = p * z + 0.07692307692307693;
-    let p = p * z - 0.09090909090909091;
-    let p = p * z + 0.1111111111111111;
-    let p = p * z - 0.14285714285714285;
-    let p = p * z + 0.2;
-    let p = p * z - 0.3333333333333333;
+    let p = horner(
+        z,
+        -0.043478260869565216,
+        &[
+            0.047619047619047616,
+            -0.05263157894736842,
+            0.058823529411764705,
+            -0.06666666666666667,
+            0.07692307692307693,
+            -0.09090909090909091,
+            0.1111111111111111,
+            -0.14285714285714285,
+            0.2,
+            -0.3333333333333333,
+        ],
+    );
     4.0 * (a + (a * z) * p)
 }
 
-// v with the sign of x.
+// v with the sign of x. `f64::copysign` asks that x is no NaN; here the one NaN's sign is clear.
 fn copysign(v: f64, x: f64) -> f64
     ensures { result ≡ Trig.copysign v x }
 {
@@ -116,12 +123,14 @@ pub fn other_side(x: f64) -> f64
     sqrt((1.0 - x) * (1.0 + x))
 }
 
+#[tactic(auto, unfolding(crate::specs::Trig::acos))]
 pub fn acos(x: f64) -> f64
     ensures { result ≡ Trig.acos x }
 {
     atan2(other_side(x), x)
 }
 
+#[tactic(auto, unfolding(crate::specs::Trig::asin))]
 pub fn asin(x: f64) -> f64
     ensures { result ≡ Trig.asin x }
 {

@@ -14,18 +14,21 @@ ghost use Rattle.float.specs.Promises.Parts.{Splits, Shifts, Finishes, Combines}
 use crate::number::is_finite;
 use crate::wide::jam;
 
-// A finite float: q * 2^k units, negative where `neg`.
+// A float: q * 2^k units, negative where `neg`. It has at most 53 digits, and at least those where k is
+// above 0, or is rounded up to 2^53.
 #[derive(Clone, Copy)]
 pub struct Parts {
     pub neg: bool,
     pub q: u64,
     pub k: u64,
+    ghost short: { q ≤ 2 ^ 53 },
+    ghost place: { k ≤ 2045 },
+    ghost full: { 0 < k → 2 ^ 52 ≤ q },
 }
 
 impl Parts {
-    // The float, of at most 53 digits, and at least those where k is above 0, or of 2^53.
+    // The float; with 2^53 at the highest place it is infinite.
     pub(crate) fn float(self) -> f64
-        requires { (self.q ≤ 2 ^ 53) × (self.k ≤ 2045) × (0 < self.k → 2 ^ 52 ≤ self.q) }
         ensures { result ≡ units binary64 self.neg self.q self.k }
     {
         // the leading digit adds one to the field, which the place is one less than
@@ -44,13 +47,12 @@ pub fn split(x: f64) -> Parts
     let t = bits & 0xf_ffff_ffff_ffff;
     let neg = 0x8000_0000_0000_0000 <= bits;
     if field == 0 {
-        Parts { neg, q: t, k: 0 }
-    } else {
-        Parts {
-            neg,
-            q: t + 0x10_0000_0000_0000,
-            k: field - 1,
-        }
+        return Parts { neg, q: t, k: 0 };
+    }
+    Parts {
+        neg,
+        q: t + 0x10_0000_0000_0000,
+        k: field - 1,
     }
 }
 

@@ -28,7 +28,8 @@ pub fn of_bits(w: u64) -> f64
     f64::from_bits(w)
 }
 
-// Neither infinite nor a NaN.
+// Neither infinite nor a NaN. A function of its own, since contracts cite the logic's `finite`, and the
+// clause of the library's `is_finite` has another word for it.
 #[tactic(auto, using(crate::specs::Laws::Tests::finite_test))]
 pub fn is_finite(x: f64) -> bool
     ensures { result ≡ finite x }
@@ -44,7 +45,8 @@ pub fn is_sign_positive(x: f64) -> bool
     x.is_nan() || x.is_sign_positive()
 }
 
-// The magnitude of x, with no branch: 0 - x is +0.0 at either zero.
+// The magnitude of x, with no branch: 0 - x is +0.0 at either zero. By `f64::abs`, which tests for a
+// zero apart, the loop of plain Horner arithmetic took a sixth longer.
 pub fn abs(x: f64) -> f64
     ensures { result ≡ Number.abs x }
 {

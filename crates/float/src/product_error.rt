@@ -16,6 +16,7 @@ const LEAST_HALVED: f64 = 6.441148769597133e-232;
 const SPLITTER: f64 = 134217729.0;
 
 // Whether a magnitude is zero or from `low` to 2^400.
+#[tactic(auto, using(crate::proofs::product_error::Range::most_is, crate::specs::Laws::Zero::zero_bits), unfolding(crate::specs::Promises::Halves::sized))]
 fn sized(low: f64, m: f64) -> bool
     ensures { result ≡ Of.sized low m }
 {
@@ -29,6 +30,7 @@ fn sized(low: f64, m: f64) -> bool
 }
 
 // Whether the magnitude of x is zero or from `low` to 2^400.
+#[tactic(auto, using(crate::specs::Laws::Zero::zero_bits), unfolding(crate::specs::Promises::Halves::in_range))]
 fn within(low: f64, x: f64) -> bool
     ensures { result ≡ Of.in_range low x }
 {

@@ -27,6 +27,7 @@ fn digits(x: f64) -> u64
 // The square root of f, nearly: nothing is said of it. The fast inverse square root, two steps of
 // Newton's method with constants for that start, and one of the third order. For a normal f it is
 // the rounded root in five cases of six, and else a value beside it.
+#[tactic(auto, using(crate::proofs::sqrt::Guessed::plain))]
 fn estimate(f: f64) -> f64
     requires { T (not (is_nan f)) × (to_bits binary64 f < 2 ^ 63) }
 {
@@ -39,77 +40,105 @@ fn estimate(f: f64) -> f64
     t + (t * e) * (0.5 + 0.375 * e)
 }
 
-// A first guess at the whole number nearest to the square root of m * 2^52, from m as a float, whose
-// pattern is made here: nothing is said of it but its range.
-fn guess(m: u64) -> u64
-    requires { (2 ^ 52 ≤ m) × (m < 2 ^ 54) }
-    ensures { (2 ^ 52 ≤ result) × (result ≤ 2 ^ 53) }
-{
-    let bits = if m < 0x20_0000_0000_0000 {
-        m + 0x4320_0000_0000_0000
-    } else {
-        (m >> 1) + 0x4330_0000_0000_0000
-    };
-    // g is between 2^26 and 2^27, and its digits are those of the guess
-    let g = estimate(f64::from_bits(bits));
-    if g >= 134217728.0 {
-        return 0x20_0000_0000_0000;
-    }
-    if g >= 67108864.0 {
-        return digits(g);
-    }
-    0x10_0000_0000_0000
+// The digits of an operand, 53 or 54 of them: its root's are the whole number nearest to the square
+// root of m * 2^52.
+#[derive(Clone, Copy)]
+struct Operand {
+    m: u64,
+    ghost least: { 2 ^ 52 ≤ m },
+    ghost most: { m < 2 ^ 54 },
 }
 
-// The whole number nearest to the square root of m * 2^52, sought from `start` down and up.
-fn seek(m: u64, start: u64) -> u64
-    requires { (2 ^ 52 ≤ m) × (m < 2 ^ 54) × (2 ^ 52 ≤ start) × (start ≤ 2 ^ 53) }
-    ensures { Roots (m * 2 ^ 52) result }
-{
-    let mut q = start;
-    while !below(q, q - 1, m) {
-        q -= 1;
+impl Operand {
+    // A first guess at the root's digits, from m as a float, whose pattern is made here: nothing is
+    // said of it but its range.
+    fn guess(self) -> u64
+        ensures { (2 ^ 52 ≤ result) × (result ≤ 2 ^ 53) }
+    {
+        let m = self.m;
+        let bits = if m < 0x20_0000_0000_0000 {
+            m + 0x4320_0000_0000_0000
+        } else {
+            (m >> 1) + 0x4330_0000_0000_0000
+        };
+        // g is between 2^26 and 2^27, and its digits are those of the guess
+        let g = estimate(f64::from_bits(bits));
+        if g >= 134217728.0 {
+            return 0x20_0000_0000_0000;
+        }
+        if g >= 67108864.0 {
+            return digits(g);
+        }
+        0x10_0000_0000_0000
     }
-    while below(q, q + 1, m) {
-        q += 1;
+
+    // The root's digits, sought from `start` down and up.
+    fn seek(self, start: u64) -> u64
+        requires { (2 ^ 52 ≤ start) × (start ≤ 2 ^ 53) }
+        ensures { Roots (self.m * 2 ^ 52) result }
+    {
+        let mut q = start;
+        while !below(q, q - 1, self.m) {
+            q -= 1;
+        }
+        while below(q, q + 1, self.m) {
+            q += 1;
+        }
+        q
     }
-    q
-}
 
-// m * 2^52 - q * q + 3 * 2^52, where that is from 1 to 6 * 2^52.
-fn distance(m: u64, q: u64) -> Option<u64>
-    requires { (m < 2 ^ 54) × (q ≤ 2 ^ 53) }
-    ensures { IfSome result (λ d. (0 < d) × (d ≤ 6 * 2 ^ 52) × (d + q * q ≡ (m + 3) * 2 ^ 52)) }
-{
-    let d = ((u128::from(m) + 3) << 52).checked_sub(u128::from(q) * u128::from(q))?;
-    if d == 0 || d > 0x60_0000_0000_0000 {
-        return None;
+    // m * 2^52 - q * q + 3 * 2^52, where that is from 1 to 6 * 2^52.
+    fn distance(self, q: u64) -> Option<u64>
+        requires { q ≤ 2 ^ 53 }
+        ensures { IfSome result (λ d. (0 < d) × (d ≤ 6 * 2 ^ 52) × (d + q * q ≡ (self.m + 3) * 2 ^ 52)) }
+    {
+        let d = ((u128::from(self.m) + 3) << 52).checked_sub(u128::from(q) * u128::from(q))?;
+        if d == 0 || d > 0x60_0000_0000_0000 {
+            return None;
+        }
+        Some(d as u64)
     }
-    Some(d as u64)
-}
 
-// The whole number nearest to the square root of m * 2^52, by the distance d of q: it is q or one
-// beside it.
-fn beside(m: u64, q: u64, d: u64) -> u64
-    requires { (2 ^ 52 ≤ m) × (2 ^ 52 ≤ q) × (q ≤ 2 ^ 53)
-        × (0 < d) × (d ≤ 6 * 2 ^ 52) × (d + q * q ≡ (m + 3) * 2 ^ 52) }
-    ensures { Roots (m * 2 ^ 52) result }
-{
-    let up = if d > q + 0x30_0000_0000_0000 { 1 } else { 0 };
-    let down = if d + q <= 0x30_0000_0000_0000 { 1 } else { 0 };
-    q + up - down
-}
+    // The root's digits, by the distance d of q: they are q or one beside it.
+    fn beside(self, q: u64, d: u64) -> u64
+        requires { (2 ^ 52 ≤ q) × (q ≤ 2 ^ 53) × (0 < d) × (d ≤ 6 * 2 ^ 52) × (d + q * q ≡ (self.m + 3) * 2 ^ 52) }
+        ensures { Roots (self.m * 2 ^ 52) result }
+    {
+        let up = if d > q + 0x30_0000_0000_0000 { 1 } else { 0 };
+        let down = if d + q <= 0x30_0000_0000_0000 { 1 } else { 0 };
+        q + up - down
+    }
 
-// The whole number nearest to the square root of m * 2^52, for m from 2^52 to 2^54: that of which
-// the squares of the two middles beside it, less a quarter, have m * 2^52 between them.
-fn root(m: u64) -> u64
-    requires { (2 ^ 52 ≤ m) × (m < 2 ^ 54) }
-    ensures { Roots (m * 2 ^ 52) result }
-{
-    let q = guess(m);
-    match distance(m, q) {
-        Some(d) => beside(m, q, d),
-        None => seek(m, q),
+    // The root's digits: the whole number of which the squares of the two middles beside it, less a
+    // quarter, have m * 2^52 between them.
+    fn root(self) -> u64
+        ensures { Roots (self.m * 2 ^ 52) result }
+    {
+        let q = self.guess();
+        match self.distance(q) {
+            Some(d) => self.beside(q, d),
+            None => self.seek(q),
+        }
+    }
+
+    // The root of m * 2^52 * 4^k, rounded. Mostly it is the guess g, which is returned as soon as it
+    // is there, while the tests that it is right are still under way.
+    fn nearest_root(self, g: f64, k: u64) -> f64
+        requires { k ≤ 2045 }
+        ensures { result ≡ Sqrt.root_of binary64 (self.m * 2 ^ 52 * 2 ^ k * 2 ^ k) }
+    {
+        if !g.is_nan() && g.to_bits() >> 52 == k + 1 {
+            let q = digits(g);
+            if let Some(d) = self.distance(q) {
+                if d <= q + 0x30_0000_0000_0000 && d + q > 0x30_0000_0000_0000 {
+                    return g;
+                }
+                let q = self.beside(q, d);
+                return Parts { neg: false, q, k }.float();
+            }
+        }
+        let q = self.root();
+        Parts { neg: false, q, k }.float()
     }
 }
 
@@ -122,26 +151,6 @@ pub(crate) fn lift(q: u64) -> u64
         return 0;
     }
     u64::from(q.leading_zeros()) - 11
-}
-
-// The root of m * 2^52 * 4^k, rounded. Mostly it is the guess g, which is returned as soon as it is
-// there, while the tests that it is right are still under way.
-fn nearest_root(g: f64, m: u64, k: u64) -> f64
-    requires { (2 ^ 52 ≤ m) × (m < 2 ^ 54) × (k ≤ 2045) }
-    ensures { result ≡ Sqrt.root_of binary64 (m * 2 ^ 52 * 2 ^ k * 2 ^ k) }
-{
-    if !g.is_nan() && g.to_bits() >> 52 == k + 1 {
-        let q = digits(g);
-        if let Some(d) = distance(m, q) {
-            if d <= q + 0x30_0000_0000_0000 && d + q > 0x30_0000_0000_0000 {
-                return g;
-            }
-            let q = beside(m, q, d);
-            return Parts { neg: false, q, k }.float();
-        }
-    }
-    let q = root(m);
-    Parts { neg: false, q, k }.float()
 }
 
 // The square root of x, rounded.
@@ -164,5 +173,5 @@ pub fn sqrt(x: f64) -> f64
     let m = p.q << i;
     let t = p.k + 52 - i;
     let n = if t % 2 == 0 { m } else { m * 2 };
-    nearest_root(estimate(x), n, t / 2 + 485)
+    Operand { m: n }.nearest_root(estimate(x), t / 2 + 485)
 }

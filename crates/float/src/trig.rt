@@ -22,18 +22,36 @@ pub struct SinCos {
     pub cosine: f64,
 }
 
+// From p = start on, p * z + c for each c in turn.
+#[inline]
+pub(crate) fn horner(z: f64, start: f64, rest: &[f64]) -> f64
+    ensures { result ≡ Trig.series z start rest.now }
+{
+    let mut p = start;
+    for c in rest {
+        p = p * z + *c;
+    }
+    p
+}
+
 // r + (r * z) * p, with p from 1/17! to -1/3!.
 fn sine(r: f64) -> f64
     ensures { result ≡ Trig.sine r }
 {
     let z = r * r;
-    let p = 2.8114572543455206e-15 * z - 7.647163731819816e-13;
-    let p = p * z + 1.6059043836821613e-10;
-    let p = p * z - 2.505210838544172e-08;
-    let p = p * z + 2.7557319223985893e-06;
-    let p = p * z - 0.0001984126984126984;
-    let p = p * z + 0.008333333333333333;
-    let p = p * z - 0.16666666666666666;
+    let p = horner(
+        z,
+        2.8114572543455206e-15,
+        &[
+            -7.647163731819816e-13,
+            1.6059043836821613e-10,
+            -2.505210838544172e-08,
+            2.7557319223985893e-06,
+            -0.0001984126984126984,
+            0.008333333333333333,
+            -0.16666666666666666,
+        ],
+    );
     r + (r * z) * p
 }
 
@@ -42,13 +60,19 @@ fn cosine(r: f64) -> f64
     ensures { result ≡ Trig.cosine r }
 {
     let z = r * r;
-    let u = 4.779477332387385e-14 * z - 1.1470745597729725e-11;
-    let u = u * z + 2.08767569878681e-09;
-    let u = u * z - 2.755731922398589e-07;
-    let u = u * z + 2.48015873015873e-05;
-    let u = u * z - 0.001388888888888889;
-    let u = u * z + 0.041666666666666664;
-    let u = u * z - 0.5;
+    let u = horner(
+        z,
+        4.779477332387385e-14,
+        &[
+            -1.1470745597729725e-11,
+            2.08767569878681e-09,
+            -2.755731922398589e-07,
+            2.48015873015873e-05,
+            -0.001388888888888889,
+            0.041666666666666664,
+            -0.5,
+        ],
+    );
     1.0 + z * u
 }
 
@@ -56,10 +80,7 @@ fn cosine(r: f64) -> f64
 fn quadrant(k: i64) -> u64
     ensures { result ≡ Trig.quadrant k }
 {
-    if k >= 0 {
-        return (k as u64) % 4;
-    }
-    3 - ((-1 - k) as u64) % 4
+    k.rem_euclid(4) as u64
 }
 
 // Sine and cosine from those of the reduced argument, by the quadrant.
@@ -94,8 +115,8 @@ pub fn sin_cos(x: f64) -> SinCos
         return by_quadrant(quadrant(k), sine(r), cosine(r));
     }
     SinCos {
-        sine: 0.0 / 0.0,
-        cosine: 0.0 / 0.0,
+        sine: f64::NAN,
+        cosine: f64::NAN,
     }
 }
 
@@ -114,6 +135,7 @@ pub fn cos(x: f64) -> f64
 }
 
 // Sine over cosine.
+#[tactic(auto, unfolding(crate::specs::Trig::tan))]
 pub fn tan(x: f64) -> f64
     ensures { result ≡ Trig.tan x }
 {
@@ -121,6 +143,7 @@ pub fn tan(x: f64) -> f64
     both.sine / both.cosine
 }
 
+#[tactic(auto, unfolding(crate::specs::Trig::hypot))]
 pub fn hypot(x: f64, y: f64) -> f64
     ensures { result ≡ Trig.hypot x y }
 {

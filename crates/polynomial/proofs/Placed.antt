@@ -3,15 +3,15 @@ use Rattle.std.specs.Prelude.{Some, None}
 use mathlib.Core.Path.{◌≡◌, refl, sym, ap, subst, ◌∙◌}
 use mathlib.Core.Bool.{Bool, true, false, ◌||◌}
 use mathlib.Core.List.{List, [], ◌∷◌, ◌++◌}
+use Rattle.std.proofs.Common.{append_assoc}
 use Prim.Native.Nat.{ℕ, zero, suc, ◌+◌, ◌-◌, ◌≤◌, ◌<◌, suc-le-suc}
 use native.Mathlib.Nat.{not-suc-le-zero, le_of_suc-le-suc, zero-lt-suc}
-use native.Mathlib.Numerals.{add-one}
 use native.Mathlib.Decide.{dec_lt}
 use native.Mathlib.Omega.{arith}
 use borrow.Author.Tests.{le-leb, lt-leb, not-true, not-false}
 use lib.Dec.{T}
 use lib.ListN.{length, get_or, set, take, drop, length-append, length-drop, length-set, take-append-drop, drop_of_length-le}
-use lib.Seq.{paste, take-take, take-add, drop_at, drop-cons, set_split, set-append_left, get_or-take, length-take-le}
+use lib.Seq.{take-take, take-add, drop_at, drop-drop, drop-cons, set_split, set-append_left, get_or-take, length-take-le}
 use lib.Ieee.{Float, nan, eq}
 use lib.Ieee.Bits.{is_true}
 use Rattle.float.specs.Number.{total_le}
@@ -68,19 +68,24 @@ module _ (w : List Float) (n : ℕ) (v : Float) where
   none : (G : List Float) → grown w n v ≡ G → length w < length G → (None ≡ put_answer w n v) × (w ≡ put_room w n v)
   none G g h = (sym (simp (g, lt-leb (length G) (length w) h)), sym (simp (g, lt-leb (length G) (length w) h)))
 
-module _ (w : List Float) (n : ℕ) (v : Float) (at : ℕ) (le : n ≤ length w) (f : Found w n v at) where
+module _ (w : List Float) (n : ℕ) (v : Float) (at : ℕ) (le : n ≤ length w) (f : Found (take n w) v at) where
   abbrev y : Float
   y = get_or w at nan
 
   len : length (take n w) ≡ n
   len = length-take-le n w le
 
+  within : at ≤ n
+  within = let l = len in omega (arith, f.within)
+
+  stops : at < n → passed v y ≡ false
+  stops h = let l = len in ap (passed v) (sym (get_or-take n w at nan h)) ∙ f.stops (omega arith)
+
   split : grown w n v ≡ take at w ++ put v (drop at (take n w))
   split =
       let l = len in
-      put_past v at (take n w) (omega (arith, f.within)) (λ k h. let h' : k < n = omega (arith, f.within) in
-      ap (passed v) (get_or-take n w k nan h') ∙ f.before k h)
-      ∙ ap (λ (r : List Float). r ++ put v (drop at (take n w))) (take-take at n w f.within)
+      put_past v at (take n w) (omega (arith, f.within)) f.before
+      ∙ ap (λ (r : List Float). r ++ put v (drop at (take n w))) (take-take at n w within)
 
   next : at < n → drop at (take n w) ≡ y ∷ drop (suc at) (take n w)
   next h =
@@ -92,7 +97,7 @@ module _ (w : List Float) (n : ℕ) (v : Float) (at : ℕ) (le : n ≤ length w)
       let l = len in
       let G : grown w n v ≡ set (take n w) at v =
       split ∙ ap (λ (r : List Float). take at w ++ put v r) (next h) ∙ ap (λ (r : List Float). take at w ++ r) (put_replace v y (drop (suc at) (take n w)) e t)
-      ∙ ap (λ (r : List Float). r ++ v ∷ drop (suc at) (take n w)) (sym (take-take at n w f.within))
+      ∙ ap (λ (r : List Float). r ++ v ∷ drop (suc at) (take n w)) (sym (take-take at n w within))
       ∙ sym (set_split (take n w) at v (omega arith)) in
       let r = fits w n v (set (take n w) at v) n G (length-set (take n w) at v ∙ l) le in
       (r.0, ap (λ (z : List Float). set z at v) (sym (take-append-drop n w)) ∙ set-append_left (take n w) (drop n w) at v (omega arith) ∙ r.1)
@@ -103,7 +108,7 @@ module _ (w : List Float) (n : ℕ) (v : Float) (at : ℕ) (le : n ≤ length w)
       let G : grown w n v ≡ take n w =
       split ∙ ap (λ (r : List Float). take at w ++ put v r) (next h)
       ∙ ap (λ (r : List Float). take at w ++ r) (put_keep v y (drop (suc at) (take n w)) e t ∙ sym (next h))
-      ∙ ap (λ (r : List Float). r ++ drop at (take n w)) (sym (take-take at n w f.within))
+      ∙ ap (λ (r : List Float). r ++ drop at (take n w)) (sym (take-take at n w within))
       ∙ take-append-drop at (take n w) in
       let r = fits w n v (take n w) n G l le in
       (r.0, sym (take-append-drop n w) ∙ r.1)
@@ -111,7 +116,7 @@ module _ (w : List Float) (n : ℕ) (v : Float) (at : ℕ) (le : n ≤ length w)
   -- v is new
   alone : (at < n → eq y v ≡ false) → put v (drop at (take n w)) ≡ v ∷ drop at (take n w)
   alone e = elim (dec_lt at n) [
-    | yes h ↦ rw (next h) (put_here v y (drop (suc at) (take n w)) (f.stops h) (e h))
+    | yes h ↦ rw (next h) (put_here v y (drop (suc at) (take n w)) (stops h) (e h))
     | no h ↦
         let l = len in
         let z : drop at (take n w) ≡ [] = drop_of_length-le (take n w) {i = at} (omega arith) in
@@ -120,7 +125,7 @@ module _ (w : List Float) (n : ℕ) (v : Float) (at : ℕ) (le : n ≤ length w)
 
   behind : drop at (take n w) ≡ take (n - at) (drop at w)
   behind =
-      let i = f.within in
+      let i = within in
       let k : at + (n - at) ≡ n = omega arith in
       subst (λ (m : ℕ). drop at (take m w) ≡ take (n - at) (drop at w)) k (drop_take at (n - at) w (omega arith))
 
@@ -132,7 +137,7 @@ module _ (w : List Float) (n : ℕ) (v : Float) (at : ℕ) (le : n ≤ length w)
 
   new_length : length G ≡ n + 1
   new_length =
-      let i = f.within in
+      let i = within in
       let a = length-append (take at w) (v ∷ take (n - at) (drop at w)) in
       let d = length-drop at w in
       let b : length (take at w) ≡ at = length-take-le at w (omega arith) in
@@ -142,9 +147,23 @@ module _ (w : List Float) (n : ℕ) (v : Float) (at : ℕ) (le : n ≤ length w)
   pub full : (at < n → eq y v ≡ false) → n ≡ length w → (None ≡ put_answer w n v) × (w ≡ put_room w n v)
   full e h = none w n v G (new e) (omega (arith, new_length))
 
-  pub inserted : (at < n → eq y v ≡ false) → n < length w → (Some (n + 1) ≡ put_answer w n v) × (paste w at (v ∷ drop at w) (n - at + 1) ≡ put_room w n v)
-  inserted e h =
-      let i = f.within in
-      let k : at + (n - at + 1) ≡ n + 1 = omega arith in
-      let r = fits w n v G (n + 1) (new e) new_length (omega arith) in
-      (r.0, (λ j. take at w ++ take (add-one (n - at) j) (v ∷ drop at w) ++ drop (k j) w) ∙ r.1)
+  -- the places from `at` to the list's end and one more, moved up by one
+  pub moved : (ys : List Float) → n < length w
+      → ys ≡ v ∷ take (length (take (n + 1 - at) (drop at w)) - 1) (take (n + 1 - at) (drop at w)) → ys ≡ v ∷ take (n - at) (drop at w)
+  moved ys h e =
+      let i = within in
+      let l = length-drop at w in
+      let b : length (take (n + 1 - at) (drop at w)) ≡ n + 1 - at = length-take-le (n + 1 - at) (drop at w) (omega arith) in
+      let d : length (take (n + 1 - at) (drop at w)) - 1 ≡ n - at = omega arith in
+      e ∙ ap (λ (r : List Float). v ∷ r) (ap (λ (j : ℕ). take j (take (n + 1 - at) (drop at w))) d ∙ take-take (n - at) (n + 1 - at) (drop at w) (omega arith))
+
+  pub inserted : (at < n → eq y v ≡ false) → n < length w → (ys : List Float)
+      → ys ≡ v ∷ take (length (take (n + 1 - at) (drop at w)) - 1) (take (n + 1 - at) (drop at w))
+      → (Some (n + 1) ≡ put_answer w n v) × (take at w ++ (ys ++ drop (n + 1 - at) (drop at w)) ≡ put_room w n v)
+  inserted e h ys m =
+      let i = within in
+      let k : at + (n + 1 - at) ≡ n + 1 = omega arith in
+      let r = fits w n v G (n + 1) (new e) new_length (omega arith) in (
+        r.0,
+        (λ j. take at w ++ (moved ys h m j ++ (drop-drop (n + 1 - at) at w ∙ ap (λ (q : ℕ). drop q w) k) j)) ∙ sym (append_assoc (take at w) (v ∷ take (n - at) (drop at w)) (drop (n + 1) w)) ∙ r.1,
+      )

@@ -1,2 +1,2 @@
 -- What the proofs of the bisection share.
-mod Steps
+pub mod Steps

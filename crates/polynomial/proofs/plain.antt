@@ -2,7 +2,7 @@
 -- compensated one, which is not near zero), from `PlainSteps` (sums and the parts of a result),
 -- `PlainProducts`, `PlainStep` (one step of Horner arithmetic), `PlainSize` (a coefficient in units), `PlainScale` (the
 -- sum of magnitudes), `PlainMagnitudes` (the sum with the residuals, and the bound of `near-zero`).
-mod Sure
+pub mod Sure
 mod PlainSteps
 mod PlainProducts
 mod PlainStep

@@ -6,6 +6,7 @@ use crate::compensated::{Coefficients, Compensated};
 use arrayvec::ArrayVec;
 
 // a + scale * b, of as many coefficients each.
+#[tactic(auto, unfolding(crate::specs::Polynomial::add))]
 pub fn add(a: &[Compensated], b: &[Compensated], scale: f64) -> Coefficients
     requires { (length a.now ≤ 9) × (length b.now ≡ length a.now) }
     ensures { result.items ≡ Of.add a.now b.now scale }
@@ -19,6 +20,9 @@ pub fn add(a: &[Compensated], b: &[Compensated], scale: f64) -> Coefficients
 }
 
 // The coefficient k of a * b: from zero, the sum over each place i of a that has a partner k - i in b.
+// Here, in `multiply` and in `determinant` the sizes add up to ten at most, so that the product has nine
+// coefficients: a clause of two factors, which a type of one cannot hold.
+#[tactic(auto, using(crate::proofs::arithmetic::Products::column_more, crate::proofs::arithmetic::Products::column_end))]
 fn coefficient(a: &[Compensated], b: &[Compensated], k: usize) -> Compensated
     requires { (length a.now + length b.now ≤ 10) × (k < length a.now + length b.now - 1) }
     ensures { result ≡ Of.coefficient a.now b.now k }
@@ -31,6 +35,7 @@ fn coefficient(a: &[Compensated], b: &[Compensated], k: usize) -> Compensated
 }
 
 // a * b.
+#[tactic(auto, using(crate::proofs::arithmetic::Products::product_steps))]
 pub fn multiply(a: &[Compensated], b: &[Compensated]) -> Coefficients
     requires { (0 < length a.now) × (length a.now + length b.now ≤ 10) }
     ensures { result.items ≡ Of.multiply a.now b.now }
@@ -43,6 +48,7 @@ pub fn multiply(a: &[Compensated], b: &[Compensated]) -> Coefficients
 }
 
 // a * b - c * d, where both products are as long.
+#[tactic(auto, using(crate::specs::Laws::Nine::length_multiply), unfolding(crate::specs::Polynomial::determinant))]
 pub fn determinant(
     a: &[Compensated],
     b: &[Compensated],

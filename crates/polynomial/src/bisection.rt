@@ -1,7 +1,7 @@
 // Bisecting an interval until no float lies strictly inside. First by plain arithmetic, as long as that
 // tells the sign at the middle. Then mostly two steps at a time: the values at the middle and at both
 // middles that can come next are worked out side by side.
-ghost use Rattle.std.specs.Prelude.{◌≡◌, ◌≤◌, length};
+ghost use Rattle.std.specs.Prelude.{◌≡◌};
 ghost use Rattle.polynomial.specs.Polynomial as Of;
 ghost use Rattle.polynomial.specs.Roots as Roots;
 ghost use Rattle.float.specs.Promises.Order.{Span};
@@ -9,9 +9,7 @@ ghost use Rattle.polynomial.specs.Promises.Inside as Inside;
 ghost use Rattle.polynomial.specs.Promises.Plain.{AllTidy};
 
 use crate::bounds::Bounds;
-use crate::compensated::Compensated;
-use crate::plain::{all_tidy, plain_sign};
-use crate::polynomial::{evaluate, evaluate_three};
+use crate::polynomial::Polynomial;
 use float::number::{is_sign_positive, middle};
 use std::ops::ControlFlow;
 
@@ -23,6 +21,7 @@ pub enum Half {
 }
 
 // A step at the middle m of lo and hi, where the value is v: the result, or the half to go on in.
+#[tactic(auto, unfolding(crate::specs::Promises::Inside::step_at))]
 fn step_at(lo: f64, hi: f64, m: f64, v: f64, positive: bool) -> ControlFlow<f64, Half>
     ensures { result ≡ Inside.step_at lo hi m v positive }
 {
@@ -43,6 +42,7 @@ fn step_at(lo: f64, hi: f64, m: f64, v: f64, positive: bool) -> ControlFlow<f64,
 
 // What a step at the middle m of lo and hi, where the value is v, leaves: the result, or the ends of
 // an interval to go on in. They are no `Bounds`: that they can be bisected is known for the middle alone.
+#[tactic(auto, unfolding(crate::specs::Promises::Inside::narrowed_once))]
 fn narrowed_once(lo: f64, hi: f64, m: f64, v: f64, positive: bool) -> ControlFlow<f64, (f64, f64)>
     ensures { result ≡ Inside.narrowed_once lo hi m v positive }
 {
@@ -52,65 +52,67 @@ fn narrowed_once(lo: f64, hi: f64, m: f64, v: f64, positive: bool) -> ControlFlo
     }
 }
 
-// What a step leaves or, where the three values are known, two steps.
-fn narrowed(p: &[Compensated], lo: f64, hi: f64, positive: bool) -> ControlFlow<f64, (f64, f64)>
-    requires { Span 2 lo hi }
-    ensures { Inside.Leaves (Of.evaluate p.now) positive lo hi result }
-{
-    let m = middle(lo, hi);
-    let below = middle(lo, m);
-    let above = middle(m, hi);
-    let Some((u, v, w)) = evaluate_three(p, below, m, above) else {
-        return narrowed_once(lo, hi, m, evaluate(p, m), positive);
-    };
-    match step_at(lo, hi, m, v, positive)? {
-        Half::Upper => narrowed_once(m, hi, above, w, positive),
-        Half::Lower => narrowed_once(lo, m, below, u, positive),
-    }
-}
-
-// Bisects the interval while plain arithmetic tells the sign at the middle.
-fn roughly(p: &[Compensated], from: f64, to: f64, positive: bool) -> ControlFlow<f64, (f64, f64)>
-    requires { (length p.now ≤ 9) × Span 2 from to × AllTidy p.now }
-    ensures { Inside.Rest (Of.evaluate p.now) positive from to result }
-{
-    let mut lo = from;
-    let mut hi = to;
-    loop {
+impl Polynomial<'_> {
+    // What a step leaves or, where the three values are known, two steps.
+    #[tactic(auto, using(crate::proofs::bisection::Steps::two_steps))]
+    fn narrowed(self, lo: f64, hi: f64, positive: bool) -> ControlFlow<f64, (f64, f64)>
+        requires { Span 2 lo hi }
+        ensures { Inside.Leaves (Of.evaluate self.entry.terms.now) positive lo hi result }
+    {
         let m = middle(lo, hi);
-        let Some(sign) = plain_sign(p, m) else {
-            return ControlFlow::Continue((lo, hi));
+        let below = middle(lo, m);
+        let above = middle(m, hi);
+        let Some((u, v, w)) = self.evaluate_three(below, m, above) else {
+            return narrowed_once(lo, hi, m, self.evaluate(m), positive);
         };
-        (lo, hi) = narrowed_once(lo, hi, m, sign, positive)?;
-    }
-}
-
-// Bisects the interval, by compensated values, until no float lies strictly inside.
-fn finely(p: &[Compensated], from: f64, to: f64, positive: bool) -> f64
-    requires { Span 2 from to }
-    ensures { result ≡ Roots.bisected (Of.evaluate p.now) positive from to }
-{
-    let mut lo = from;
-    let mut hi = to;
-    loop {
-        match narrowed(p, lo, hi, positive) {
-            ControlFlow::Break(x) => return x,
-            ControlFlow::Continue(left) => (lo, hi) = left,
+        match step_at(lo, hi, m, v, positive)? {
+            Half::Upper => narrowed_once(m, hi, above, w, positive),
+            Half::Lower => narrowed_once(lo, m, below, u, positive),
         }
     }
-}
 
-// Bisects the interval until no float lies strictly inside; the value at its lower end is positive
-// where `positive` says so.
-pub(crate) fn bisect(p: &[Compensated], at: Bounds, positive: bool) -> f64
-    requires { length p.now ≤ 9 }
-    ensures { result ≡ Roots.bisected (Of.evaluate p.now) positive at.lower at.upper }
-{
-    if !all_tidy(p) {
-        return finely(p, at.lower, at.upper, positive);
+    // Bisects the interval while plain arithmetic tells the sign at the middle.
+    fn roughly(self, from: f64, to: f64, positive: bool) -> ControlFlow<f64, (f64, f64)>
+        requires { Span 2 from to × AllTidy self.terms.now }
+        ensures { Inside.Rest (Of.evaluate self.entry.terms.now) positive from to result }
+    {
+        let mut lo = from;
+        let mut hi = to;
+        loop {
+            let m = middle(lo, hi);
+            let Some(sign) = self.plain_sign(m) else {
+                return ControlFlow::Continue((lo, hi));
+            };
+            (lo, hi) = narrowed_once(lo, hi, m, sign, positive)?;
+        }
     }
-    match roughly(p, at.lower, at.upper, positive) {
-        ControlFlow::Break(x) => x,
-        ControlFlow::Continue((lo, hi)) => finely(p, lo, hi, positive),
+
+    // Bisects the interval, by compensated values, until no float lies strictly inside.
+    fn finely(self, from: f64, to: f64, positive: bool) -> f64
+        requires { Span 2 from to }
+        ensures { result ≡ Roots.bisected (Of.evaluate self.entry.terms.now) positive from to }
+    {
+        let mut lo = from;
+        let mut hi = to;
+        loop {
+            match self.narrowed(lo, hi, positive) {
+                ControlFlow::Break(x) => return x,
+                ControlFlow::Continue(left) => (lo, hi) = left,
+            }
+        }
+    }
+
+    // Bisects the interval until no float lies strictly inside; the value at its lower end is positive
+    // where `positive` says so.
+    pub(crate) fn bisect(self, at: Bounds, positive: bool) -> f64
+        ensures { result ≡ Roots.bisected (Of.evaluate self.entry.terms.now) positive at.lower at.upper }
+    {
+        if !self.all_tidy() {
+            return self.finely(at.lower, at.upper, positive);
+        }
+        match self.roughly(at.lower, at.upper, positive) {
+            ControlFlow::Break(x) => x,
+            ControlFlow::Continue((lo, hi)) => self.finely(lo, hi, positive),
+        }
     }
 }

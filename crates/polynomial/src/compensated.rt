@@ -29,6 +29,7 @@ impl From<f64> for Compensated {
 
 impl Compensated {
     // Adds both components and retains the rounding error.
+    #[tactic(auto, unfolding(crate::specs::Compensated::plus))]
     pub(crate) fn plus(self, other: Compensated) -> Self
         ensures { result ≡ Of.plus self other }
     {
@@ -72,6 +73,7 @@ impl Compensated {
     }
 
     // The product, by the error of the product of the high parts.
+    #[tactic(auto, unfolding(crate::specs::Compensated::times))]
     fn product(self, other: Compensated, error: f64) -> Self
         requires { error ≡ ProductError.product_error self.high other.high }
         ensures { result ≡ Of.times self other }

@@ -72,6 +72,7 @@ pub struct Numerators {
 }
 
 // A harmonic as a polynomial numerator in u = tan((q1 - origin) / 2).
+#[tactic(auto, using(crate::proofs::curve::Harmonics::numerator_of))]
 pub(crate) fn numerator(h: Harmonic, origin: f64) -> [Compensated; 3]
     ensures { result ≡ Of.numerator h origin }
 {
@@ -118,6 +119,7 @@ impl Curve {
 }
 
 // (1 + u^2)^2 * norm^2.
+#[tactic(auto, using(crate::proofs::curve::Squares::times_more, crate::proofs::curve::Squares::times_end))]
 fn norm_target(norm: f64) -> Coefficients
     ensures { result.items ≡ Of.target norm }
 {
@@ -133,6 +135,7 @@ fn norm_target(norm: f64) -> Coefficients
 }
 
 // x(u)^2 + y(u)^2 less the target, in the chart around the origin: five coefficients.
+#[tactic(auto, using(crate::specs::Laws::Nine::length_add, crate::specs::Laws::Nine::length_multiply, crate::specs::Laws::Nine::length_target, crate::specs::Laws::SmallNorm::numerator_length), unfolding(crate::specs::Curve::norm_polynomial))]
 pub(crate) fn norm_polynomial(x: Harmonic, y: Harmonic, norm: f64, origin: f64) -> Coefficients
     ensures { result.items ≡ Of.norm_polynomial x y norm origin }
 {

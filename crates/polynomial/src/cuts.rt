@@ -1,7 +1,6 @@
 // Cuts of an interval: angles in a lent slice, sorted and with no value twice, into which one value
 // at a time is put.
-ghost use Rattle.std.specs.Prelude.{◌≡◌, ◌∷◌, ◌+◌, ◌<◌, ◌≤◌, length, drop};
-ghost use Rattle.std.proofs.Math.Seq.{paste};
+ghost use Rattle.std.specs.Prelude.{◌≡◌, ◌∷◌, ◌-◌, ◌<◌, ◌≤◌, length, take};
 ghost use Rattle.float.specs.Number as Number;
 ghost use Rattle.polynomial.specs.Promises.Insert.{passed, put_answer, put_room, Found};
 
@@ -15,43 +14,44 @@ fn negative(x: f64) -> bool
 }
 
 // v goes past w: it comes later, and does not equal it. A NaN goes past every number.
-pub(crate) fn passes(w: f64, v: f64) -> bool
+#[tactic(auto, using(crate::proofs::cuts::Passed::passed_cases))]
+fn passes(w: f64, v: f64) -> bool
     ensures { result ≡ passed v w }
 {
     w < v || v.is_nan() && !w.is_nan()
 }
 
-// The first of `count` places that v does not go past, or count. What stands there may be in any
+// The first place that v does not go past, or the list's length. What stands there may be in any
 // order, so it is not searched by halves.
-pub(crate) fn find(room: &[f64], count: usize, v: f64) -> usize
-    requires { count ≤ length room.now }
-    ensures { Found room.now count v result }
+fn find(list: &[f64], v: f64) -> usize
+    ensures { Found list.now v result }
 {
-    for i in 0..count {
-        if !passes(room[i], v) {
+    for i in 0..list.len() {
+        if !passes(list[i], v) {
             return i;
         }
     }
-    count
+    list.len()
 }
 
-// Moves `many` values from `at` one place up, and puts v before them.
-pub(crate) fn shift(room: &mut [f64], at: usize, many: usize, v: f64)
-    requires { at + many < length room.old }
-    ensures { room.new ≡ paste room.old at (v ∷ drop at room.old) (many + 1) }
+// Moves the values one place up, the last one out, and puts v before them.
+fn shift(places: &mut [f64], v: f64)
+    requires { 0 < length places.old }
+    ensures { places.new ≡ v ∷ take (length places.old - 1) places.old }
 {
-    room.copy_within(at..at + many, at + 1);
-    room[at] = v;
+    let last = places.len() - 1;
+    places.copy_within(..last, 1);
+    places[0] = v;
 }
 
 // Puts v into the list in the first `count` places of room: the list's new length, or none where
-// there is no room for one more.
+// there is no room for one more. The list may stand in a slice that C lends, so its length goes beside it.
 pub fn insert(room: &mut [f64], count: usize, v: f64) -> Option<usize>
     requires { count ≤ length room.old }
     ensures value { result ≡ put_answer room.old count v }
     ensures room_after { room.new ≡ put_room room.old count v }
 {
-    let at = find(room, count, v);
+    let at = find(&room[..count], v);
     if at < count {
         let w = room[at];
         if w == v {
@@ -69,6 +69,6 @@ pub fn insert(room: &mut [f64], count: usize, v: f64) -> Option<usize>
     if count == room.len() {
         return None;
     }
-    shift(room, at, count - at, v);
+    shift(&mut room[at..=count], v);
     Some(count + 1)
 }

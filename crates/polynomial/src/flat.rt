@@ -6,6 +6,7 @@ use crate::compensated::{Coefficients, Compensated};
 use arrayvec::ArrayVec;
 
 // The pairs of at most 18 floats.
+#[tactic(auto, unfolding(crate::specs::Operation::pairs))]
 pub(crate) fn coefficients(s: &[f64]) -> Coefficients
     requires { length s.now ≤ 18 }
     ensures { result.items ≡ pairs s.now }

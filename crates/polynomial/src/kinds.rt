@@ -34,6 +34,7 @@ fn marked(near: &[f64], x: f64) -> Root
 }
 
 // The kinds of the roots, in the first places of kinds. What stands behind is left.
+#[tactic(auto, using(crate::proofs::kinds::Marks::written, crate::proofs::kinds::Marks::whole))]
 pub(crate) fn mark(near: &[f64], roots: &[f64], kinds: &mut [u8])
     requires { length roots.now ≤ length kinds.old }
     ensures { kinds.new ≡ map Kinds.kind (map (Kinds.marked near.now) roots.now) ++ drop (length roots.now) kinds.old }

@@ -7,13 +7,16 @@ ghost use Rattle.polynomial.specs.Promises.Norm.{put_all};
 use crate::angle::wrapped_angle;
 use crate::bounds::Bounds;
 use crate::curve::{Harmonic, norm_polynomial};
+use crate::polynomial::Polynomial;
 use crate::roots::{keep, roots};
 use float::arc::atan;
 use float::number::middle;
 use float::trig::P;
+use std::ops::Range;
 
 // The angles of the roots in the chart around the origin, put into the cuts in the first k places of
-// out.
+// out. Here and in `half_roots` the list is no `ArrayVec`: `insert` puts into a slice, since the root
+// finder's list may stand in what C lends, and one more for an `ArrayVec` would be a second `insert`.
 fn chart(found: &[f64], origin: f64, out: &mut [f64], k: usize) -> usize
     requires { k + length found.now ≤ length out.old }
     ensures { Front (put_all (Of.chart_angles origin found.now) (take k out.old)) out.old result out.new }
@@ -30,22 +33,24 @@ fn half_roots(
     x: Harmonic,
     y: Harmonic,
     norm: f64,
-    lower: f64,
-    upper: f64,
+    half: Range<f64>,
     out: &mut [f64],
     k: usize,
 ) -> usize
     requires { k + 29 ≤ length out.old }
-    ensures { Front (put_all (Of.half_roots x y norm lower upper) (take k out.old)) out.old result out.new }
+    ensures { Front (put_all (Of.half_roots x y norm half.start half.end) (take k out.old)) out.old result out.new }
 {
     let mut found = [0.0; 32];
-    let origin = middle(lower, upper);
-    let p = norm_polynomial(x, y, norm, origin);
+    let origin = middle(half.start, half.end);
+    let list = norm_polynomial(x, y, norm, origin);
+    let p = Polynomial {
+        terms: list.as_slice(),
+    };
     let bounds = Bounds {
         lower: -1.0,
         upper: 1.0,
     };
-    let n = roots(p.as_slice(), bounds, &mut found);
+    let n = roots(p, bounds, &mut found);
     chart(&found[..n], origin, out, k)
 }
 
@@ -55,6 +60,6 @@ pub fn squared_norm_roots(x: Harmonic, y: Harmonic, norm: f64, out: &mut [f64]) 
     ensures value { result ≡ length (Of.squared_norm_roots x y norm) }
     ensures out_after { out.new ≡ Of.squared_norm_roots x y norm ++ drop result out.old }
 {
-    let k = half_roots(x, y, norm, -P, 0.0, out, 0);
-    half_roots(x, y, norm, 0.0, P, out, k)
+    let k = half_roots(x, y, norm, -P..0.0, out, 0);
+    half_roots(x, y, norm, 0.0..P, out, k)
 }

@@ -1,13 +1,13 @@
 // The operation Roots of document 01, with its refusals in 01's order.
-ghost use Rattle.std.specs.Prelude.{◌≡◌, ◌≤◌, length};
+ghost use Rattle.std.specs.Prelude.{◌≡◌, length};
 ghost use Rattle.std.specs.List.{list_all};
 ghost use Rattle.polynomial.specs.Operation as Operation;
 ghost use Rattle.polynomial.specs.Roots as Roots;
 ghost use Rattle.polynomial.specs.Kinds as Kinds;
 
 use crate::bounds::Bounds;
-use crate::compensated::Compensated;
 use crate::flat;
+use crate::polynomial::Polynomial;
 use crate::refusals::Refusal;
 use crate::roots::marked_roots;
 use float::number::abs;
@@ -16,6 +16,7 @@ use float::number::abs;
 const LARGEST_PART: f64 = 2.5822498780869086e120;
 
 // Whether the bounds are numbers within ±4, in order.
+#[tactic(auto, using(crate::proofs::Literals::literals))]
 pub(crate) fn bounds_hold(lower: f64, upper: f64) -> bool
     ensures { result ≡ Operation.bounds_hold lower upper }
 {
@@ -23,6 +24,7 @@ pub(crate) fn bounds_hold(lower: f64, upper: f64) -> bool
 }
 
 // Whether a part is finite, and at most 2^400 in magnitude.
+#[tactic(auto, using(crate::proofs::Literals::literals))]
 pub(crate) fn part_holds(x: f64) -> bool
     ensures { result ≡ Operation.part_holds x }
 {
@@ -38,15 +40,14 @@ fn parts_hold(s: &[f64]) -> bool
 
 // The roots, found elsewhere first: the list may be too long for a slice.
 fn roots_apart(
-    p: &[Compensated],
+    p: Polynomial,
     bounds: Bounds,
     res: &mut [f64],
     kinds: &mut [u8],
 ) -> Result<usize, Refusal>
-    requires { length p.now ≤ 9 }
-    ensures value { result ≡ Operation.fitted (length (Roots.roots p.now bounds.lower bounds.upper)) (length res.old) (length kinds.old) }
-    ensures res_after { res.new ≡ Operation.filled result (Roots.roots p.now bounds.lower bounds.upper) res.old }
-    ensures kinds_after { kinds.new ≡ Operation.filled result (Kinds.kinds p.now bounds.lower bounds.upper) kinds.old }
+    ensures value { result ≡ Operation.fitted (length (Roots.roots p.entry.terms.now bounds.lower bounds.upper)) (length res.old) (length kinds.old) }
+    ensures res_after { res.new ≡ Operation.filled result (Roots.roots p.entry.terms.now bounds.lower bounds.upper) res.old }
+    ensures kinds_after { kinds.new ≡ Operation.filled result (Kinds.kinds p.entry.terms.now bounds.lower bounds.upper) kinds.old }
 {
     let mut found = [0.0; 512];
     let mut arose = [0; 512];
@@ -90,8 +91,10 @@ pub fn roots(
     }
     let bounds = Bounds { lower, upper };
     let list = flat::coefficients(coefficients);
-    let p = list.as_slice();
-    let n = p.len();
+    let p = Polynomial {
+        terms: list.as_slice(),
+    };
+    let n = p.terms.len();
     if 1 << n <= res.len() {
         if 1 << n <= kinds.len() {
             return Ok(marked_roots(p, bounds, res, kinds));

@@ -1,9 +1,10 @@
 // Plain Horner arithmetic on the high parts alone. Where its value is far from zero beside the
 // coefficients' magnitudes, it has the sign of the compensated value, which is not near zero then.
-ghost use Rattle.std.specs.Prelude.{◌≡◌, true, ◌≤◌, length};
+ghost use Rattle.std.specs.Prelude.{◌≡◌, true};
 ghost use Rattle.polynomial.specs.Promises.Plain.{Tidy, AllTidy, Tells, sign_if_sure};
 
 use crate::compensated::Compensated;
+use crate::polynomial::Polynomial;
 use float::number::abs;
 
 // 2^500, 2^52 and 2^-1010. MARGIN is 2^-43: how far from zero a plain value has to be, as a part of
@@ -22,18 +23,6 @@ fn is_tidy(c: Compensated) -> bool
 {
     let size = abs(c.high);
     size <= LARGEST && abs(c.low) * LIFT <= size
-}
-
-// Whether each coefficient has a small residual and is not large.
-pub(crate) fn all_tidy(p: &[Compensated]) -> bool
-    ensures { result ≡ true → AllTidy p.now }
-{
-    for c in p {
-        if !is_tidy(*c) {
-            return false;
-        }
-    }
-    true
 }
 
 // The sign, 1.0 or -1.0, of the plain value v at a point of this size; none where v may have another
@@ -55,17 +44,32 @@ fn sign_of(size: f64, v: f64, scale: f64) -> Option<f64>
     None
 }
 
-// The sign of the value at x, 1.0 or -1.0; none where plain arithmetic does not tell it.
-pub(crate) fn plain_sign(p: &[Compensated], x: f64) -> Option<f64>
-    requires { (length p.now ≤ 9) × AllTidy p.now }
-    ensures { Tells result p.now x }
-{
-    let size = abs(x);
-    let mut sum = 0.0;
-    let mut scale = 0.0;
-    for c in p.iter().rev() {
-        sum = sum * x + c.high;
-        scale = scale * size + abs(c.high);
+impl Polynomial<'_> {
+    // Whether each coefficient has a small residual and is not large.
+    pub(crate) fn all_tidy(self) -> bool
+        ensures { result ≡ true → AllTidy self.entry.terms.now }
+    {
+        for c in self.terms {
+            if !is_tidy(*c) {
+                return false;
+            }
+        }
+        true
     }
-    sign_of(size, sum, scale)
+
+    // The sign of the value at x, 1.0 or -1.0; none where plain arithmetic does not tell it.
+    #[tactic(auto, using(crate::proofs::Literals::literals), unfolding(crate::specs::Promises::Plain::plain, crate::specs::Promises::Plain::scale))]
+    pub(crate) fn plain_sign(self, x: f64) -> Option<f64>
+        requires { AllTidy self.terms.now }
+        ensures { Tells result self.entry.terms.now x }
+    {
+        let size = abs(x);
+        let mut sum = 0.0;
+        let mut scale = 0.0;
+        for c in self.terms.iter().rev() {
+            sum = sum * x + c.high;
+            scale = scale * size + abs(c.high);
+        }
+        sign_of(size, sum, scale)
+    }
 }

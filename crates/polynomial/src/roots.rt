@@ -5,25 +5,21 @@ ghost use Rattle.polynomial.specs.Cuts.{put};
 ghost use Rattle.polynomial.specs.Polynomial as Of;
 ghost use Rattle.polynomial.specs.Roots as Roots;
 ghost use Rattle.polynomial.specs.Kinds as Kinds;
-ghost use Rattle.float.specs.Promises.Order.{Span};
 ghost use Rattle.polynomial.specs.Promises.Front.{Front};
 ghost use Rattle.polynomial.specs.Promises.Inside.{Ready, Stands, touched, crossed, found, kinds_of, points_of, counting_of};
 ghost use Rattle.polynomial.specs.Promises.Plain.{AllTidy};
 
-use crate::bisection::bisect;
 use crate::bounds::Bounds;
 use crate::compensated::Compensated;
 use crate::cuts::insert;
 use crate::kinds::mark;
-use crate::plain::{all_tidy, plain_sign};
-use crate::polynomial::{all_finite, derivative, evaluate, trimmed, value_near};
+use crate::polynomial::Polynomial;
 use float::number::is_sign_positive;
 
 // Two neighbouring points, and the values there.
 #[derive(Clone, Copy)]
 pub struct Interval {
-    pub lo: f64,
-    pub hi: f64,
+    pub ends: Bounds,
     pub u: f64,
     pub v: f64,
 }
@@ -40,6 +36,7 @@ fn crosses(u: f64, v: f64) -> bool
 
 // Puts v into the cuts in the first k places of out, which has a place more. The list stands in the
 // slice that C lends, so its length goes beside it.
+#[tactic(auto, using(crate::proofs::roots::Kept::kept_some))]
 pub(crate) fn keep(out: &mut [f64], k: usize, v: f64) -> usize
     requires { k < length out.old }
     ensures value { result ≡ length (put v (take k out.old)) }
@@ -49,17 +46,15 @@ pub(crate) fn keep(out: &mut [f64], k: usize, v: f64) -> usize
 }
 
 // Puts the end of the bisection between two points, whose values are u and v, into the cuts in the
-// first k places of out if the values cross zero.
-fn cross(p: &[Compensated], at: Interval, out: &mut [f64], k: usize) -> usize
-    requires { (length p.now ≤ 9) × (k < length out.old) × Span 2 at.lo at.hi }
-    ensures { Front (crossed (Of.evaluate p.now) at (take k out.old)) out.old result out.new }
+// first k places of out if the values cross zero. Here and in `look` out may be what C lends, so the
+// list is no `ArrayVec`, and its length goes beside it; a struct of both would be made of the parts at
+// each point and taken apart again.
+fn cross(p: Polynomial, at: Interval, out: &mut [f64], k: usize) -> usize
+    requires { k < length out.old }
+    ensures { Front (crossed (Of.evaluate p.entry.terms.now) at.ends.lower at.ends.upper at.u at.v (take k out.old)) out.old result out.new }
 {
     if crosses(at.u, at.v) {
-        let between = Bounds {
-            lower: at.lo,
-            upper: at.hi,
-        };
-        return keep(out, k, bisect(p, between, is_sign_positive(at.u)));
+        return keep(out, k, p.bisect(at.ends, is_sign_positive(at.u)));
     }
     k
 }
@@ -75,14 +70,15 @@ pub struct Seen {
 
 // Looks at x, and puts it into the cuts in the first k places of out if the value there is near zero.
 // Where plain arithmetic tells the value's sign, it is not, and the sign stands for it.
-fn look(p: &[Compensated], tidy: bool, x: f64, out: &mut [f64], k: usize) -> Seen
-    requires { (length p.now ≤ 9) × (k < length out.old) × (tidy ≡ true → AllTidy p.now) }
-    ensures near_value { result.near ≡ Of.near_zero p.now x }
-    ensures stands { Stands result.v (Of.evaluate p.now x) }
-    ensures kept { Front (touched p.now x (take k out.old)) out.old result.k out.new }
+#[tactic(auto, unfolding(crate::specs::Polynomial::near_zero, crate::specs::Polynomial::evaluate))]
+fn look(p: Polynomial, tidy: bool, x: f64, out: &mut [f64], k: usize) -> Seen
+    requires { (k < length out.old) × (tidy ≡ true → AllTidy p.terms.now) }
+    ensures near_value { result.near ≡ Of.near_zero p.entry.terms.now x }
+    ensures stands { Stands result.v (Of.evaluate p.entry.terms.now x) }
+    ensures kept { Front (touched p.entry.terms.now x (take k out.old)) out.old result.k out.new }
 {
     if tidy {
-        if let Some(sign) = plain_sign(p, x) {
+        if let Some(sign) = p.plain_sign(x) {
             return Seen {
                 near: false,
                 v: sign,
@@ -90,8 +86,8 @@ fn look(p: &[Compensated], tidy: bool, x: f64, out: &mut [f64], k: usize) -> See
             };
         }
     }
-    let v = evaluate(p, x);
-    if value_near(p, x, v) {
+    let v = p.evaluate(x);
+    if p.value_near(x, v) {
         let m = keep(out, k, x);
         return Seen {
             near: true,
@@ -112,12 +108,12 @@ pub struct Counts {
 // The points near zero and the ends of the bisections between neighbours, as cuts in the first places
 // of out. Each point is looked at once; those near zero are gathered in the first places of points,
 // where the others are no longer needed.
-fn scan(p: &[Compensated], points: &mut [f64], out: &mut [f64]) -> Counts
-    requires { (length p.now ≤ 9) × (0 < length points.old) × (length points.old + length points.old ≤ length out.old) × Ready points.old }
-    ensures near { (result.near ≤ length points.old) × (take result.near points.new ≡ Roots.touches p.now points.old) }
-    ensures roots { Front (found p.now points.old) out.old result.roots out.new }
+fn scan(p: Polynomial, points: &mut [f64], out: &mut [f64]) -> Counts
+    requires { (0 < length points.old) × (length points.old + length points.old ≤ length out.old) × Ready points.old }
+    ensures near { (result.near ≤ length points.old) × (take result.near points.new ≡ Roots.touches p.entry.terms.now points.old) }
+    ensures roots { Front (found p.entry.terms.now points.old) out.old result.roots out.new }
 {
-    let tidy = all_tidy(p);
+    let tidy = p.all_tidy();
     let mut lo = points[0];
     let first = look(p, tidy, lo, out, 0);
     let mut u = first.v;
@@ -130,7 +126,11 @@ fn scan(p: &[Compensated], points: &mut [f64], out: &mut [f64]) -> Counts
         let v = seen.v;
         points[near] = hi;
         near += usize::from(seen.near);
-        k = cross(p, Interval { lo, hi, u, v }, out, seen.k);
+        let ends = Bounds {
+            lower: lo,
+            upper: hi,
+        };
+        k = cross(p, Interval { ends, u, v }, out, seen.k);
         lo = hi;
         u = v;
     }
@@ -138,14 +138,19 @@ fn scan(p: &[Compensated], points: &mut [f64], out: &mut [f64]) -> Counts
 }
 
 // The coefficients that count: without the zeros at the end, and none where a part is not finite.
-fn counting(p: &[Compensated]) -> &[Compensated]
-    ensures { result.now ≡ counting_of p.now }
+#[tactic(auto, using(crate::proofs::polynomial::Every::all_finite_is))]
+fn counting(p: Polynomial) -> Polynomial
+    ensures { result.terms.now ≡ counting_of p.entry.terms.now }
 {
-    let left = trimmed(p);
-    if all_finite(left) { left } else { &[] }
+    let left = p.trimmed();
+    if left.all_finite() {
+        return left;
+    }
+    Polynomial { terms: &[] }
 }
 
 // The root of a + b * x, where it lies between the bounds, in the first place of out.
+#[tactic(auto, unfolding(crate::specs::Roots::quotient))]
 fn line_root(a: Compensated, b: Compensated, bounds: Bounds, out: &mut [f64]) -> usize
     requires { 0 < length out.old }
     ensures { Front (Roots.quotient a b bounds.lower bounds.upper) out.old result out.new }
@@ -160,15 +165,21 @@ fn line_root(a: Compensated, b: Compensated, bounds: Bounds, out: &mut [f64]) ->
 
 // The roots of three coefficients or more, in the first places of out. The partition points, the
 // bounds with the derivative's roots between them, sorted, each once, come to the first places of
-// points; those near zero are left in front there.
+// points; those near zero are left in front there. That the places suffice is asked here, in `roots`,
+// `marked_curve` and `marked_roots` of polynomial and slice together: a struct of both would be made
+// anew at each call, since points and out change places for the derivative.
 #[cycle(derivatives)]
-fn curve_roots(p: &[Compensated], bounds: Bounds, points: &mut [f64], out: &mut [f64]) -> Counts
-    requires { (2 < length p.now) × (length p.now ≤ 9) × (2 ^ length p.now ≤ length points.old) × (2 ^ length p.now ≤ length out.old) }
+fn curve_roots(p: Polynomial, bounds: Bounds, points: &mut [f64], out: &mut [f64]) -> Counts
+    requires { (2 < length p.terms.now) × (2 ^ length p.terms.now ≤ length points.old) × (2 ^ length p.terms.now ≤ length out.old) }
     ensures near { (result.near ≤ length points.old) × (take result.near points.new ≡
-        Roots.touches p.now (points_of p.now bounds.lower bounds.upper)) }
-    ensures roots { Front (found p.now (points_of p.now bounds.lower bounds.upper)) out.old result.roots out.new }
+        Roots.touches p.entry.terms.now (points_of p.entry.terms.now bounds.lower bounds.upper)) }
+    ensures roots { Front (found p.entry.terms.now (points_of p.entry.terms.now bounds.lower bounds.upper)) out.old result.roots out.new }
 {
-    let k = roots(derivative(p).as_slice(), bounds, points);
+    let derivative = p.derivative();
+    let slopes = Polynomial {
+        terms: derivative.as_slice(),
+    };
+    let k = roots(slopes, bounds, points);
     let with_lower = keep(points, k, bounds.lower);
     let count = keep(points, with_lower, bounds.upper);
     scan(p, &mut points[..count], out)
@@ -176,14 +187,14 @@ fn curve_roots(p: &[Compensated], bounds: Bounds, points: &mut [f64], out: &mut 
 
 // The roots, in the first places of out. What stands behind them is left.
 #[cycle(derivatives)]
-pub fn roots(p: &[Compensated], bounds: Bounds, out: &mut [f64]) -> usize
-    requires { (length p.now ≤ 9) × (2 ^ length p.now ≤ length out.old) }
-    ensures { Front (Roots.roots p.now bounds.lower bounds.upper) out.old result out.new }
+pub fn roots(p: Polynomial, bounds: Bounds, out: &mut [f64]) -> usize
+    requires { 2 ^ length p.terms.now ≤ length out.old }
+    ensures { Front (Roots.roots p.entry.terms.now bounds.lower bounds.upper) out.old result out.new }
 {
     let left = counting(p);
-    match left.len() {
+    match left.terms.len() {
         0 | 1 => 0,
-        2 => line_root(left[0], left[1], bounds, out),
+        2 => line_root(left.terms[0], left.terms[1], bounds, out),
         // fewer places have to be cleared than 512; a function in a cycle of calls has no const parameter
         3..=5 => curve_roots(left, bounds, &mut [0.0; 32], out).roots,
         _ => curve_roots(left, bounds, &mut [0.0; 512], out).roots,
@@ -191,18 +202,19 @@ pub fn roots(p: &[Compensated], bounds: Bounds, out: &mut [f64]) -> usize
 }
 
 // As `curve_roots`, with the kinds of the roots in the first places of kinds.
+#[tactic(auto, using(crate::proofs::roots::Kept::front_take, crate::proofs::kinds::Marks::marked_as, crate::proofs::roots::Cycle::found_room))]
 fn marked_curve(
-    p: &[Compensated],
+    p: Polynomial,
     bounds: Bounds,
     points: &mut [f64],
     out: &mut [f64],
     kinds: &mut [u8],
 ) -> usize
-    requires { (2 < length p.now) × (length p.now ≤ 9) × (2 ^ length p.now ≤ length points.old) × (2 ^ length p.now ≤ length out.old) ×
-        (2 ^ length p.now ≤ length kinds.old) }
-    ensures value { Front (found p.now (points_of p.now bounds.lower bounds.upper)) out.old result out.new }
-    ensures kinds_after { kinds.new ≡ kinds_of (Roots.touches p.now (points_of p.now bounds.lower bounds.upper))
-        (found p.now (points_of p.now bounds.lower bounds.upper)) ++ drop result kinds.old }
+    requires { (2 < length p.terms.now) × (2 ^ length p.terms.now ≤ length points.old) × (2 ^ length p.terms.now ≤ length out.old) ×
+        (2 ^ length p.terms.now ≤ length kinds.old) }
+    ensures value { Front (found p.entry.terms.now (points_of p.entry.terms.now bounds.lower bounds.upper)) out.old result out.new }
+    ensures kinds_after { kinds.new ≡ kinds_of (Roots.touches p.entry.terms.now (points_of p.entry.terms.now bounds.lower bounds.upper))
+        (found p.entry.terms.now (points_of p.entry.terms.now bounds.lower bounds.upper)) ++ drop result kinds.old }
 {
     let counts = curve_roots(p, bounds, points, out);
     mark(&points[..counts.near], &out[..counts.roots], kinds);
@@ -210,22 +222,23 @@ fn marked_curve(
 }
 
 // As `roots`, with the kinds of the roots in the first places of kinds. A line's root is no partition
-// point, and so a crossing.
+// point, and so a crossing. The arms are those of `roots`, which stands in a cycle of calls: one function
+// for both would need a trait for what is done with the touches, with clauses of its own in that cycle.
 pub(crate) fn marked_roots(
-    p: &[Compensated],
+    p: Polynomial,
     bounds: Bounds,
     out: &mut [f64],
     kinds: &mut [u8],
 ) -> usize
-    requires { (length p.now ≤ 9) × (2 ^ length p.now ≤ length out.old) × (2 ^ length p.now ≤ length kinds.old) }
-    ensures value { Front (Roots.roots p.now bounds.lower bounds.upper) out.old result out.new }
-    ensures kinds_after { kinds.new ≡ Kinds.kinds p.now bounds.lower bounds.upper ++ drop result kinds.old }
+    requires { (2 ^ length p.terms.now ≤ length out.old) × (2 ^ length p.terms.now ≤ length kinds.old) }
+    ensures value { Front (Roots.roots p.entry.terms.now bounds.lower bounds.upper) out.old result out.new }
+    ensures kinds_after { kinds.new ≡ Kinds.kinds p.entry.terms.now bounds.lower bounds.upper ++ drop result kinds.old }
 {
     let left = counting(p);
-    match left.len() {
+    match left.terms.len() {
         0 | 1 => 0,
         2 => {
-            let count = line_root(left[0], left[1], bounds, out);
+            let count = line_root(left.terms[0], left.terms[1], bounds, out);
             mark(&[], &out[..count], kinds);
             count
         }

@@ -18,6 +18,7 @@ use polynomial::arithmetic::{add, determinant, multiply};
 use polynomial::bounds::Bounds;
 use polynomial::compensated::{Coefficients, Compensated};
 use polynomial::curve::{Curve, Numerators};
+use polynomial::polynomial::Polynomial;
 use polynomial::roots::roots;
 
 // The chart u = tan((q1 - origin) / 2): its origin and its bounds, which the root finder takes.
@@ -52,9 +53,8 @@ fn angles(cuts: &mut Cuts, origin: f64, roots: &[f64])
 
 // An inner call of the root finder.
 #[tactic(auto, using(crate::proofs::Lengths::pow_mono), unfolding(crate::specs::CriticalSlices::chart_roots))]
-fn chart_roots(cuts: &mut Cuts, c: Chart, p: &[Compensated])
-    requires { length p.now ≤ 9 }
-    ensures { Grown (Of.chart_roots (plain c) p.now) cuts.old cuts.new }
+fn chart_roots(cuts: &mut Cuts, c: Chart, p: Polynomial)
+    ensures { Grown (Of.chart_roots (plain c) p.entry.terms.now) cuts.old cuts.new }
 {
     let mut found = [0.0; 512];
     let m = roots(p, c.bounds, &mut found);
@@ -105,7 +105,10 @@ fn meetings(cuts: &mut Cuts, c: Chart, earlier: &[Numerators], k: Numerators)
 {
     for e in earlier {
         let both = intersection(*e, k);
-        chart_roots(cuts, c, both.as_slice());
+        let p = Polynomial {
+            terms: both.as_slice(),
+        };
+        chart_roots(cuts, c, p);
     }
 }
 
@@ -118,7 +121,10 @@ pub(crate) fn critical(cuts: &mut Cuts, c: Chart, curves: &[Curve])
     for curve in curves {
         let k = curve.polynomials(c.origin);
         let own = tangency(k);
-        chart_roots(cuts, c, own.as_slice());
+        let p = Polynomial {
+            terms: own.as_slice(),
+        };
+        chart_roots(cuts, c, p);
         meetings(cuts, c, known.as_slice(), k);
         known.push(k);
     }

@@ -2,7 +2,7 @@
 use Rattle.std.proofs.Common.{◌≡◌, ℕ, zero, suc, ◌+◌, ◌*◌, ◌<◌, ◌≤◌, Bool, true, false, cond, T, ◌⊎◌, ℤ, negsuc, sym, refl, ap, ◌∙◌, subst, inl, inr}
 use Rattle.std.proofs.Common.{zero-le, le_trans, le_of_eq, lt_of_lt_of_le, lt_irrefl, zero-mul, arith, ltb-false, ltb-true}
 use mathlib.Core.Bool.{false≢true}
-use lib.Ieee.{Float, nan, inf, fin, binary64, up, down, neg, lt, le, eq, fits}
+use lib.Ieee.{Float, nan, inf, fin, binary64, up, down, neg, lt, le, eq, fits, of_bits}
 use lib.Ieee.Positive.{num, den}
 use Rattle.float.specs.Number.{zero_float}
 use Rattle.float.specs.Promises.Halves.{most, sized, in_range}
@@ -12,6 +12,11 @@ use Rattle.float.specs.Laws.Within.{Beyond}
 use Rattle.float.specs.Laws.Range.{plain_le, under}
 use Rattle.float.specs.Laws.Zero.{zero_bits, zero_of, no_up}
 use Rattle.float.proofs.product_error.Bitwise.{Ranged, is_zero}
+
+-- the code's 2 ^ 400
+pub most_is : of_bits binary64 0x58f0_0000_0000_0000 ≡ most
+unfolding of_bits
+most_is = refl
 
 -- 2 ^ -(k + 1)
 abbrev low : ℕ → Float

@@ -51,3 +51,5 @@ module _ (a b r : List Compensated) (k count : ℕ) where
   pub product_end : count ≤ k → r ≡ r ++ coefficients a b k (count - k)
   unfolding coefficients
   product_end g = let e : 0 ≡ count - k = omega arith in sym (append-nil r) ∙ ap (λ (j : ℕ). r ++ coefficients a b k j) e
+
+pub ruleset product_steps = (product_start, product_more, product_end)

@@ -76,3 +76,5 @@ module _ (f : Float → Float) (p : Bool) where
   pub one_by_sign : (lo hi : Float) → Span 2 lo hi → (m : Float) → m ≡ middle lo hi → (v : Float) → eq v zero_float ≡ false
       → Signed (negative v) (f m) → (l : ControlFlow Float Ends) → l ≡ narrowed_once lo hi m v p → Leaves f p lo hi l
   one_by_sign lo hi s m M v z t l e = one lo hi s m M (f m) refl l (e ∙ same_step lo hi m v (f m) z t.0 t.1)
+
+pub ruleset two_steps = (one, upper, lower)

@@ -33,3 +33,5 @@ passed_not w v l number = sym (go (total_le v w) refl (eq v w) refl)
     go true a b e = simp a
     go false a true e = simp (a, e)
     go false a false e = absurd (subst T (behind w v l (eq_comm w v ∙ e) number) (total_le_total v w a))
+
+pub ruleset passed_cases = (passed_less, passed_nan, passed_not)

@@ -18,16 +18,15 @@ use Rattle.polynomial.specs.Promises.Lists.{Fit}
 use Rattle.polynomial.specs.Laws.Cuts.{cuts_cons, cuts_perm, fit_append, put_most, put_longer}
 use Rattle.polynomial.specs.Laws.Bisection.{bisected_in}
 use Rattle.polynomial.specs.declared.compensated.Compensated.{Compensated}
-use Rattle.polynomial.specs.declared.roots.Interval.{Interval}
 
 -- ---- the scan: l is the list of cuts so far, a the last point, and the others are to come
 
-abbrev pub between : List Compensated → Float → Float → Interval
-between p a b = record { lo = a; hi = b; u = evaluate p a; v = evaluate p b }
+abbrev pub between : List Compensated → Float → Float → List Float → List Float
+between p a b = crossed (evaluate p) a b (evaluate p a) (evaluate p b)
 
 unfoldable pub run : List Compensated → List Float → Float → List Float → List Float
 run p l a [] = l
-run p l a (b ∷ r) = run p (crossed (evaluate p) (between p a b) (touched p b l)) b r
+run p l a (b ∷ r) = run p (between p a b (touched p b l)) b r
 
 -- ---- a value that is there by a test
 
@@ -65,11 +64,11 @@ least false x l = omega arith
 pub touched_least : (p : List Compensated) (x : Float) (l : List Float) → length l ≤ length (touched p x l)
 touched_least p x l = least (near_zero p x) x l
 
-pub crossed_least : (f : Float → Float) (at : Interval) (l : List Float) → length l ≤ length (crossed f at l)
-crossed_least f at l = least (crosses at.u at.v) _ l
+pub crossed_least : (f : Float → Float) (lo hi u v : Float) (l : List Float) → length l ≤ length (crossed f lo hi u v l)
+crossed_least f lo hi u v l = least (crosses u v) _ l
 
-pub crossed_most : (f : Float → Float) (at : Interval) (l : List Float) → length (crossed f at l) ≤ suc (length l)
-crossed_most f at l = most (crosses at.u at.v) _ l
+pub crossed_most : (f : Float → Float) (lo hi u v : Float) (l : List Float) → length (crossed f lo hi u v l) ≤ suc (length l)
+crossed_most f lo hi u v l = most (crosses u v) _ l
 
 module _ (p : List Compensated) where
   abbrev end : Float → Float → Float
@@ -130,7 +129,7 @@ module _ (p : List Compensated) where
       let x = cross p a b in
       let t = touch p b in
       let g = fit_append x (t ++ l) (fit_cross p a b h.0) (fit_append t l (fit_one (near_zero p b) b h.0.hi_fits) f) in
-      ap (λ (s : List Float). run p s b r) (ap (crossed (evaluate p) (between p a b)) (put_one (near_zero p b) b l)
+      ap (λ (s : List Float). run p s b r) (ap (between p a b) (put_one (near_zero p b) b l)
       ∙ put_one (crosses (evaluate p a) (evaluate p b)) (end p a b) (t ++ l))
       ∙ run_cuts (x ++ (t ++ l)) b r g h.1
       ∙ cuts_perm (shuffle (touches p r) (crossings p (b ∷ r)) x t l)

@@ -19,7 +19,6 @@ use Rattle.polynomial.specs.Promises.Front.{Front}
 use Rattle.polynomial.specs.Promises.Insert.{grown, put_answer}
 use Rattle.polynomial.specs.Laws.Cuts.{put_most, put_longer}
 use Rattle.polynomial.specs.Laws.Held.{drop_past}
-use Rattle.polynomial.specs.declared.roots.Interval.{Interval}
 
 pub front_of : (l w after : List Float) (r : ℕ) → r ≡ length l → take r after ≡ l → drop r after ≡ drop r w → Front l w r after
 front_of l w after r n t d = (n, sym (take-append-drop r after) ∙ ap₂ ◌++◌ t d)
@@ -68,8 +67,9 @@ pub left : (w : List Float) (b : Bool) (k : ℕ) (l : List Float) → b ≡ fals
 left w b k l e h = rw e (same w k h)
 
 -- the end of a bisection: b is whether the values cross zero, g whether the first is positive
-pub crossed_taken : (f : Float → Float) (at : Interval) (w after : List Float) (k r : ℕ) (b g : Bool) (root : Float) → b ≡ crosses at.u at.v → b ≡ true
-    → g ≡ not (negative at.u) → root ≡ bisected f g at.lo at.hi → Front (put root (take k w)) w r after → Front (crossed f at (take k w)) w r after
-crossed_taken f at w after k r b g root B t G R h =
-    taken w after (crosses at.u at.v) k r _ (sym B ∙ t)
-    (subst (λ (z : Float). Front (put z (take k w)) w r after) (R ∙ ap (λ (s : Bool). bisected f s at.lo at.hi) G) h)
+pub crossed_taken : (f : Float → Float) (lo hi u v : Float) (w after : List Float) (k r : ℕ) (b g : Bool) (root : Float) → b ≡ crosses u v → b ≡ true
+    → g ≡ not (negative u) → root ≡ bisected f g lo hi → Front (put root (take k w)) w r after
+    → Front (crossed f lo hi u v (take k w)) w r after
+crossed_taken f lo hi u v w after k r b g root B t G R h =
+    taken w after (crosses u v) k r _ (sym B ∙ t)
+    (subst (λ (z : Float). Front (put z (take k w)) w r after) (R ∙ ap (λ (s : Bool). bisected f s lo hi) G) h)

@@ -13,18 +13,17 @@ use Rattle.float.specs.Promises.Order.{Span}
 use Rattle.polynomial.specs.Polynomial.{evaluate}
 use Rattle.polynomial.specs.Promises.Inside.{Ready, Stands, touched, crossed, found}
 use Rattle.polynomial.specs.declared.compensated.Compensated.{Compensated}
-use Rattle.polynomial.specs.declared.roots.Interval.{Interval}
 use Rattle.polynomial.specs.Promises.Front.{Front}
 use Rattle.polynomial.proofs.roots.Kept.{front_of, front_take, front_rest, front_length}
 use Rattle.polynomial.proofs.roots.Events.{between, run, scanned, touched_most, touched_least, crossed_most, crossed_least}
 
 -- a crossing sees the signs of the values alone, and whether one is zero
 across : (f : Float → Float) (lo hi u v u' v' : Float) (l : List Float) → Stands u u' → Stands v v'
-    → crossed f (record { lo = lo; hi = hi; u = u; v = v }) l ≡ crossed f (record { lo = lo; hi = hi; u = u'; v = v' }) l
+    → crossed f lo hi u v l ≡ crossed f lo hi u' v' l
 across f lo hi u v u' v' l a b = simp (a.0, a.1, b.0, b.1)
 
 run_on : (p : List Compensated) (l : List Float) (a b : Float) (r : List Float)
-    → run p (crossed (evaluate p) (between p a b) (touched p b l)) b r ≡ run p l a (b ∷ r)
+    → run p (between p a b (touched p b l)) b r ≡ run p l a (b ∷ r)
 unfolding run
 run_on p l a b r = refl
 
@@ -105,12 +104,11 @@ module _ (p : List Compensated) (points : List Float) (count : ℕ) (h : count �
       cross_room = let a = touched_few in let b = touched_same in let r = s.few in let q = s.room in let y = s.same in omega arith
 
       pub scan_more : (k₂ : ℕ) (out₂ : List Float)
-          → Front (crossed (evaluate p) (record { lo = lo; hi = x; u = u; v = v }) (take k₁ out₁)) out₁ k₂ out₂
+          → Front (crossed (evaluate p) lo x u v (take k₁ out₁)) out₁ k₂ out₂
           → Scanned p points count from first out₂ x v k₂ (i + 1)
       scan_more k₂ out₂ g =
-          let at : Interval = record { lo = lo; hi = x; u = u; v = v } in
-          let m = crossed_most (evaluate p) at (take k₁ out₁) in
-          let n = crossed_least (evaluate p) at (take k₁ out₁) in
+          let m = crossed_most (evaluate p) lo x u v (take k₁ out₁) in
+          let n = crossed_least (evaluate p) lo x u v (take k₁ out₁) in
           let z = touched_more in
           let t = length-take k₁ out₁ in
           let a = touched_few in
@@ -121,7 +119,7 @@ module _ (p : List Compensated) (points : List Float) (count : ℕ) (h : count �
           let j : k₂ ≤ suc k₁ = omega (arith, g.0) in
           let w : k₁ ≤ k₂ = omega (arith, g.0) in
           let older = s.grown in
-          let l : length out₂ ≡ length out₁ = front_length (crossed (evaluate p) at (take k₁ out₁)) out₁ out₂ k₂ g (omega arith) in
+          let l : length out₂ ≡ length out₁ = front_length (crossed (evaluate p) lo x u v (take k₁ out₁)) out₁ out₂ k₂ g (omega arith) in
           record {
             within = omega arith;
             few = omega arith;
@@ -129,7 +127,7 @@ module _ (p : List Compensated) (points : List Float) (count : ℕ) (h : count �
             room = s.room;
             grown = omega arith;
             rest = λ r h.
-                front_rest (crossed (evaluate p) at (take k₁ out₁)) out₁ out₂ k₂ g r h
+                front_rest (crossed (evaluate p) lo x u v (take k₁ out₁)) out₁ out₂ k₂ g r h
                 ∙ front_rest (touched p x (take k out)) out out₁ k₁ f r (omega arith)
                 ∙ s.rest r (omega arith);
             ready = rw add-one coming.1;
@@ -137,9 +135,9 @@ module _ (p : List Compensated) (points : List Float) (count : ℕ) (h : count �
             result =
                 ap (λ (n : ℕ). run p (take k₂ out₂) x (slice n count points)) (add-one i)
                 ∙ ap (λ (y : List Float). run p y x (slice (suc i) count points))
-                (front_take (crossed (evaluate p) at (take k₁ out₁)) out₁ out₂ k₂ g
+                (front_take (crossed (evaluate p) lo x u v (take k₁ out₁)) out₁ out₂ k₂ g
                 ∙ across (evaluate p) lo x u v (evaluate p lo) (evaluate p x) (take k₁ out₁) s.value e
-                ∙ ap (crossed (evaluate p) (between p lo x)) (front_take (touched p x (take k out)) out out₁ k₁ f))
+                ∙ ap (between p lo x) (front_take (touched p x (take k out)) out out₁ k₁ f))
                 ∙ run_on p (take k out) lo x (slice (suc i) count points)
                 ∙ ap (λ (y : List Float). run p (take k out) lo y) (sym at_i)
                 ∙ s.result;

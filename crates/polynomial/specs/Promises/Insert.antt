@@ -35,8 +35,8 @@ abbrev pub Within : List Float → Option ℕ → Type 0
 Within w (Some n) = n ≤ length w
 Within w None = Unit {0}
 
--- r is the first place of the first n that v does not go past, or n
-pub record Found (w : List Float) (n : ℕ) (v : Float) (r : ℕ) : Type 0 where
-  pub within : r ≤ n
-  pub before : (k : ℕ) → k < r → passed v (get_or w k nan) ≡ true
-  pub stops : r < n → passed v (get_or w r nan) ≡ false
+-- r is the first place that v does not go past, or the length of l
+pub record Found (l : List Float) (v : Float) (r : ℕ) : Type 0 where
+  pub within : r ≤ length l
+  pub before : (k : ℕ) → k < r → passed v (get_or l k nan) ≡ true
+  pub stops : r < length l → passed v (get_or l r nan) ≡ false

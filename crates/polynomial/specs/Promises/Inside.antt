@@ -12,7 +12,6 @@ use Rattle.polynomial.specs.Polynomial.{near_zero, trim, all_finite, derivative}
 use Rattle.polynomial.specs.Roots.{touches, crosses, crossings, bisected, partitions, roots}
 use Rattle.polynomial.specs.Kinds.{kind, marked}
 use Rattle.polynomial.specs.declared.compensated.Compensated.{Compensated}
-use Rattle.polynomial.specs.declared.roots.Interval.{Interval}
 use Rattle.polynomial.specs.declared.bisection.Half.{Half}
 use Rattle.polynomial.specs.declared.bisection.Half.TheVariants.{Upper, Lower}
 use Rattle.std.specs.declared.ops.ControlFlow.{ControlFlow}
@@ -32,9 +31,9 @@ Stands v w = (eq v zero_float ≡ eq w zero_float) × (negative v ≡ negative w
 abbrev pub touched : List Compensated → Float → List Float → List Float
 touched p x l = cond (near_zero p x) (put x l) l
 
--- the cuts l with the end of the bisection between two points, where f crosses zero between them
-abbrev pub crossed : (Float → Float) → Interval → List Float → List Float
-crossed f at l = cond (crosses at.u at.v) (put (bisected f (not (negative at.u)) at.lo at.hi) l) l
+-- the cuts l with the end of the bisection between the points lo and hi, whose values u and v cross zero
+abbrev pub crossed : (Float → Float) → Float → Float → Float → Float → List Float → List Float
+crossed f lo hi u v l = cond (crosses u v) (put (bisected f (not (negative u)) lo hi) l) l
 
 -- the points near zero and the ends of the bisections, of given points
 abbrev pub found : List Compensated → List Float → List Float

@@ -6,6 +6,7 @@ use Rattle.float.specs.Promises.Parts.{Splits}
 use Rattle.float.specs.Laws.Tests.{finite_number}
 use Rattle.float.proofs.Read.{split_low, split_high}
 use Rattle.float.proofs.mul_add.split.Goals as goal
+use Rattle.float.proofs.mul_add.split.Goals.{Then-field-eq0}
 
 -- what owning an `f64` tells: the format holds it
 held : (c : goal.Start) → T (fits binary64 c.args.x)
@@ -27,13 +28,23 @@ float_to_bits-bits c = finite_number c.args.x c.requires
 pub overflow_add-result : goal.overflow_add-result
 overflow_add-result c = omega (arith, mask_lt (bits c.before) 52)
 
-pub returns-then-field-eq0 : goal.returns-then-field-eq0
-returns-then-field-eq0 c = let s = c.before in let b = bits s in
+low : (c : Then-field-eq0) → Splits c.before.args.x (leb (2 ^ 63) (bits c.before)) (bit_and (bits c.before) (2 ^ 52 - 1)) 0
+low c = let s = c.before in let b = bits s in
     subst (λ (q : ℕ). Splits s.args.x (leb (2 ^ 63) b) q 0) (sym (and_mask b 52))
     (split_low s.args.x b (held s) s.requires refl (sym (field b) ∙ c.if-field-eq0.true))
 
-pub returns-else-field-eq0 : goal.returns-else-field-eq0
-returns-else-field-eq0 c = let s = c.before in let b = bits s in
+high : (c : goal.Else-field-eq0)
+    → Splits c.before.args.x (leb (2 ^ 63) (bits c.before)) (bit_and (bits c.before) (2 ^ 52 - 1) + 2 ^ 52) (bit_and (bits c.before / 2 ^ 52) 2047 - 1)
+high c = let s = c.before in let b = bits s in
     let y = bit_and (b / 2 ^ 52) 2047 in
     subst (λ (q : ℕ). Splits s.args.x (leb (2 ^ 63) b) (q + 2 ^ 52) (y - 1)) (sym (and_mask b 52))
     (split_high s.args.x b (held s) s.requires refl (y - 1) (sym (field b) ∙ one_less y c.if-field-eq0.false))
+
+pub returns-then-field-eq0 : goal.returns-then-field-eq0
+returns-then-field-eq0 c = low c.before
+
+pub invariant_of-result-2 : goal.invariant_of-result-2
+invariant_of-result-2 c = let h = high c in record { short = omega (arith, h.short); place = h.place; full = h.full }
+
+pub returns : goal.returns
+returns c = high c.before

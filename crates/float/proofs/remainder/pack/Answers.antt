@@ -54,16 +54,16 @@ shifted r k l z e h = lower r z l (omega arith) h
 raised : (l k z : ℕ) → z ≡ min l k → 0 < k - z → l ≡ z
 raised l k z e h = omega arith
 
-pub float-requires-2 : goal.float-requires-2
-float-requires-2 c =
+pub invariant_of-float-2 : goal.invariant_of-float-2
+invariant_of-float-2 c =
     let r = c.args.r in
     let z = c.min-z.result in
     let a : r * 2 ^ z < 2 ^ 53 = shifted r c.args.k c.lift.result z c.min-z.ensures c.lift.ensures.2 in
-    let e = whole (r * 2 ^ z) a in (
-      omega (arith, e),
-      omega (arith, c.requires.1),
-      λ h. subst (λ (n : ℕ). 2 ^ 52 ≤ n) (sym e) (subst (λ (j : ℕ). 2 ^ 52 ≤ r * 2 ^ j) (raised c.lift.result c.args.k z c.min-z.ensures h) c.lift.ensures.1),
-    )
+    let e = whole (r * 2 ^ z) a in record {
+      short = omega (arith, e);
+      place = omega (arith, c.requires.1);
+      full = λ h. subst (λ (n : ℕ). 2 ^ 52 ≤ n) (sym e) (subst (λ (j : ℕ). 2 ^ 52 ≤ r * 2 ^ j) (raised c.lift.result c.args.k z c.min-z.ensures h) c.lift.ensures.1);
+    }
 
 pub returns : goal.returns
 returns c =

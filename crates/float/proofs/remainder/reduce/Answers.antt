@@ -1,5 +1,5 @@
 -- `float::remainder::reduce` meets its contract: what is left to shift, times the remainder so far, has one remainder by q throughout.
-use Rattle.std.proofs.Common.{◌≡◌, ℕ, ◌+◌, ◌-◌, ◌*◌, ◌/◌, ◌%◌, ◌^◌, ◌<◌, ◌≤◌, sym, refl, ap, ◌∙◌, subst, lt_trans, lt_of_lt_of_le, mod-lt}
+use Rattle.std.proofs.Common.{◌≡◌, ℕ, ◌+◌, ◌-◌, ◌*◌, ◌/◌, ◌%◌, ◌^◌, ◌<◌, ◌≤◌, sym, ap, ◌∙◌, subst, lt_trans, lt_of_lt_of_le, mod-lt}
 use Rattle.std.proofs.Common.{mod-eq_of_lt, mul_assoc, add-mul, add_comm, div-add-mod', mul_right_comm, arith, pow_mono, pow-add, shl_lt}
 use native.Mathlib.Nat.{add-mul-mod_self_right}
 use Rattle.float.proofs.remainder.reduce.Goals as goal
@@ -39,7 +39,7 @@ pub loop-left-init : goal.loop-left-init
 loop-left-init c = (mod-lt c.args.p c.requires.1, mod_factor c.args.p (2 ^ c.args.d) c.args.q)
 
 pub step-r-requires : goal.step-r-requires
-step-r-requires c = (c.loop-left.invariant.0, c.requires.2, refl)
+step-r-requires c = c.loop-left.invariant.0
 
 pub loop-left-preserved : goal.loop-left-preserved
 loop-left-preserved c = let h : 11 < c.loop-left.left = omega arith in (

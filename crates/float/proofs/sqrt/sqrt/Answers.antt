@@ -42,10 +42,6 @@ Evened t m n = ((t % 2 ≡ 0) × (n ≡ m)) ⊎ ((t % 2 ≡ 0 → ⊥) × (n ≡
 kept : (n : ℕ) → n < 2 ^ 53 → n % 2 ^ 64 ≡ n
 kept n h = omega arith
 
-evened_range : (t m n : ℕ) → 2 ^ 52 ≤ m → m < 2 ^ 53 → Evened t m n → (2 ^ 52 ≤ n) × (n < 2 ^ 54)
-evened_range t m n a b (inl (_, e)) = (omega arith, omega arith)
-evened_range t m n a b (inr (_, e)) = (omega arith, omega arith)
-
 evened_value : (q k i t n : ℕ) → i + t ≡ k + 52 → Evened t (q * 2 ^ i) n → q * 2 ^ k * 2 ^ 1074 ≡ n * 2 ^ 52 * 2 ^ (t / 2 + 485) * 2 ^ (t / 2 + 485)
 evened_value q k i t n p (inl (h, e)) = evenly q k i t (t / 2) p (half t h) ∙ ap (λ (x : ℕ). x * 2 ^ 52 * 2 ^ (t / 2 + 485) * 2 ^ (t / 2 + 485)) (sym e)
   where
@@ -87,9 +83,6 @@ module _ (c : goal.Joined-t-eq0) where
         | else-t-eq0 w ↦ inr (w.if-t-eq0.false, w.n-is ∙ ap (λ (x : ℕ). x * 2) m-is)
       ]
 
-  n_range : (2 ^ 52 ≤ c.if-t-eq0.n) × (c.if-t-eq0.n < 2 ^ 54)
-  n_range = evened_range t m c.if-t-eq0.n c.lift-i.ensures.1 c.lift-i.ensures.2 evened
-
   places : i + t ≡ k + 52
   places = back k i c.lift-i.ensures.0
     where
@@ -111,7 +104,7 @@ estimate-requires c =
     (number, no_sign_bit c.args.x (q c * 2 ^ k c) (2 ^ 1074) (parts c).1.value (search rules) number)
 
 pub nearest_root-requires : goal.nearest_root-requires
-nearest_root-requires c = ((n_range c.before).0, (n_range c.before).1, room c.before)
+nearest_root-requires c = room c.before.before
 
 pub returns : goal.returns
-returns c = c.nearest_root.ensures ∙ sym (root_is c.before.before)
+returns c = c.nearest_root.ensures ∙ sym (root_is c.before.before.before)

@@ -7,7 +7,6 @@ use Rattle.float.specs.Trig.{widest, quarters, reduced, quadrant, sine, cosine, 
 use Rattle.float.specs.declared.trig.SinCos.{SinCos}
 use Rattle.float.specs.Laws.Range.{abs_within}
 use Rattle.float.specs.Laws.Reduce.{quad, quarters_held}
-use Rattle.float.specs.Laws.Literals.{nan_bits}
 use Rattle.float.proofs.trig.sin_cos.Goals as goal
 
 -- the code's constants
@@ -62,8 +61,8 @@ returns-then-abs c =
     c.by_quadrant.ensures
 
 pub returns : goal.returns
-unfolding sin_cos
-returns c = (λ i. record { sine = nan_bits i; cosine = nan_bits i }) ∙ sym
+unfolding sin_cos of_bits
+returns c = sym
     (ap (λ (b : Bool). cond b (by_quadrant (quadrant (quarters c.args.x))
     (sine (reduced (quarters c.args.x) c.args.x)) (cosine (reduced (quarters c.args.x) c.args.x)))
     (record { sine = nan; cosine = nan })) (test_is c.args.x c.abs.result false c.abs.ensures c.if-abs.false))

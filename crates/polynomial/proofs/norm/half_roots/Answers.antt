@@ -16,21 +16,21 @@ invariant_of-bounds c = record { span = subst (λ one. Span 2 (neg one) one) (sy
 pub chart-requires : goal.chart-requires
 chart-requires c =
     let a = c.args in
-    let f = half_count a.x a.y a.norm a.lower a.upper c.middle-origin.result _ _ _ _ _ c.middle-origin.ensures
-    (c.as_slice.ensures.value ∙ c.norm_polynomial-p.ensures) one_bits c.roots-n.ensures in
+    let f = half_count a.x a.y a.norm a.half.start a.half.end c.middle-origin.result _ _ _ _ _ c.middle-origin.ensures
+    (c.as_slice.ensures.value ∙ c.norm_polynomial-list.ensures) one_bits c.roots-n.ensures in
     let t = length-take c.roots-n.result c.roots-n.new.out in
     omega arith
 
 pub returns : goal.returns
 returns c =
     let a = c.args in
-    let e = half_angles a.x a.y a.norm a.lower a.upper c.middle-origin.result _ _ _ _ _ c.middle-origin.ensures
-    (c.as_slice.ensures.value ∙ c.norm_polynomial-p.ensures) one_bits c.roots-n.ensures in
+    let e = half_angles a.x a.y a.norm a.half.start a.half.end c.middle-origin.result _ _ _ _ _ c.middle-origin.ensures
+    (c.as_slice.ensures.value ∙ c.norm_polynomial-list.ensures) one_bits c.roots-n.ensures in
     front_same _ _ _ _ c.chart.ensures _ (ap (λ l. put_all l (take a.k a.out.now)) (sym e))
 
 pub roots-n-requires : goal.roots-n-requires
 roots-n-requires c =
     let a = c.args in
     let e : length c.as_slice.result.now ≡ 5 =
-    ap length (c.as_slice.ensures.value ∙ c.norm_polynomial-p.ensures) ∙ length_norm a.x a.y a.norm c.middle-origin.result in
-    (omega arith, rw e (lit≤ tt))
+    ap length (c.as_slice.ensures.value ∙ c.norm_polynomial-list.ensures) ∙ length_norm a.x a.y a.norm c.middle-origin.result in
+    rw e (lit≤ tt)

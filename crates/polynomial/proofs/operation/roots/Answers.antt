@@ -35,19 +35,19 @@ invariant_of-bounds-2 c = record {
 pub returns-then-n-kinds-clause-value : goal.returns-then-n-kinds-clause-value
 returns-then-n-kinds-clause-value c =
     let a = c.args in
-    let e = c.as_slice-p.ensures.value ∙ c.coefficients-list.ensures in
+    let e = c.as_slice.ensures.value ∙ c.coefficients-list.ensures in
     let b = sym c.bounds_hold.ensures ∙ c.if-not-bounds_hold.false in
     let h = sym (parts_hold_is a.coefficients.now) ∙ sym c.parts_hold.ensures ∙ c.if-not-parts_hold.false in
     let f = c.marked_roots.ensures.value in
     counted c.marked_roots.result (length a.res.now) (length a.kinds.now)
-    (enough_room _ _ _ _ _ c.as_slice-p.ensures.fits c.if-n-res.true f.0) (enough_room _ _ _ _ _ c.as_slice-p.ensures.fits c.if-n-kinds.true f.0)
+    (enough_room _ _ _ _ _ c.as_slice.ensures.fits c.if-n-res.true f.0) (enough_room _ _ _ _ _ c.as_slice.ensures.fits c.if-n-kinds.true f.0)
     ∙ ap (λ m. fitted m (length a.res.now) (length a.kinds.now)) f.0
     ∙ fitting a.coefficients.now a.lower a.upper _ _ c.if-len-eq1.false c.if-len-gt18.false b h _ (ap (λ p. Roots.roots p a.lower a.upper) e)
 
 pub returns-clause-value : goal.returns-clause-value
 returns-clause-value c =
     let a = c.args in
-    let e = c.as_slice-p.ensures.value ∙ c.coefficients-list.ensures in
+    let e = c.as_slice.ensures.value ∙ c.coefficients-list.ensures in
     let b = sym c.bounds_hold.ensures ∙ c.if-not-bounds_hold.false in
     let h = sym (parts_hold_is a.coefficients.now) ∙ sym c.parts_hold.ensures ∙ c.if-not-parts_hold.false in
     c.roots_apart.ensures.value

@@ -9,7 +9,7 @@ use Rattle.polynomial.proofs.roots.marked_roots.Goals as goal
 
 pub returns-in-0 : goal.returns-in-0
 returns-in-0 c =
-    let p = c.args.p.now in
+    let p = c.args.p.terms.now in
     let b = c.args.bounds in
     let e = c.counting-left.ensures in
     record {
@@ -19,7 +19,7 @@ returns-in-0 c =
 
 pub mark-requires : goal.mark-requires
 mark-requires c =
-    let p = c.args.p.now in
+    let p = c.args.p.terms.now in
     let b = c.args.bounds in
     let f = line_front p _ b.lower b.upper c.counting-left.ensures (omega arith) c.in-2.is _ _ _ _ c.line_root-count.ensures in
     let m = all_most b.lower b.upper (length p) p (le_refl (length p)) in
@@ -28,7 +28,7 @@ mark-requires c =
 
 pub returns-in-2 : goal.returns-in-2
 returns-in-2 c =
-    let p = c.args.p.now in
+    let p = c.args.p.terms.now in
     let b = c.args.bounds in
     let f = line_front p _ b.lower b.upper c.counting-left.ensures (omega arith) c.in-2.is _ _ _ _ c.line_root-count.ensures in
     record {
@@ -40,17 +40,17 @@ returns-in-2 c =
 
 pub marked_curve-requires : goal.marked_curve-requires
 marked_curve-requires c =
-    let p = c.args.p.now in
-    let q = c.counting-left.result.now in
+    let p = c.args.p.terms.now in
+    let q = c.counting-left.result.terms.now in
     let b = c.args.bounds in
     let e = c.counting-left.ensures in
     let l = no_longer p q b.lower b.upper e in
     let w : 2 ^ length q ≤ 2 ^ 5 = pow_mono {i = length q} {j = 5} (omega arith) in
-    (omega arith, omega arith, omega arith, fits p q b.lower b.upper e _ c.requires.1, fits p q b.lower b.upper e _ c.requires.2)
+    (omega arith, omega arith, fits p q b.lower b.upper e _ c.requires.0, fits p q b.lower b.upper e _ c.requires.1)
 
 pub returns-in-3-to-5 : goal.returns-in-3-to-5
 returns-in-3-to-5 c =
-    let p = c.args.p.now in
+    let p = c.args.p.terms.now in
     let b = c.args.bounds in
     let e = c.counting-left.ensures in
     record {
@@ -61,17 +61,17 @@ returns-in-3-to-5 c =
 
 pub marked_curve-requires-in_default : goal.marked_curve-requires-in_default
 marked_curve-requires-in_default c =
-    let p = c.args.p.now in
-    let q = c.counting-left.result.now in
+    let p = c.args.p.terms.now in
+    let q = c.counting-left.result.terms.now in
     let b = c.args.bounds in
     let e = c.counting-left.ensures in
     let l = no_longer p q b.lower b.upper e in
     let w : 2 ^ length q ≤ 2 ^ 9 = pow_mono {i = length q} {j = 9} (omega arith) in
-    (omega arith, omega arith, omega arith, fits p q b.lower b.upper e _ c.requires.1, fits p q b.lower b.upper e _ c.requires.2)
+    (omega arith, omega arith, fits p q b.lower b.upper e _ c.requires.0, fits p q b.lower b.upper e _ c.requires.1)
 
 pub returns-in_default : goal.returns-in_default
 returns-in_default c =
-    let p = c.args.p.now in
+    let p = c.args.p.terms.now in
     let b = c.args.bounds in
     let e = c.counting-left.ensures in
     record {

@@ -14,9 +14,9 @@ pub float_from_bits-result : goal.float_from_bits-result
 float_from_bits-result c =
     let n = c.args.self.k * 2 ^ 52 + c.args.self.q in
     subst (λ (x : ℕ). T (not (nan_bits binary64 (x + n)))) (sym (sign_is c.before.before.before))
-    (no_nan c.args.self.neg n (omega (arith, c.requires.0, c.requires.1)))
+    (no_nan c.args.self.neg n (omega (arith, c.args.self.short, c.args.self.place)))
 
 pub returns : goal.returns
 returns c =
     let p = c.args.self in
-    ap (λ (x : ℕ). of_bits binary64 (x + (p.k * 2 ^ 52 + p.q))) (sign_is c.before.before.before) ∙ written p.neg p.q p.k c.requires.0 c.requires.1 c.requires.2
+    ap (λ (x : ℕ). of_bits binary64 (x + (p.k * 2 ^ 52 + p.q))) (sign_is c.before.before.before) ∙ written p.neg p.q p.k c.args.self.short c.args.self.place c.args.self.full

@@ -1,0 +1,15 @@
+use mathlib.Core.Path.{◌≡◌}
+use lib.Ieee.{binary64}
+use Rattle.float.specs.Promises.Order.{width, Span}
+use Rattle.polynomial.specs.Polynomial.{evaluate}
+use Rattle.polynomial.specs.Roots.{bisected}
+use Rattle.polynomial.proofs.polynomial.Polynomial.finely.Given as goal
+
+abbrev pub invariant-loop-x : goal.invariant-loop-x
+invariant-loop-x l = record {
+  span : Span 2 l.lo l.hi;
+  same : bisected (evaluate l.self.terms.now) l.positive l.lo l.hi ≡ bisected (evaluate l.self.terms.now) l.positive l.from l.to;
+}
+
+abbrev pub decreases-loop-x : goal.decreases-loop-x
+decreases-loop-x l = width binary64 l.lo l.hi
