@@ -165,5 +165,7 @@ module _ (w : List Float) (n : ℕ) (v : Float) (at : ℕ) (le : n ≤ length w)
       let k : at + (n + 1 - at) ≡ n + 1 = omega arith in
       let r = fits w n v G (n + 1) (new e) new_length (omega arith) in (
         r.0,
-        (λ j. take at w ++ (moved ys h m j ++ (drop-drop (n + 1 - at) at w ∙ ap (λ (q : ℕ). drop q w) k) j)) ∙ sym (append_assoc (take at w) (v ∷ take (n - at) (drop at w)) (drop (n + 1) w)) ∙ r.1,
+        (λ j. take at w ++ (moved ys h m j ++ (drop-drop (n + 1 - at) at w ∙ ap (λ (q : ℕ). drop q w) k) j))
+            ∙ sym (append_assoc (take at w) (v ∷ take (n - at) (drop at w)) (drop (n + 1) w))
+            ∙ r.1,
       )

@@ -135,7 +135,7 @@ fn norm_target(norm: f64) -> Coefficients
 }
 
 // x(u)^2 + y(u)^2 less the target, in the chart around the origin: five coefficients.
-#[tactic(auto, using(crate::specs::Laws::Nine::length_add, crate::specs::Laws::Nine::length_multiply, crate::specs::Laws::Nine::length_target, crate::specs::Laws::SmallNorm::numerator_length), unfolding(crate::specs::Curve::norm_polynomial))]
+#[tactic(auto, using(crate::proofs::curve::Squares::lengths), unfolding(crate::specs::Curve::norm_polynomial))]
 pub(crate) fn norm_polynomial(x: Harmonic, y: Harmonic, norm: f64, origin: f64) -> Coefficients
     ensures { result.items ≡ Of.norm_polynomial x y norm origin }
 {

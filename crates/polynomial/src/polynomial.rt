@@ -21,7 +21,7 @@ pub struct Polynomial<'a> {
 
 impl Polynomial<'_> {
     // The value at x, by compensated Horner arithmetic.
-    #[tactic(auto, using(crate::proofs::Literals::literals, crate::proofs::polynomial::Horner::horner_on), unfolding(crate::specs::Polynomial::evaluate, crate::specs::Polynomial::horner))]
+    #[tactic(auto, using(crate::proofs::polynomial::Horner::horner_steps), unfolding(crate::specs::Polynomial::evaluate, crate::specs::Polynomial::horner))]
     pub(crate) fn evaluate(self, x: f64) -> f64
         ensures { result ≡ Of.evaluate self.entry.terms.now x }
     {
@@ -35,7 +35,7 @@ impl Polynomial<'_> {
 
     // The values at x, y and z, worked out side by side; none where Dekker's halves do not serve. The
     // tests stand between the products, so that these are not put into pairs.
-    #[tactic(auto, using(crate::proofs::Literals::literals, crate::proofs::polynomial::Horner::horner_by), unfolding(crate::specs::Polynomial::evaluate, crate::specs::Polynomial::horner))]
+    #[tactic(auto, using(crate::proofs::polynomial::Horner::horner_steps), unfolding(crate::specs::Polynomial::evaluate, crate::specs::Polynomial::horner))]
     pub(crate) fn evaluate_three(self, x: f64, y: f64, z: f64) -> Option<(f64, f64, f64)>
         ensures { IfSome result (λ v. v ≡ (Of.evaluate self.entry.terms.now x, Of.evaluate self.entry.terms.now y, Of.evaluate self.entry.terms.now z)) }
     {

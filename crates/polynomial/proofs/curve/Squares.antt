@@ -6,6 +6,8 @@ use lib.ListN.{drop_of_length-le}
 use lib.Ieee.{Float, of_bits, binary64}
 use Rattle.float.specs.Laws.Literals.{one_bits}
 use Rattle.float.specs.Laws.Zero.{zero_bits}
+use Rattle.polynomial.specs.Laws.Nine.{length_add, length_multiply, length_target}
+use Rattle.polynomial.specs.Laws.SmallNorm.{numerator_length}
 use Rattle.polynomial.specs.Compensated.{from, times}
 use Rattle.polynomial.specs.Polynomial.{multiply}
 use Rattle.polynomial.specs.Curve.{times_each, target}
@@ -31,3 +33,6 @@ module _ (square r : List Compensated) (i : ℕ) (factor : Compensated) where
   pub times_end : length square ≤ i → r ≡ r ++ times_each (drop i square) factor
   unfolding times_each
   times_end h = sym (append-nil r) ∙ ap (λ t. r ++ times_each t factor) (sym (drop_of_length-le square h))
+
+-- how many coefficients each has
+pub ruleset lengths = (length_add, length_multiply, length_target, numerator_length)

@@ -62,7 +62,8 @@ invariant_of-float-2 c =
     let e = whole (r * 2 ^ z) a in record {
       short = omega (arith, e);
       place = omega (arith, c.requires.1);
-      full = λ h. subst (λ (n : ℕ). 2 ^ 52 ≤ n) (sym e) (subst (λ (j : ℕ). 2 ^ 52 ≤ r * 2 ^ j) (raised c.lift.result c.args.k z c.min-z.ensures h) c.lift.ensures.1);
+      full = λ h. subst (λ (n : ℕ). 2 ^ 52 ≤ n) (sym e)
+          (subst (λ (j : ℕ). 2 ^ 52 ≤ r * 2 ^ j) (raised c.lift.result c.args.k z c.min-z.ensures h) c.lift.ensures.1);
     }
 
 pub returns : goal.returns

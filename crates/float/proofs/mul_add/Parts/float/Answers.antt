@@ -19,4 +19,4 @@ float_from_bits-result c =
 pub returns : goal.returns
 returns c =
     let p = c.args.self in
-    ap (λ (x : ℕ). of_bits binary64 (x + (p.k * 2 ^ 52 + p.q))) (sign_is c.before.before.before) ∙ written p.neg p.q p.k c.args.self.short c.args.self.place c.args.self.full
+    ap (λ (x : ℕ). of_bits binary64 (x + (p.k * 2 ^ 52 + p.q))) (sign_is c.before.before.before) ∙ written p.neg p.q p.k p.short p.place p.full
