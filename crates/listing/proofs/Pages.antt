@@ -43,7 +43,8 @@ module _ (s : List ℕ) (n : ℕ) (p : Paged s n) where
       (append_assoc (take at out ++ text s k) (12 ∷ []) rest ∙ append_assoc (take at out) (text s k) (12 ∷ rest))
 
   -- the last one
-  pub pages_done : (out page : List ℕ) (k last : ℕ) → last ≡ pages n → length out ≡ 65 * (n + pages n) + (pages n - 1) → page ≡ text s last → last ≤ k → k ≤ last
+  pub pages_done : (out page : List ℕ) (k last : ℕ) → last ≡ pages n → length out ≡ 65 * (n + pages n) + (pages n - 1) → page ≡ text s last
+      → last ≤ k → k ≤ last
       → put_mid (3966 * (last - 1)) (length out - 3966 * (last - 1)) out page ≡ take (3966 * (k - 1)) out ++ pages_from s k (suc (last - k))
   unfolding pages_from
   pages_done out page k last d o g h l =

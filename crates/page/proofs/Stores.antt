@@ -1,5 +1,6 @@
 -- Lines and pages, written part by part, are those of the definition.
-use Rattle.std.proofs.Common.{ℕ, zero, suc, ◌+◌, ◌-◌, ◌*◌, ◌≤◌, ◌<◌, arith, ◌≡◌, refl, sym, ap, ◌∙◌, Bool, true, false, List, [], ◌∷◌, ◌++◌, map, leb, length, set, take, drop}
+use Rattle.std.proofs.Common.{ℕ, zero, suc, ◌+◌, ◌-◌, ◌*◌, ◌≤◌, ◌<◌, arith, ◌≡◌, refl, sym, ap, ◌∙◌, Bool, true, false, List, [], ◌∷◌, ◌++◌, map}
+use Rattle.std.proofs.Common.{leb, length, set, take, drop}
 use Rattle.std.proofs.Common.{◌/◌, append_assoc, drop_at, drop-drop, zero-add, length-append, length-drop, take_all, leb-true, leb-false}
 use Rattle.std.proofs.lemmas.List.{append-nil, drop-replicate, drop-take, set_at, take-take, take_at}
 use Rattle.std.specs.List.{between}

@@ -62,7 +62,8 @@ module _ {A : Type 0} where
       ap (λ (j : ℕ). drop (length t) (take j rest)) m ∙ drop-take (length t) n rest in
       let c : drop (e - i) rest ≡ drop n (drop (length t) rest) = ap (λ (j : ℕ). drop j rest) m ∙ sym (drop-drop n (length t) rest) in
       let d : drop (length t) rest ≡ drop (i + length t) l = drop-drop (length t) i l in
-      rw (a, b, c, append_assoc, take-append-drop n (drop (length t) rest), d) (sym (sets-eq t l i (omega arith) ∙ append_assoc (take i l) t (drop (i + length t) l)))
+      rw (a, b, c, append_assoc, take-append-drop n (drop (length t) rest), d)
+      (sym (sets-eq t l i (omega arith) ∙ append_assoc (take i l) t (drop (i + length t) l)))
 
   -- a part behind a known front, written over
   pub replaced : (p q r ys : List A) (a k : ℕ) → length p ≡ a → length q ≡ k → put_mid a k (p ++ (q ++ r)) ys ≡ p ++ (ys ++ r)

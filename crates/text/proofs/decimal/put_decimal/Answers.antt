@@ -11,6 +11,7 @@ returns c =
     let e : d.result.now ≡ whole c.args.n = d.ensures.value ∙ c.format.ensures.text ∙ sym (whole_is_decimal c.args.n (omega arith)) in
     record {
       value = ap length e;
-      out_after = rw (c.copy_from_slice.ensures.after, e) (sym (stored (whole c.args.n) c.args.out.now (length (whole c.args.n)) refl (omega (arith, ap length e))));
+      out_after = rw (c.copy_from_slice.ensures.after, e)
+          (sym (stored (whole c.args.n) c.args.out.now (length (whole c.args.n)) refl (omega (arith, ap length e))));
       upper_bound = rw d.ensures.value c.format.ensures.fits;
     }
