@@ -1,5 +1,6 @@
 -- What each way through the two programs' functions gives is the definition's text.
-use Rattle.std.proofs.Common.{ℕ, ◌*◌, ◌/◌, ◌≤◌, ◌<◌, arith, ◌≡◌, sym, List, [], ◌++◌, length, length-take-le, take, lt-ltb, le-ltb, refl, drop, leb, cond, Bool, true, false, Some, None}
+use Rattle.std.proofs.Common.{ℕ, ◌*◌, ◌/◌, ◌≤◌, ◌<◌, arith, ◌≡◌, sym, List, [], ◌++◌, length}
+use Rattle.std.proofs.Common.{length-take-le, take, lt-ltb, le-ltb, refl, drop, leb, cond, Bool, true, false, Some, None}
 use Rattle.std.proofs.lemmas.List.{take_at}
 use Rattle.sheet.specs.Refusals.{accepted, refused}
 use Rattle.sheet.specs.Sampling.{answer, sheet}
@@ -36,6 +37,9 @@ accepted_is s n h e =
 pub refused_is : (s : List ℕ) (k : ℕ) → length s ≤ most → refused k ≡ Check.answer newest s places → check_text s ≡ head (refused k)
 unfolding check_text
 refused_is s k h e = rw (le-ltb most (length s) h, ← e) (alone (head (refused k)) s)
+
+-- what each of the three answers prints
+pub ruleset checked_texts = (long_is, count_fits, items_whole, accepted_is, refused_is)
 
 -- ---- make_text
 pub sheet_whole : (r : List ℕ) (room n : ℕ) → answer r places room ≡ accepted n → length (sheet newest r) ≡ sheet_size newest n

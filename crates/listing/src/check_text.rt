@@ -35,7 +35,7 @@ pub(crate) fn print_refusal(text: &mut [u8], f: Fault) -> Option<usize>
 }
 
 // The text, in the first bytes of what is lent; how many bytes it has, where as many are lent.
-#[tactic(auto, using(crate::proofs::Ends::long_is, crate::proofs::Ends::count_fits, crate::proofs::Ends::items_whole, crate::proofs::Ends::accepted_is, crate::proofs::Ends::refused_is))]
+#[tactic(auto, using(crate::proofs::Ends::checked_texts))]
 pub fn check_text(input: &[u8], text: &mut [u8]) -> Option<usize>
     ensures value { result ≡ Listing.printed (Listing.check_text input.now) (length text.old) }
     ensures text_after { text.new ≡ Listing.after (Listing.check_text input.now) text.old }
