@@ -76,7 +76,7 @@ fn has_room(n: usize, room: usize) -> bool
 }
 
 // 11, and else the sheet.
-#[tactic(auto, using(crate::specs::Laws::Plan::fits_yes, crate::specs::Laws::Plan::found_count), unfolding(crate::specs::Promises::Plan::planned_answer, crate::specs::Refusals::need))]
+#[tactic(auto, using(crate::specs::Laws::Plan::planned), unfolding(crate::specs::Promises::Plan::planned_answer, crate::specs::Refusals::need))]
 fn finish(output: &mut [u8], draft: &Draft) -> Result<usize, Refusal>
     ensures result_value { Sampling.answer_of result ≡
         Promise.planned_answer draft.now.view.request.now (length draft.now.planned.work.now) (length output.old) }

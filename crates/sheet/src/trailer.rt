@@ -26,7 +26,7 @@ pub(crate) fn frame_size(e: Edition) -> usize
 
 // The trailer: the number of items n, the request's position 8n, the edition and six zeros. For n below
 // 2^60, 8n is a u64.
-#[tactic(auto, using(crate::specs::Laws::Bytes::to_le, crate::proofs::bytes::Same::four_bytes), unfolding(crate::specs::Bytes::bytes, crate::specs::Sheet::trailer))]
+#[tactic(auto, using(crate::proofs::bytes::Same::number_bytes), unfolding(crate::specs::Bytes::bytes, crate::specs::Sheet::trailer))]
 pub(crate) fn trailer(e: Edition, n: usize) -> [u8; TRAILER]
     requires { n < 2 ^ 60 }
     ensures { result ≡ Sheet.trailer e n }

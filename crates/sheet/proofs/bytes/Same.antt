@@ -10,7 +10,7 @@ use lib.Dec.{eqb}
 use Rattle.sheet.specs.Bytes.{little_endian, bytes, part, same_bytes}
 use Rattle.std.specs.Int.{sum_through, byte_worth}
 use Rattle.std.specs.List.{slice_index}
-use Rattle.sheet.specs.Laws.Bytes.{sets_append, from_le, little_endian_bytes, bytes_part, length_part, same_is, same_itself}
+use Rattle.sheet.specs.Laws.Bytes.{sets_append, from_le, to_le, little_endian_bytes, bytes_part, length_part, same_is, same_itself}
 
 -- a copy into a part is a run of stores
 pub put_part : (out : List ℕ) (at : ℕ) (bs : List ℕ) → at + length bs ≤ length out → put_mid at (at + length bs - at) out bs ≡ sets out at bs
@@ -80,3 +80,6 @@ same_number s at v h b w = go (same_bytes (part at 8 s) (bytes 8 v)) refl
             let n = eqb-true (little_endian (part at 8 s)) v q in
             let p : part at 8 s ≡ bytes 8 v = sym (bytes_part s at 8 h b) ∙ ap (bytes 8) n in
             sym (same_itself (bytes 8 v)) ∙ ap (λ (l : List ℕ). same_bytes l (bytes 8 v)) (sym p) ∙ e
+
+-- what the bytes of numbers are
+pub ruleset number_bytes = (to_le, four_bytes)

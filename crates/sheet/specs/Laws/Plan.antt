@@ -135,6 +135,8 @@ module _ (r : List ℕ) (p : Plan) (w : List Float) (g : PlannedFor r p w) where
   unfolding items
   found_items = ap floats_bytes found_angles ∙ floats_words (angles r)
 
+pub ruleset planned = (fits_yes, found_count)
+
 -- ---- the angles one at a time
 
 module _ (p : Plan) (w : List Float) (c : Cursor) (t : Step) (g : Ready p w) (e : t ≡ step p w c) where
