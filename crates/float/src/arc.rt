@@ -142,9 +142,9 @@ pub fn asin(x: f64) -> f64
 fn atan_four(x: [f64; 4]) -> [f64; 4]
     ensures { result ≡ map Trig.atan x }
 {
-    let a: [f64; 4] = from_fn(|i| reduced(x[i]));
-    let b: [f64; 4] = from_fn(|i| half_angle(a[i]));
-    let c: [f64; 4] = from_fn(|i| half_angle(b[i]));
+    let a = x.map(reduced);
+    let b = a.map(half_angle);
+    let c = b.map(half_angle);
     from_fn(|i| restored(x[i], atan_value(c[i])))
 }
 

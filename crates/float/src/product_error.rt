@@ -40,6 +40,15 @@ fn within(low: f64, x: f64) -> bool
     sized(low, x)
 }
 
+// The high and the low half of x, by Dekker's split.
+fn dekker_split(x: f64) -> (f64, f64)
+    ensures { (result.0 ≡ Of.high_half x) × (result.1 ≡ Of.low_half x) }
+{
+    let c = SPLITTER * x;
+    let high = c - (c - x);
+    (high, x - high)
+}
+
 // An operand with its halves, by Dekker's split at 2^27 + 1, where these serve it: for one that
 // meets many others.
 #[derive(Clone, Copy)]
@@ -59,12 +68,11 @@ impl Halves {
         if !within(LEAST_HALVED, x) {
             return None;
         }
-        let c = SPLITTER * x;
-        let high = c - (c - x);
+        let (high, low) = dekker_split(x);
         Some(Self {
             whole: x,
             high,
-            low: x - high,
+            low,
         })
     }
 }
@@ -78,9 +86,7 @@ pub fn error_by_halves(a: f64, b: Halves) -> Option<f64>
         return None;
     }
     let p = a * b.whole;
-    let c = SPLITTER * a;
-    let high = c - (c - a);
-    let low = a - high;
+    let (high, low) = dekker_split(a);
     Some((((high * b.high - p) + high * b.low) + low * b.high) + low * b.low)
 }
 

@@ -104,8 +104,8 @@ impl Operand {
         requires { (2 ^ 52 ≤ q) × (q ≤ 2 ^ 53) × (0 < d) × (d ≤ 6 * 2 ^ 52) × (d + q * q ≡ (self.m + 3) * 2 ^ 52) }
         ensures { Roots (self.m * 2 ^ 52) result }
     {
-        let up = if d > q + 0x30_0000_0000_0000 { 1 } else { 0 };
-        let down = if d + q <= 0x30_0000_0000_0000 { 1 } else { 0 };
+        let up = u64::from(d > q + 0x30_0000_0000_0000);
+        let down = u64::from(d + q <= 0x30_0000_0000_0000);
         q + up - down
     }
 

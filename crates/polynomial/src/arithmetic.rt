@@ -14,7 +14,7 @@ pub fn add(a: &[Compensated], b: &[Compensated], scale: f64) -> Coefficients
     let factor = Compensated::from(scale);
     let mut r = ArrayVec::new();
     for (x, y) in a.iter().zip(b) {
-        r.push(Compensated::from(0.0).plus(*x).plus(y.times(factor)));
+        r.push(Compensated::from(0.0) + *x + *y * factor);
     }
     r
 }
@@ -29,7 +29,7 @@ fn coefficient(a: &[Compensated], b: &[Compensated], k: usize) -> Compensated
 {
     let mut sum = Compensated::from(0.0);
     for i in (k + 1).saturating_sub(b.len())..a.len().min(k + 1) {
-        sum = sum.plus(a[i].times(b[k - i]));
+        sum = sum + a[i] * b[k - i];
     }
     sum
 }

@@ -6,9 +6,9 @@ ghost use Rattle.polynomial.specs.Polynomial as Of;
 ghost use Rattle.polynomial.specs.Roots as Roots;
 ghost use Rattle.float.specs.Promises.Order.{Span};
 ghost use Rattle.polynomial.specs.Promises.Inside as Inside;
-ghost use Rattle.polynomial.specs.Promises.Plain.{AllTidy};
 
 use crate::bounds::Bounds;
+use crate::plain::Tested;
 use crate::polynomial::Polynomial;
 use float::number::{is_sign_positive, middle};
 use std::ops::ControlFlow;
@@ -71,22 +71,6 @@ impl Polynomial<'_> {
         }
     }
 
-    // Bisects the interval while plain arithmetic tells the sign at the middle.
-    fn roughly(self, from: f64, to: f64, positive: bool) -> ControlFlow<f64, (f64, f64)>
-        requires { Span 2 from to × AllTidy self.terms.now }
-        ensures { Inside.Rest (Of.evaluate self.entry.terms.now) positive from to result }
-    {
-        let mut lo = from;
-        let mut hi = to;
-        loop {
-            let m = middle(lo, hi);
-            let Some(sign) = self.plain_sign(m) else {
-                return ControlFlow::Continue((lo, hi));
-            };
-            (lo, hi) = narrowed_once(lo, hi, m, sign, positive)?;
-        }
-    }
-
     // Bisects the interval, by compensated values, until no float lies strictly inside.
     fn finely(self, from: f64, to: f64, positive: bool) -> f64
         requires { Span 2 from to }
@@ -101,18 +85,33 @@ impl Polynomial<'_> {
             }
         }
     }
+}
+
+impl Tested<'_> {
+    // Bisects the interval while plain arithmetic tells the sign at the middle.
+    fn roughly(self, from: f64, to: f64, positive: bool) -> ControlFlow<f64, (f64, f64)>
+        requires { Span 2 from to }
+        ensures { Inside.Rest (Of.evaluate self.entry.p.terms.now) positive from to result }
+    {
+        let mut lo = from;
+        let mut hi = to;
+        loop {
+            let m = middle(lo, hi);
+            let Some(sign) = self.plain_sign(m) else {
+                return ControlFlow::Continue((lo, hi));
+            };
+            (lo, hi) = narrowed_once(lo, hi, m, sign, positive)?;
+        }
+    }
 
     // Bisects the interval until no float lies strictly inside; the value at its lower end is positive
     // where `positive` says so.
     pub(crate) fn bisect(self, at: Bounds, positive: bool) -> f64
-        ensures { result ≡ Roots.bisected (Of.evaluate self.entry.terms.now) positive at.lower at.upper }
+        ensures { result ≡ Roots.bisected (Of.evaluate self.entry.p.terms.now) positive at.lower at.upper }
     {
-        if !self.all_tidy() {
-            return self.finely(at.lower, at.upper, positive);
-        }
         match self.roughly(at.lower, at.upper, positive) {
             ControlFlow::Break(x) => x,
-            ControlFlow::Continue((lo, hi)) => self.finely(lo, hi, positive),
+            ControlFlow::Continue((lo, hi)) => self.p.finely(lo, hi, positive),
         }
     }
 }

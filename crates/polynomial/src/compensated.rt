@@ -8,6 +8,7 @@ ghost use Rattle.polynomial.specs.Promises.Inside.{finite_parts};
 use arrayvec::ArrayVec;
 use float::number::is_finite;
 use float::product_error::{Halves, error_by_halves, product_error};
+use std::ops::{Add, Mul};
 
 #[derive(Clone, Copy, Default)]
 pub struct Compensated {
@@ -27,12 +28,14 @@ impl From<f64> for Compensated {
     }
 }
 
-impl Compensated {
-    // Adds both components and retains the rounding error.
+// Adds both components and retains the rounding error.
+impl Add for Compensated {
+    type Output = Compensated;
+
+    ghost add_gives = { λ a b r. r ≡ Of.plus a b };
+
     #[tactic(auto, unfolding(crate::specs::Compensated::plus))]
-    pub(crate) fn plus(self, other: Compensated) -> Self
-        ensures { result ≡ Of.plus self other }
-    {
+    fn add(self, other: Compensated) -> Compensated {
         let sum = self.high + other.high;
         let virtual_other = sum - self.high;
         Compensated::rounded(
@@ -43,14 +46,20 @@ impl Compensated {
                 + other.low,
         )
     }
+}
 
-    // Multiplies both components and retains the rounding error.
-    pub(crate) fn times(self, other: Compensated) -> Self
-        ensures { result ≡ Of.times self other }
-    {
+// Multiplies both components and retains the rounding error.
+impl Mul for Compensated {
+    type Output = Compensated;
+
+    ghost mul_gives = { λ a b r. r ≡ Of.times a b };
+
+    fn mul(self, other: Compensated) -> Compensated {
         self.product(other, product_error(self.high, other.high))
     }
+}
 
+impl Compensated {
     // The product with a float, where Dekker's halves serve both it and the high part.
     pub(crate) fn times_by_halves(self, x: Halves) -> Option<Self>
         ensures { IfSome result (λ r. r ≡ Of.times self (Of.from x.whole)) }
@@ -69,7 +78,7 @@ impl Compensated {
                 return product;
             }
         }
-        self.times(Compensated::from(x))
+        self * Compensated::from(x)
     }
 
     // The product, by the error of the product of the high parts.

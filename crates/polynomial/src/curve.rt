@@ -83,9 +83,9 @@ pub(crate) fn numerator(h: Harmonic, origin: f64) -> [Compensated; 3]
     let rotated_sine = -h.cosine * s + h.sine * c;
     let first = Compensated::from(h.constant);
     [
-        first.plus(Compensated::from(rotated_cosine)),
+        first + Compensated::from(rotated_cosine),
         Compensated::from(2.0 * rotated_sine),
-        first.plus(Compensated::from(-rotated_cosine)),
+        first + Compensated::from(-rotated_cosine),
     ]
 }
 
@@ -124,12 +124,12 @@ fn norm_target(norm: f64) -> Coefficients
     ensures { result.items ≡ Of.target norm }
 {
     let n = Compensated::from(norm);
-    let squared = n.times(n);
+    let squared = n * n;
     let one = Compensated::from(1.0);
     let denominator = [one, Compensated::from(0.0), one];
     let mut r = ArrayVec::new();
     for c in multiply(&denominator, &denominator).as_slice() {
-        r.push(c.times(squared));
+        r.push(*c * squared);
     }
     r
 }

@@ -26,12 +26,9 @@ fn passes(w: f64, v: f64) -> bool
 fn find(list: &[f64], v: f64) -> usize
     ensures { Found list.now v result }
 {
-    for i in 0..list.len() {
-        if !passes(list[i], v) {
-            return i;
-        }
-    }
-    list.len()
+    list.iter()
+        .position(|w| !passes(*w, v))
+        .unwrap_or(list.len())
 }
 
 // Moves the values one place up, the last one out, and puts v before them.

@@ -39,6 +39,7 @@ pub(crate) fn mark(near: &[f64], roots: &[f64], kinds: &mut [u8])
     requires { length roots.now ≤ length kinds.old }
     ensures { kinds.new ≡ map Kinds.kind (map (Kinds.marked near.now) roots.now) ++ drop (length roots.now) kinds.old }
 {
+    // by index, since of what is written through `iter_mut().zip(..)` nothing is known
     for (i, x) in roots.iter().enumerate() {
         kinds[i] = u8::from(marked(near, *x));
     }

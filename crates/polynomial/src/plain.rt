@@ -1,7 +1,7 @@
 // Plain Horner arithmetic on the high parts alone. Where its value is far from zero beside the
 // coefficients' magnitudes, it has the sign of the compensated value, which is not near zero then.
 ghost use Rattle.std.specs.Prelude.{◌≡◌, true};
-ghost use Rattle.polynomial.specs.Promises.Plain.{Tidy, AllTidy, Tells, sign_if_sure};
+ghost use Rattle.polynomial.specs.Promises.Plain.{Tidy, AllTidy, AllTidy-prop, Tells, sign_if_sure};
 
 use crate::compensated::Compensated;
 use crate::polynomial::Polynomial;
@@ -44,6 +44,15 @@ fn sign_of(size: f64, v: f64, scale: f64) -> Option<f64>
     None
 }
 
+// A polynomial, and whether each coefficient has a small residual and is not large: tested once for all
+// points.
+#[derive(Clone, Copy)]
+pub struct Tested<'a> {
+    pub p: Polynomial<'a>,
+    pub tidy: bool,
+    ghost told: { tidy ≡ true → AllTidy p.terms.now } by { Prim.hlevel AllTidy-prop },
+}
+
 impl Polynomial<'_> {
     // Whether each coefficient has a small residual and is not large.
     pub(crate) fn all_tidy(self) -> bool
@@ -56,17 +65,21 @@ impl Polynomial<'_> {
         }
         true
     }
+}
 
+impl Tested<'_> {
     // The sign of the value at x, 1.0 or -1.0; none where plain arithmetic does not tell it.
     #[tactic(auto, using(crate::proofs::Literals::literals), unfolding(crate::specs::Promises::Plain::plain, crate::specs::Promises::Plain::scale))]
     pub(crate) fn plain_sign(self, x: f64) -> Option<f64>
-        requires { AllTidy self.terms.now }
-        ensures { Tells result self.entry.terms.now x }
+        ensures { Tells result self.entry.p.terms.now x }
     {
+        if !self.tidy {
+            return None;
+        }
         let size = abs(x);
         let mut sum = 0.0;
         let mut scale = 0.0;
-        for c in self.terms.iter().rev() {
+        for c in self.p.terms.iter().rev() {
             sum = sum * x + c.high;
             scale = scale * size + abs(c.high);
         }

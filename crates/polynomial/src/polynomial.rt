@@ -28,7 +28,7 @@ impl Polynomial<'_> {
         let halves = Halves::of(x);
         let mut sum = Compensated::from(0.0);
         for c in self.terms.iter().rev() {
-            sum = sum.times_by(x, halves).plus(*c);
+            sum = sum.times_by(x, halves) + *c;
         }
         sum.value()
     }
@@ -46,9 +46,9 @@ impl Polynomial<'_> {
         let mut b = a;
         let mut d = a;
         for c in self.terms.iter().rev() {
-            a = a.times_by_halves(at_x)?.plus(*c);
-            b = b.times_by_halves(at_y)?.plus(*c);
-            d = d.times_by_halves(at_z)?.plus(*c);
+            a = a.times_by_halves(at_x)? + *c;
+            b = b.times_by_halves(at_y)? + *c;
+            d = d.times_by_halves(at_z)? + *c;
         }
         Some((a.value(), b.value(), d.value()))
     }
@@ -102,7 +102,7 @@ impl Polynomial<'_> {
     {
         let mut d = ArrayVec::new();
         for i in 1..self.terms.len() {
-            d.push(self.terms[i].times(Compensated::from(i as f64)));
+            d.push(self.terms[i] * Compensated::from(i as f64));
         }
         d
     }

@@ -9,13 +9,13 @@ pub trait Numbered {
         ensures { result ≡ number self };
 }
 
-// The refusals of Roots, in 01's order.
+// The refusals of Roots, in 01's order, each with its number.
 #[derive(Clone, Copy)]
 pub enum Refusal {
-    BadLength,
-    BadBounds,
-    BadPart,
-    ShortResult,
+    BadLength = 21,
+    BadBounds = 22,
+    BadPart = 23,
+    ShortResult = 24,
 }
 
 impl Numbered for Refusal {
@@ -24,11 +24,6 @@ impl Numbered for Refusal {
     ghost number = { refusal_number };
 
     fn number(self) -> u8 {
-        match self {
-            Refusal::BadLength => 21,
-            Refusal::BadBounds => 22,
-            Refusal::BadPart => 23,
-            Refusal::ShortResult => 24,
-        }
+        self as u8
     }
 }

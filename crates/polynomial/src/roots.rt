@@ -7,12 +7,12 @@ ghost use Rattle.polynomial.specs.Roots as Roots;
 ghost use Rattle.polynomial.specs.Kinds as Kinds;
 ghost use Rattle.polynomial.specs.Promises.Front.{Front};
 ghost use Rattle.polynomial.specs.Promises.Inside.{Ready, Stands, touched, crossed, found, kinds_of, points_of, counting_of};
-ghost use Rattle.polynomial.specs.Promises.Plain.{AllTidy};
 
 use crate::bounds::Bounds;
 use crate::compensated::Compensated;
 use crate::cuts::insert;
 use crate::kinds::mark;
+use crate::plain::Tested;
 use crate::polynomial::Polynomial;
 use float::number::is_sign_positive;
 
@@ -49,9 +49,9 @@ pub(crate) fn keep(out: &mut [f64], k: usize, v: f64) -> usize
 // first k places of out if the values cross zero. Here and in `look` out may be what C lends, so the
 // list is no `ArrayVec`, and its length goes beside it; a struct of both would be made of the parts at
 // each point and taken apart again.
-fn cross(p: Polynomial, at: Interval, out: &mut [f64], k: usize) -> usize
+fn cross(p: Tested, at: Interval, out: &mut [f64], k: usize) -> usize
     requires { k < length out.old }
-    ensures { Front (crossed (Of.evaluate p.entry.terms.now) at.ends.lower at.ends.upper at.u at.v (take k out.old)) out.old result out.new }
+    ensures { Front (crossed (Of.evaluate p.entry.p.terms.now) at.ends.lower at.ends.upper at.u at.v (take k out.old)) out.old result out.new }
 {
     if crosses(at.u, at.v) {
         return keep(out, k, p.bisect(at.ends, is_sign_positive(at.u)));
@@ -71,23 +71,21 @@ pub struct Seen {
 // Looks at x, and puts it into the cuts in the first k places of out if the value there is near zero.
 // Where plain arithmetic tells the value's sign, it is not, and the sign stands for it.
 #[tactic(auto, unfolding(crate::specs::Polynomial::near_zero, crate::specs::Polynomial::evaluate))]
-fn look(p: Polynomial, tidy: bool, x: f64, out: &mut [f64], k: usize) -> Seen
-    requires { (k < length out.old) × (tidy ≡ true → AllTidy p.terms.now) }
-    ensures near_value { result.near ≡ Of.near_zero p.entry.terms.now x }
-    ensures stands { Stands result.v (Of.evaluate p.entry.terms.now x) }
-    ensures kept { Front (touched p.entry.terms.now x (take k out.old)) out.old result.k out.new }
+fn look(p: Tested, x: f64, out: &mut [f64], k: usize) -> Seen
+    requires { k < length out.old }
+    ensures near_value { result.near ≡ Of.near_zero p.entry.p.terms.now x }
+    ensures stands { Stands result.v (Of.evaluate p.entry.p.terms.now x) }
+    ensures kept { Front (touched p.entry.p.terms.now x (take k out.old)) out.old result.k out.new }
 {
-    if tidy {
-        if let Some(sign) = p.plain_sign(x) {
-            return Seen {
-                near: false,
-                v: sign,
-                k,
-            };
-        }
+    if let Some(sign) = p.plain_sign(x) {
+        return Seen {
+            near: false,
+            v: sign,
+            k,
+        };
     }
-    let v = p.evaluate(x);
-    if p.value_near(x, v) {
+    let v = p.p.evaluate(x);
+    if p.p.value_near(x, v) {
         let m = keep(out, k, x);
         return Seen {
             near: true,
@@ -113,16 +111,19 @@ fn scan(p: Polynomial, points: &mut [f64], out: &mut [f64]) -> Counts
     ensures near { (result.near ≤ length points.old) × (take result.near points.new ≡ Roots.touches p.entry.terms.now points.old) }
     ensures roots { Front (found p.entry.terms.now points.old) out.old result.roots out.new }
 {
-    let tidy = p.all_tidy();
+    let tested = Tested {
+        p,
+        tidy: p.all_tidy(),
+    };
     let mut lo = points[0];
-    let first = look(p, tidy, lo, out, 0);
+    let first = look(tested, lo, out, 0);
     let mut u = first.v;
     let mut k = first.k;
     let mut near = usize::from(first.near);
     // by index, since the points near zero are written to the slice that is read
     for i in 1..points.len() {
         let hi = points[i];
-        let seen = look(p, tidy, hi, out, k);
+        let seen = look(tested, hi, out, k);
         let v = seen.v;
         points[near] = hi;
         near += usize::from(seen.near);
@@ -130,7 +131,7 @@ fn scan(p: Polynomial, points: &mut [f64], out: &mut [f64]) -> Counts
             lower: lo,
             upper: hi,
         };
-        k = cross(p, Interval { ends, u, v }, out, seen.k);
+        k = cross(tested, Interval { ends, u, v }, out, seen.k);
         lo = hi;
         u = v;
     }

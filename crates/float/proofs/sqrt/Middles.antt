@@ -1,7 +1,10 @@
 -- Where m * 2 ^ 52 lies to the middles beside q, by the distance d = m * 2 ^ 52 - q * q + 3 * 2 ^ 52; and the value that the nearest whole number makes.
-use Rattle.std.proofs.Common.{◌≡◌, ℕ, zero, suc, ◌+◌, ◌-◌, ◌*◌, ◌^◌, ◌<◌, ◌≤◌, false, ◌⊎◌, sym, subst, inl, inr, mul-le-mul_right, mul-le-mul}
+use Rattle.std.proofs.Common.{◌≡◌, refl, ℕ, zero, suc, ◌+◌, ◌-◌, ◌*◌, ◌^◌, ◌<◌, ◌≤◌, Bool, true, false, sym, subst, mul-le-mul_right, mul-le-mul}
 use Rattle.std.proofs.Common.{mul-lt-mul_of_pos_right, lt_of_not-le, arith, pow_pos}
 use native.Mathlib.Numerals.{unary_clauses}
+use mir.Val.{bool_byte}
+use lib.Dec.{ltb, leb}
+use Rattle.std.proofs.lemmas.Bool.{ltb-true, ltb-false, leb-true, leb-false}
 use lib.Ieee.{binary64, units}
 use Rattle.float.specs.Sqrt.{root_of}
 use Rattle.float.specs.Promises.Parts.{Roots}
@@ -36,14 +39,14 @@ module _ (m d q : ℕ) (g : 2 ^ 52 ≤ q) (e : d + q * q ≡ (m + 3) * 2 ^ 52) w
       let x : q * q ≡ (q - 1) * (q - 1) + (q - 1) + q = one_before q (omega arith) in
       record { above = omega (arith, less_one (q - 1)); below = omega arith }
 
-  pub beside : 2 ^ 52 ≤ m → 0 < d → d ≤ 6 * 2 ^ 52 → (u v : ℕ)
-      → ((q + 3 * 2 ^ 52 < d) × (u ≡ 1)) ⊎ ((d ≤ q + 3 * 2 ^ 52) × (u ≡ 0))
-      → ((d + q ≤ 3 * 2 ^ 52) × (v ≡ 1)) ⊎ ((3 * 2 ^ 52 < d + q) × (v ≡ 0))
-      → Roots (m * 2 ^ 52) (q + u - v)
-  beside l a b u v (inl (x, i)) (inl (y, j)) = absurd (omega arith)
-  beside l a b u v (inl (x, i)) (inr (y, j)) = subst (Roots (m * 2 ^ 52)) (omega arith) (up b x)
-  beside l a b u v (inr (x, i)) (inl (y, j)) = subst (Roots (m * 2 ^ 52)) (omega arith) (down l a y)
-  beside l a b u v (inr (x, i)) (inr (y, j)) = subst (Roots (m * 2 ^ 52)) (omega arith) (same x y)
+  pub beside : 2 ^ 52 ≤ m → 0 < d → d ≤ 6 * 2 ^ 52 → Roots (m * 2 ^ 52) (q + bool_byte (ltb (q + 3 * 2 ^ 52) d) - bool_byte (leb (d + q) (3 * 2 ^ 52)))
+  beside l a b = go (ltb (q + 3 * 2 ^ 52) d) (leb (d + q) (3 * 2 ^ 52)) refl refl
+    where
+      go : (u v : Bool) → ltb (q + 3 * 2 ^ 52) d ≡ u → leb (d + q) (3 * 2 ^ 52) ≡ v → Roots (m * 2 ^ 52) (q + bool_byte u - bool_byte v)
+      go true true x y = let i = ltb-true _ _ x in let j = leb-true _ _ y in absurd (omega arith)
+      go true false x y = subst (Roots (m * 2 ^ 52)) (omega arith) (up b (ltb-true _ _ x))
+      go false true x y = subst (Roots (m * 2 ^ 52)) (omega arith) (down l a (leb-true _ _ y))
+      go false false x y = subst (Roots (m * 2 ^ 52)) (omega arith) (same (ltb-false _ _ x) (leb-false _ _ y))
 
 -- ---- for m of 53 or 54 digits
 module _ (m q : ℕ) (lo : 2 ^ 52 ≤ m) (hi : m < 2 ^ 54) (R : Roots (m * 2 ^ 52) q) where

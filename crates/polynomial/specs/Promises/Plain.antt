@@ -2,6 +2,8 @@
 -- the plain value is far from zero beside the coefficients' magnitudes,
 -- both have one sign, and the compensated value is not near zero. Nothing that a public contract says.
 use Rattle.std.specs.Prelude.{◌≡◌, Bool, true, false, cond, List, [], ◌∷◌, T, pos, negsuc, Option, Some, None, Float}
+use Rattle.std.proofs.Props.{props}
+use Rattle.std.specs.Coded.{×_prop, Unit-prop}
 use Rattle.std.specs.Float.{fin, binary64}
 use Rattle.std.specs.Float.Ieee.{fits, neg, lt, le, eq}
 use Rattle.float.specs.Number.{◌⊕◌, ◌⊗◌, abs, negative, zero_float, one_float}
@@ -42,6 +44,10 @@ pub record Tidy (c : Compensated) : Type 0 where
 abbrev pub AllTidy : List Compensated → Type 0
 AllTidy [] = Unit {0}
 AllTidy (c ∷ cs) = Tidy c × AllTidy cs
+
+pub AllTidy-prop : (cs : List Compensated) → IsProp (AllTidy cs)
+AllTidy-prop [] = Unit-prop
+AllTidy-prop (c ∷ cs) = ×_prop (Prim.hlevel props) (AllTidy-prop cs)
 
 -- v is not zero, and has this sign
 abbrev pub Signed : Bool → Float → Type 0

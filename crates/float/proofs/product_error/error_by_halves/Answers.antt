@@ -8,14 +8,16 @@ use Rattle.float.proofs.product_error.Bitwise.{dekker_is_fused}
 use Rattle.float.proofs.product_error.Range.{ranged}
 use Rattle.float.proofs.product_error.error_by_halves.Goals as goal
 
--- Dekker's sum, with the second operand's halves as variables
-summed : Float → Float → Float → Float → Float
-summed a b h l = (high_half a ⊗ h ⊖ a ⊗ b) ⊕ high_half a ⊗ l ⊕ low_half a ⊗ h ⊕ low_half a ⊗ l
+-- Dekker's sum, with the halves of both operands as variables
+summed : Float → Float → Float → Float → Float → Float → Float
+summed a g k b h l = (g ⊗ h ⊖ a ⊗ b) ⊕ g ⊗ l ⊕ k ⊗ h ⊕ k ⊗ l
 
-by_halves : (a b h l : Float) → Halved b h l → T (fits binary64 a) → T (fits binary64 b) → in_range least a ≡ true → summed a b h l ≡ product_error a b
+by_halves : (a g k b h l : Float) → g ≡ high_half a → k ≡ low_half a → Halved b h l → T (fits binary64 a) → T (fits binary64 b) → in_range least a ≡ true
+    → summed a g k b h l ≡ product_error a b
 unfolding summed
-by_halves a b h l e s t p =
-    ap₂ (summed a b) e.high_is e.low_is ∙ dekker_is_fused a b (lit≤ tt) (ranged 199 (lit≤ tt) a s p) (ranged 767 (lit≤ tt) b t e.serve)
+by_halves a g k b h l y z e s t p =
+    ap₂ (λ i j. summed a i j b h l) y z ∙ ap₂ (summed a (high_half a) (low_half a) b) e.high_is e.low_is
+    ∙ dekker_is_fused a b (lit≤ tt) (ranged 199 (lit≤ tt) a s p) (ranged 767 (lit≤ tt) b t e.serve)
 
 pub returns-then-not-within-clause-served : goal.returns-then-not-within-clause-served
 unfolding of_bits
@@ -28,5 +30,6 @@ returns-clause-served c = sym c.if-not-within.false ∙ c.within.ensures
 pub returns-clause-value : goal.returns-clause-value
 unfolding of_bits summed
 returns-clause-value c =
-    by_halves c.args.a c.args.b.whole c.args.b.high c.args.b.low c.args.b.halved (search rules) (search rules)
+    let d = c.dekker_split-high.ensures in
+    by_halves c.args.a _ _ c.args.b.whole c.args.b.high c.args.b.low d.0 d.1 c.args.b.halved (search rules) (search rules)
     (sym c.within.ensures ∙ c.if-not-within.false)

@@ -1,5 +1,5 @@
 -- `float::product_error::Halves::of` meets its contract: the code's constants are 2 ^ 27 + 1 and 2 ^ -768.
-use Rattle.std.proofs.Common.{refl, sym, ◌∙◌}
+use Rattle.std.proofs.Common.{sym, ◌∙◌}
 use lib.Ieee.{of_bits}
 use Rattle.float.proofs.product_error.Halves.of.Goals as goal
 
@@ -13,4 +13,4 @@ returns-clause-served c = sym c.if-not-within.false ∙ c.within.ensures
 
 pub invariant_of-result : goal.invariant_of-result
 unfolding of_bits
-invariant_of-result c = record { halved = record { high_is = refl; low_is = refl; serve = sym c.within.ensures ∙ c.if-not-within.false } }
+invariant_of-result c = record { halved = record { high_is = c.dekker_split-high.ensures.0; low_is = c.dekker_split-high.ensures.1; serve = sym c.within.ensures ∙ c.if-not-within.false } }

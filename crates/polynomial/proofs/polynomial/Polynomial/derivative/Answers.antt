@@ -38,8 +38,8 @@ int_to_float-i c = le→leb c.loop-i.i (2 ^ 53) (omega arith)
 pub loop-i-preserved : goal.loop-i-preserved
 loop-i-preserved c = record {
   long = omega arith;
-  whole = more c.args.self.terms.now c.loop-i.d.items _ c.loop-i.i c.times.result _ c.loop-i-test.true c.push.ensures.items
-      (c.times.ensures ∙ ap (times _) c.from.ensures) c.loop-i.invariant.whole;
+  whole = more c.args.self.terms.now c.loop-i.d.items _ c.loop-i.i c.mul.result _ c.loop-i-test.true c.push.ensures.items
+      (c.mul.ensures ∙ ap (times _) c.from.ensures) c.loop-i.invariant.whole;
 }
 
 pub returns : goal.returns
