@@ -29,14 +29,16 @@ pub(crate) fn norm_roots(x: Harmonic, y: Harmonic, norm: f64, out: &mut Angles)
     out.try_extend_from_slice(&found[..n]).unwrap();
 }
 
-#[tactic(auto, unfolding(crate::specs::Bends::harmonic))]
-fn harmonic(t: Trig) -> Harmonic
-    ensures { result ≡ Of.harmonic t }
-{
-    Harmonic {
-        constant: t.constant,
-        cosine: t.cosine,
-        sine: t.sine,
+impl From<Trig> for Harmonic {
+    ghost from_gives = { λ t h. h ≡ Of.harmonic t };
+
+    #[tactic(auto, unfolding(crate::specs::Bends::harmonic))]
+    fn from(t: Trig) -> Harmonic {
+        Harmonic {
+            constant: t.constant,
+            cosine: t.cosine,
+            sine: t.sine,
+        }
     }
 }
 
@@ -59,7 +61,7 @@ fn bend_roots(cos5: &Polar, q4: &Ray, angle: f64, out: &mut Angles)
     roots_at(cos5, a.cosine, out);
     let sine = abs(a.sine);
     if narrow(sine) {
-        norm_roots(harmonic(q4.x), harmonic(q4.y), sine, out);
+        norm_roots(Harmonic::from(q4.x), Harmonic::from(q4.y), sine, out);
     }
 }
 
