@@ -14,7 +14,6 @@ use crate::lists::{Lists, Plan};
 use crate::marks::{Marks, marks_of, model_angle};
 use crate::samples::interval_cuts;
 use crate::wrist::{Wrist, wrist_of};
-use arrayvec::ArrayVec;
 use float::number::is_finite;
 use float::trig::P;
 
@@ -107,8 +106,7 @@ pub(crate) fn cut(work: &mut [f64], f: &Free) -> Option<Plan>
     ensures work_after { IfSome result (λ p. work.new ≡ free_cuts f.now ++ drop (Of.cut_count f.now) work.old) }
 {
     if is_finite(f.near) {
-        let mut roots = ArrayVec::new();
-        all_roots(f, &mut roots);
+        let roots = all_roots(f);
         let three = wrist_limit_intervals(f.limits, f.near, 1.0);
         return cut_intervals(work, f.near, three, &roots);
     }
