@@ -136,7 +136,6 @@ fn cut_halves(work: &mut [f64], t: &Folded, lower: f64, upper: f64) -> Option<Pl
 }
 
 // The cuts of both halves of joint 1's interval; where it has none there is no cut and no angle.
-#[tactic(auto, using(crate::proofs::Laid::all_three), unfolding(crate::specs::J1j2free::cut_count, crate::specs::Promises::Plan::folded_plan, crate::specs::Promises::Plan::folded_cuts))]
 pub(crate) fn cut(work: &mut [f64], t: &Folded) -> Option<Plan>
     requires { Charted t.now.range1 }
     ensures value { result ≡ granted (Of.cut_count t.now) (folded_plan t.now) (length work.old) }

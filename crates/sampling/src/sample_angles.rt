@@ -100,7 +100,6 @@ fn cut_intervals(work: &mut [f64], near: f64, three: Intervals, roots: &[f64]) -
 }
 
 // The cuts of a free joint, in the front of work.
-#[tactic(auto, using(crate::proofs::Laid::all_three), unfolding(crate::specs::SampleAngles::cut_count, crate::specs::SampleAngles::first_cuts, crate::specs::SampleAngles::second_cuts, crate::specs::SampleAngles::third_cuts, crate::specs::Promises::Plan::free_plan, crate::specs::Promises::Plan::free_cuts, crate::specs::SampleAngles::intervals))]
 pub(crate) fn cut(work: &mut [f64], f: &Free) -> Option<Plan>
     ensures value { result ≡ granted (Of.cut_count f.now) (free_plan f.now) (length work.old) }
     ensures work_after { IfSome result (λ p. work.new ≡ free_cuts f.now ++ drop (Of.cut_count f.now) work.old) }
