@@ -2,7 +2,7 @@
 use Rattle.std.specs.Prelude.{Option, Some}
 use mathlib.Core.Path.{◌≡◌, refl, sym, subst, subst₂, ◌∙◌}
 use mathlib.Core.List.{List, [], ◌∷◌, ◌++◌, append_assoc, append-nil}
-use Prim.Native.Nat.{ℕ, ◌<◌}
+use Prim.Native.Nat.{ℕ}
 use native.Mathlib.Omega.{arith}
 use lib.Dec.{T}
 use lib.ListN.{length}
@@ -10,7 +10,7 @@ use lib.Ieee.{Float, binary64, fits}
 use Rattle.polynomial.specs.Promises.Insert.{push_answer, push_room}
 use Rattle.polynomial.specs.Laws.Cuts.{fit_append}
 use Rattle.polynomial.specs.Promises.Held.{Kept}
-use Rattle.polynomial.specs.Laws.Held.{kept_none, kept_within, kept_push}
+use Rattle.polynomial.specs.Laws.Held.{kept_none, kept_push}
 use Rattle.sampling.specs.Promises.Grown.{Grown}
 use Rattle.sampling.specs.declared.work.Cuts.{Cuts}
 
@@ -33,18 +33,6 @@ one a b v g r e p q =
       same = e;
       kept = λ before w f k.
           subst₂ (λ (z : List Float) (u : Option ℕ). Kept (before ++ v ∷ []) w z u) (sym q) (sym p) (kept_push before w a.work.now a.count v f g k);
-    }
-
--- a number of cuts that has no place in a is of no values
-pub beyond : (a b : Cuts) (n : ℕ) (v : Float) → T (fits binary64 v) → b.work.ghost_name ≡ a.work.ghost_name → length b.work.now ≡ length a.work.now
-    → a.count ≡ Some n → length a.work.now < n → Grown (v ∷ []) a b
-beyond a b n v g r e s h =
-    record {
-      same_reference = r;
-      fit = (g, tt);
-      same = e;
-      kept = λ before w f k.
-          let i = kept_within before w a.work.now (Some n) (subst (λ (u : Option ℕ). Kept before w a.work.now u) s k) in absurd (omega (arith, i, h));
     }
 
 pub then : {x y : List Float} {a b c : Cuts} → Grown x a b → Grown y b c → Grown (x ++ y) a c

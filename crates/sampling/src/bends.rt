@@ -13,6 +13,7 @@ use crate::polar::Polar;
 use crate::rays::{poles, ray_angles, roots_at, sixth_angles};
 use crate::sample_angles::Free;
 use crate::wrist::Ray;
+use arrayvec::ArrayVec;
 use float::number::{abs, is_finite};
 use float::trig::sin_cos;
 use polynomial::curve::Harmonic;
@@ -29,14 +30,16 @@ pub(crate) fn norm_roots(x: Harmonic, y: Harmonic, norm: f64, out: &mut Angles)
     out.try_extend_from_slice(&found[..n]).unwrap();
 }
 
-#[tactic(auto, unfolding(crate::specs::Bends::harmonic))]
-fn harmonic(t: Trig) -> Harmonic
-    ensures { result ≡ Of.harmonic t }
-{
-    Harmonic {
-        constant: t.constant,
-        cosine: t.cosine,
-        sine: t.sine,
+impl From<Trig> for Harmonic {
+    ghost from_gives = { λ t h. h ≡ Of.harmonic t };
+
+    #[tactic(auto, unfolding(crate::specs::Bends::harmonic))]
+    fn from(t: Trig) -> Harmonic {
+        Harmonic {
+            constant: t.constant,
+            cosine: t.cosine,
+            sine: t.sine,
+        }
     }
 }
 
@@ -59,7 +62,7 @@ fn bend_roots(cos5: &Polar, q4: &Ray, angle: f64, out: &mut Angles)
     roots_at(cos5, a.cosine, out);
     let sine = abs(a.sine);
     if narrow(sine) {
-        norm_roots(harmonic(q4.x), harmonic(q4.y), sine, out);
+        norm_roots(Harmonic::from(q4.x), Harmonic::from(q4.y), sine, out);
     }
 }
 
@@ -103,16 +106,17 @@ fn bend_marks(cos5: &Polar, q4: &Ray, marks: &Marks, out: &mut Angles)
 
 // All boundary angles of a free joint.
 #[tactic(auto, unfolding(crate::specs::SampleAngles::roots, crate::specs::Bends::all_roots))]
-pub(crate) fn all_roots(f: &Free, out: &mut Angles)
-    requires { array_vec_len out.old ≡ 0 }
-    ensures { out.new.items ≡ roots f.now }
+pub(crate) fn all_roots(f: &Free) -> Angles
+    ensures { result.items ≡ roots f.now }
 {
+    let mut out = ArrayVec::new();
     let w = &f.wrist;
     let cos5 = Polar::new(w.cos5);
     out.push(f.near);
-    poles(&cos5, out);
-    ray_angles(&w.q4, &f.fourth, out);
-    bend_marks(&cos5, &w.q4, &f.fifth, out);
-    sixth_angles(w, &f.fourth, &f.sixth, out);
+    poles(&cos5, &mut out);
+    ray_angles(&w.q4, &f.fourth, &mut out);
+    bend_marks(&cos5, &w.q4, &f.fifth, &mut out);
+    sixth_angles(w, &f.fourth, &f.sixth, &mut out);
     out.push(f.limits.center);
+    out
 }

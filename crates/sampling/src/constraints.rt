@@ -21,21 +21,22 @@ fn arc(a: f64, b: f64) -> f64
     rem_euclid(end - start, TWO_PI)
 }
 
-// The centre and the tolerance of the limits from a to b.
+// The centre and the tolerance of the limits from a to b. A NaN centre stands for limits that are not
+// finite, and no Option: the definition has it so, and every test on it is false, as in the Rust.
 #[tactic(auto, unfolding(crate::specs::Constraints::compute_center, crate::proofs::Literals::of_bits, crate::proofs::Literals::div))]
 pub fn compute_center(a: f64, b: f64) -> Center
     ensures { result ≡ Constraints.compute_center a b }
 {
     if !is_finite(a) | !is_finite(b) {
         return Center {
-            center: 0.0 / 0.0,
-            tolerance: 0.0 / 0.0,
+            center: f64::NAN,
+            tolerance: f64::NAN,
         };
     }
     if a == b {
         return Center {
             center: 0.0,
-            tolerance: 1.0 / 0.0,
+            tolerance: f64::INFINITY,
         };
     }
     if a < b {

@@ -9,6 +9,7 @@ ghost use Rattle.sampling.specs.CriticalSlices as Of;
 ghost use Rattle.sampling.specs.Promises.Numerators.{polynomials_of, meetings};
 
 use crate::boundaries::CURVES;
+use crate::samples::Interval;
 use crate::work::Cuts;
 use arrayvec::ArrayVec;
 use float::arc::atan;
@@ -30,10 +31,11 @@ pub struct Chart {
 
 // The chart of a part of joint 1's interval.
 #[tactic(auto, unfolding(crate::specs::CriticalSlices::chart, crate::proofs::Literals::of_bits))]
-pub(crate) fn chart_of(lower: f64, upper: f64) -> Chart
-    requires { Bounded (Of.chart lower upper) }
-    ensures { plain result ≡ Of.chart lower upper }
+pub(crate) fn chart_of(part: Interval) -> Chart
+    requires { Bounded (Of.chart part.lower part.upper) }
+    ensures { plain result ≡ Of.chart part.lower part.upper }
 {
+    let Interval { lower, upper } = part;
     let origin = middle(lower, upper);
     let bounds = Bounds {
         lower: tan((lower - origin) / 2.0),

@@ -79,22 +79,16 @@ pub(crate) fn folded_of(job: Job) -> Folded
 }
 
 // The cuts of one half, in the front of the slice.
-fn half_cuts(
-    work: &mut [f64],
-    curves: &[Curve],
-    bends: &[f64],
-    lower: f64,
-    upper: f64,
-) -> Option<usize>
-    requires { (length curves.now ≤ most_curves) × Bounded (chart lower upper) }
-    ensures { Kept (half_values curves.now bends.now lower upper) work.old work.new result }
+fn half_cuts(work: &mut [f64], curves: &[Curve], bends: &[f64], half: Interval) -> Option<usize>
+    requires { (length curves.now ≤ most_curves) × Bounded (chart half.lower half.upper) }
+    ensures { Kept (half_values curves.now bends.now half.lower half.upper) work.old work.new result }
 {
-    let c = chart_of(lower, upper);
+    let c = chart_of(half);
     let mut cuts = Cuts::new(work);
-    cuts.push(lower);
-    cuts.push(upper);
+    cuts.push(half.lower);
+    cuts.push(half.upper);
     critical(&mut cuts, c, curves);
-    all_copies(&mut cuts, Interval { lower, upper }, bends);
+    all_copies(&mut cuts, half, bends);
     cuts.count
 }
 
@@ -130,14 +124,18 @@ fn cut_halves(work: &mut [f64], t: &Folded, lower: f64, upper: f64) -> Option<Pl
     let curves = boundaries(t);
     let curves = curves.as_slice();
     let m = middle(lower, upper);
-    let first = half_cuts(work, curves, bends, lower, m);
+    let first = half_cuts(work, curves, bends, Interval { lower, upper: m });
     let start = start_of(first, work.len());
-    let second = half_cuts(&mut work[start..], curves, bends, m, upper);
+    let second = half_cuts(
+        &mut work[start..],
+        curves,
+        bends,
+        Interval { lower: m, upper },
+    );
     halves_of(t.reference, first, second)
 }
 
 // The cuts of both halves of joint 1's interval; where it has none there is no cut and no angle.
-#[tactic(auto, using(crate::proofs::Laid::all_three), unfolding(crate::specs::J1j2free::cut_count, crate::specs::Promises::Plan::folded_plan, crate::specs::Promises::Plan::folded_cuts))]
 pub(crate) fn cut(work: &mut [f64], t: &Folded) -> Option<Plan>
     requires { Charted t.now.range1 }
     ensures value { result ≡ granted (Of.cut_count t.now) (folded_plan t.now) (length work.old) }

@@ -1,5 +1,5 @@
 // How a job's cuts stand in the work slice, and the samples of three intervals that are read off them.
-ghost use Rattle.std.specs.Prelude.{◌≡◌, ◌+◌, ◌-◌, ◌≤◌, length, take, drop, slice_get};
+ghost use Rattle.std.specs.Prelude.{◌≡◌, ◌+◌, ◌≤◌, length, take, drop, slice_get};
 ghost use Rattle.sampling.specs.Samples as Of;
 ghost use Rattle.sampling.specs.Promises.Plan.{countable};
 
@@ -48,15 +48,6 @@ pub(crate) fn angle_count(n: Lists) -> usize
     sample_count(n.first) + sample_count(n.second) + sample_count(n.third)
 }
 
-// The i-th sample of the cuts in the places from `start` to `end`.
-fn part_at(work: &[f64], start: usize, end: usize, i: usize) -> Option<f64>
-    requires start_le_end { start ≤ end }
-    requires end_in_bounds { end ≤ length work.now }
-    ensures { result ≡ slice_get (Of.samples (take (end - start) (drop start work.now))) i }
-{
-    sample_at(&work[start..end], i)
-}
-
 // The i-th sample of all; behind the last there is none.
 #[tactic(auto, using(crate::proofs::lists::Parts::parts))]
 pub(crate) fn angle_at(work: &[f64], n: Lists, i: usize) -> Option<f64>
@@ -67,12 +58,12 @@ pub(crate) fn angle_at(work: &[f64], n: Lists, i: usize) -> Option<f64>
 {
     let first = sample_count(n.first);
     if i < first {
-        return part_at(work, 0, n.first, i);
+        return sample_at(&work[..n.first], i);
     }
     let start = n.first + n.second;
     let both = first + sample_count(n.second);
     if i < both {
-        return part_at(work, n.first, start, i - first);
+        return sample_at(&work[n.first..start], i - first);
     }
-    part_at(work, start, start + n.third, i - both)
+    sample_at(&work[start..start + n.third], i - both)
 }

@@ -117,7 +117,6 @@ fn second_free(job: Job) -> Free
 }
 
 // Puts a job's cuts into work, whatever it held.
-#[tactic(auto, unfolding(crate::specs::Promises::Plan::plan, crate::specs::Promises::Plan::laid, crate::specs::Promises::Plan::all_cuts, crate::specs::Angles::cut_count, crate::specs::J1j2free::folded))]
 fn cut(work: &mut [f64], job: Job) -> Option<Plan>
     requires { Drawable job }
     ensures value { result ≡ Of.plan job (length work.old) }

@@ -14,7 +14,6 @@ use crate::lists::{Lists, Plan};
 use crate::marks::{Marks, marks_of, model_angle};
 use crate::samples::interval_cuts;
 use crate::wrist::{Wrist, wrist_of};
-use arrayvec::ArrayVec;
 use float::number::is_finite;
 use float::trig::P;
 
@@ -101,14 +100,12 @@ fn cut_intervals(work: &mut [f64], near: f64, three: Intervals, roots: &[f64]) -
 }
 
 // The cuts of a free joint, in the front of work.
-#[tactic(auto, using(crate::proofs::Laid::all_three), unfolding(crate::specs::SampleAngles::cut_count, crate::specs::SampleAngles::first_cuts, crate::specs::SampleAngles::second_cuts, crate::specs::SampleAngles::third_cuts, crate::specs::Promises::Plan::free_plan, crate::specs::Promises::Plan::free_cuts, crate::specs::SampleAngles::intervals))]
 pub(crate) fn cut(work: &mut [f64], f: &Free) -> Option<Plan>
     ensures value { result ≡ granted (Of.cut_count f.now) (free_plan f.now) (length work.old) }
     ensures work_after { IfSome result (λ p. work.new ≡ free_cuts f.now ++ drop (Of.cut_count f.now) work.old) }
 {
     if is_finite(f.near) {
-        let mut roots = ArrayVec::new();
-        all_roots(f, &mut roots);
+        let roots = all_roots(f);
         let three = wrist_limit_intervals(f.limits, f.near, 1.0);
         return cut_intervals(work, f.near, three, &roots);
     }

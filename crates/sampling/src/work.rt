@@ -1,6 +1,6 @@
 // Cuts in the lent work slice.
-ghost use Rattle.std.specs.Prelude.{◌≡◌, [], ◌∷◌, Some, length};
-ghost use Rattle.sampling.specs.Promises.Grown.{Grown};
+ghost use Rattle.std.specs.Prelude.{◌≡◌, [], ◌∷◌, ◌≤◌, Some, length};
+ghost use Rattle.std.specs.Option.{ForSome};
 ghost use Rattle.sampling.specs.Promises.Plan.{zeros};
 
 use polynomial::cuts::insert;
@@ -10,9 +10,12 @@ use polynomial::cuts::insert;
 pub struct Cuts<'a> {
     pub work: &'a mut [f64],
     pub count: Option<usize>,
+    ghost within: { ForSome count (λ n. n ≤ length work.now) },
 }
 
 impl<'a> Cuts<'a> {
+    ghost use Rattle.sampling.specs.Promises.Grown.{Grown};
+
     // No cut yet.
     #[inline]
     pub(crate) fn new(work: &'a mut [f64]) -> Self
@@ -35,10 +38,6 @@ impl<'a> Cuts<'a> {
         let Some(n) = self.count else {
             return;
         };
-        if self.work.len() < n {
-            self.count = None;
-            return;
-        }
         self.count = insert(self.work, n, v);
     }
 }

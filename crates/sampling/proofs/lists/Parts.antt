@@ -1,4 +1,4 @@
--- The i-th sample of three lists that stand one after the other, by what `part_at` says of the list in which it lies.
+-- The i-th sample of three lists that stand one after the other, by what `sample_at` says of the list in which it lies.
 use Prim.Native.Nat.{ℕ, ◌+◌, ◌-◌, ◌<◌, ◌≤◌}
 use native.Mathlib.Omega.{arith}
 use mathlib.Core.Path.{◌≡◌, sym, ◌∙◌}
@@ -10,7 +10,7 @@ use lib.Ieee.{Float}
 use Rattle.sampling.specs.Samples.{samples, sample_count, three_samples}
 use Rattle.sampling.proofs.Laws.Samples.{three_first, three_second, three_third}
 
--- the three lists in w, of x, y and z cuts, where k and m are the numbers of samples of the first two; r is what `part_at` gave
+-- the three lists in w, of x, y and z cuts, where k and m are the numbers of samples of the first two; r is what `sample_at` gave
 module _ (w : List Float) (x y z : ℕ) (h : x + y + z ≤ length w) (i : ℕ) (r : Option Float) where
   abbrev first : List Float
   first = take x w

@@ -1,14 +1,11 @@
 -- `sampling::work::Cuts::push` meets its contract: at each return, what the calls and the tests on the way to it say.
 use mathlib.Core.Path.{refl}
 use borrow.Author.Rules.{rules}
-use Rattle.sampling.proofs.Grown.{one, beyond}
+use Rattle.sampling.proofs.Grown.{one}
 use Rattle.sampling.proofs.work.Cuts.push.Goals as goal
 
 pub returns-in_default : goal.returns-in_default
 returns-in_default c = one _ _ c.args.v (search rules) refl refl (rw c.in_default.is) (rw c.in_default.is)
-
-pub returns-then-self-n : goal.returns-then-self-n
-returns-then-self-n c = beyond _ _ _ c.args.v (search rules) refl refl c.in-Some.is c.if-self-n.true
 
 pub returns : goal.returns
 returns c = one _ _ c.args.v (search rules) refl c.insert-self.auto.room (rw c.in-Some.is c.insert-self.ensures.value)
