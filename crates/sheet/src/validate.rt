@@ -12,7 +12,7 @@ use crate::request::{Field, NAME, RESERVED, Shape, field_read, place, request_si
 use crate::view::View;
 use float::number::is_finite;
 use float::trig::TWO_PI;
-use sampling::pose::{Degenerate, Quaternion, try_normalize};
+use sampling::pose::{Quaternion, try_normalize};
 
 // Whether the bytes are zero.
 fn all_zero(bytes: &[u8]) -> bool
@@ -156,11 +156,8 @@ fn validate_fields(view: View, q: Quaternion) -> Result<Quaternion, Refusal>
 fn validate_rotation(view: View) -> Result<Quaternion, Refusal>
     ensures { result ≡ Promise.tested_rotation view.entry.request.now (Pose.try_normalize (Fields.rotation_of view.entry.request.now)) }
 {
-    match try_normalize(view.rotation()) {
-        Ok(unit) => validate_fields(view, unit),
-        Err(Degenerate::NotFinite) => Err(Refusal::NotFinite),
-        Err(Degenerate::Zero) => Err(Refusal::Zero),
-    }
+    let q = try_normalize(view.rotation())?;
+    validate_fields(view, q)
 }
 
 // The first of refusals 1 to 8 that a request of an edition meets, in order, 41 after 2; where none
