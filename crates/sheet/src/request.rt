@@ -59,8 +59,9 @@ pub(crate) fn request_size(e: Edition) -> usize
     }
 }
 
-// The shape of the three bytes, if each is right. An Option and no `TryFrom`, since what is read is asked
-// of an Option too.
+// The shape of the three bytes, if each is right. An Option and no `TryFrom`: the definitions say of any
+// bytes what is read, the blank and the job, so that these go on with an Option, and an error would be
+// thrown away.
 #[tactic(auto, unfolding(crate::specs::Request::shape_from, crate::specs::Request::shape_fixed, crate::specs::Request::shape_by))]
 pub(crate) fn shape_from(kind: u8, limits: u8, fixed: u8) -> Option<Shape>
     ensures { result ≡ Request.shape_from kind limits fixed }
