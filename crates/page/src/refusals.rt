@@ -27,6 +27,7 @@ impl Numbered for Refusal {
 
     ghost number = { Operation.number };
 
+    // A match, and no discriminants: an enum whose variants hold values has none.
     fn number(self) -> u8 {
         match self {
             Refusal::Sheet(f) => f.number(),

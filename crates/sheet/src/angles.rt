@@ -4,7 +4,7 @@ ghost use Rattle.sampling.specs.Samples as Samples;
 ghost use Rattle.sampling.specs.Promises.Plan.{all_samples};
 ghost use Rattle.sheet.specs.Promises.Floats as Floats;
 
-use crate::bytes::put_float;
+use crate::bytes::float_bytes;
 use sampling::lists::{Lists, sample_count};
 use sampling::samples::between;
 
@@ -13,8 +13,9 @@ fn put_list(output: &mut [u8], list: &[f64])
     requires { length output.old ≡ 8 * length list.now }
     ensures { output.new ≡ Floats.floats_bytes list.now }
 {
+    // output by the index: what is written through `chunks_exact_mut` is not known afterwards
     for (i, x) in list.iter().enumerate() {
-        put_float(&mut output[8 * i..8 * i + 8], *x);
+        output[8 * i..8 * i + 8].copy_from_slice(&float_bytes(*x));
     }
 }
 

@@ -34,9 +34,8 @@ pub(crate) fn float_at(s: &[u8], at: usize) -> f64
 
 // The eight bytes of a float.
 #[tactic(auto, unfolding(crate::specs::Bytes::bytes))]
-pub(crate) fn put_float(out: &mut [u8], x: f64)
-    requires { length out.old ≡ 8 }
-    ensures { out.new ≡ Floats.float_bytes x }
+pub(crate) fn float_bytes(x: f64) -> [u8; 8]
+    ensures { result ≡ Floats.float_bytes x }
 {
-    out.copy_from_slice(&bits(x).to_le_bytes());
+    bits(x).to_le_bytes()
 }

@@ -1,6 +1,7 @@
 // The operation Check: whether a sheet is the one that its edition lays out for the request inside
 // it.
-ghost use Rattle.std.specs.Prelude.{◌≡◌, ◌+◌, ◌^◌, ◌<◌, ◌≤◌, length};
+ghost use Rattle.std.specs.Prelude.{◌≡◌, ◌+◌, ◌^◌, ◌<◌, ◌≤◌, length, Some, None, MatchResult};
+ghost use Rattle.sheet.specs.declared.refusals.Fault.TheVariants.{Trailer};
 ghost use Rattle.sampling.specs.Promises.Stream.{start};
 ghost use Rattle.sampling.specs.Promises.Plan.{to_come};
 ghost use Rattle.sheet.specs.Bytes as Bytes;
@@ -12,7 +13,7 @@ ghost use Rattle.sheet.specs.Check as Check;
 ghost use Rattle.sheet.specs.Promises.Plan as Promise;
 
 use crate::bytes::bytes_at;
-use crate::edition::{Edition, known};
+use crate::edition::Edition;
 use crate::plan::plan_request;
 use crate::refusals::Fault;
 use crate::request::unread_zero;
@@ -84,11 +85,12 @@ impl Sheet<'_> {
     }
 
     // The edition that the trailer says.
-    fn edition(self) -> Option<Edition>
-        ensures { result ≡ known newest (Check.edition_of self.entry.bytes.now) }
+    fn edition(self) -> Result<Edition, Fault>
+        ensures { MatchResult result (λ e. known newest (Check.edition_of self.entry.bytes.now) ≡ Some e)
+            (λ f. (f ≡ Trailer) × (known newest (Check.edition_of self.entry.bytes.now) ≡ None)) }
     {
         let at = self.bytes.len() - TRAILER;
-        known(u16::from_le_bytes(bytes_at(self.bytes, at + 8)))
+        Edition::try_from(u16::from_le_bytes(bytes_at(self.bytes, at + 8)))
     }
 
     // 32: the length is that of as many angles as the trailer says, their bytes are a u32, and the
@@ -138,7 +140,7 @@ fn inspect(bytes: &[u8], work: &mut [f64]) -> Result<usize, Fault>
         return Err(Fault::Length);
     }
     let sheet = Sheet { bytes };
-    let e = sheet.edition().ok_or(Fault::Trailer)?;
+    let e = sheet.edition()?;
     sheet.inspect_edition(e, work)
 }
 

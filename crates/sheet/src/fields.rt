@@ -8,7 +8,8 @@ use crate::view::View;
 use sampling::job::{Arm, Job, Joint, Kind};
 use sampling::pose::{Matrix, Quaternion};
 
-// What stands for a wrong kind or flag, which is refused.
+// What stands for a wrong kind or flag. `job` is asked of any view, as its definition is of any bytes, and
+// this is what the definition says then; such a request is refused before its job is looked at.
 const REFUSED: Shape = Shape {
     kind: Kind::J1free,
     limits: false,

@@ -1,20 +1,37 @@
-// What Sampling refuses and what is wrong with a sheet, and the papers' number of each.
+// What Sampling refuses and what is wrong with a sheet, each with the papers' number.
+ghost use Rattle.std.specs.Prelude.{◌≡◌};
+
 use polynomial::refusals::Numbered;
+use sampling::pose::Degenerate;
 
 // The refusals of Sampling, in their order.
 #[derive(Clone, Copy)]
 pub enum Refusal {
-    Length,
-    Head,
-    Name,
-    Sign,
-    NotFinite,
-    Zero,
-    Arm,
-    Reference,
-    Offset,
-    Work,
-    Output,
+    Length = 1,
+    Head = 2,
+    Name = 41,
+    Sign = 3,
+    NotFinite = 4,
+    Zero = 5,
+    Arm = 6,
+    Reference = 7,
+    Offset = 8,
+    Work = 10,
+    Output = 11,
+}
+
+impl From<Degenerate> for Refusal {
+    ghost use Rattle.sheet.specs.Promises.Tested as Promise;
+
+    ghost from_gives = { λ d r. r ≡ Promise.refusal_of d };
+
+    #[tactic(auto, unfolding(crate::specs::Promises::Tested::refusal_of))]
+    fn from(d: Degenerate) -> Refusal {
+        match d {
+            Degenerate::NotFinite => Refusal::NotFinite,
+            Degenerate::Zero => Refusal::Zero,
+        }
+    }
 }
 
 impl Numbered for Refusal {
@@ -23,31 +40,19 @@ impl Numbered for Refusal {
     ghost number = { Refusals.number };
 
     fn number(self) -> u8 {
-        match self {
-            Refusal::Length => 1,
-            Refusal::Head => 2,
-            Refusal::Name => 41,
-            Refusal::Sign => 3,
-            Refusal::NotFinite => 4,
-            Refusal::Zero => 5,
-            Refusal::Arm => 6,
-            Refusal::Reference => 7,
-            Refusal::Offset => 8,
-            Refusal::Work => 10,
-            Refusal::Output => 11,
-        }
+        self as u8
     }
 }
 
 // The refusals of Check, in their order.
 #[derive(Clone, Copy)]
 pub enum Fault {
-    Length,
-    Trailer,
-    Request,
-    Unread,
-    Work,
-    Angles,
+    Length = 31,
+    Trailer = 32,
+    Request = 33,
+    Unread = 34,
+    Work = 35,
+    Angles = 36,
 }
 
 impl Numbered for Fault {
@@ -56,13 +61,6 @@ impl Numbered for Fault {
     ghost number = { Refusals.fault_number };
 
     fn number(self) -> u8 {
-        match self {
-            Fault::Length => 31,
-            Fault::Trailer => 32,
-            Fault::Request => 33,
-            Fault::Unread => 34,
-            Fault::Work => 35,
-            Fault::Angles => 36,
-        }
+        self as u8
     }
 }

@@ -59,8 +59,9 @@ pub(crate) fn request_size(e: Edition) -> usize
     }
 }
 
-// The shape of the three bytes, if each is right. An Option and no `TryFrom`, since what is read is asked
-// of an Option too.
+// The shape of the three bytes, if each is right. An Option and no `TryFrom`: the definitions say of any
+// bytes what is read, the blank and the job, so that these go on with an Option, and an error would be
+// thrown away.
 #[tactic(auto, unfolding(crate::specs::Request::shape_from, crate::specs::Request::shape_fixed, crate::specs::Request::shape_by))]
 pub(crate) fn shape_from(kind: u8, limits: u8, fixed: u8) -> Option<Shape>
     ensures { result ≡ Request.shape_from kind limits fixed }
@@ -146,27 +147,30 @@ pub(crate) fn place(f: Field, j: usize) -> usize
 
 // The first sixteen bytes of the request, each zero where it is not read. What is left to write then is
 // what stands behind them.
-fn put_head(out: &mut [u8], request: &[u8], s: Option<Shape>)
-    requires { (Request.core_size ≤ length request.now) × (length out.old ≡ length request.now) }
-    ensures { sets out.new 16 (Request.blank_from s 16 (drop 16 request.now)) ≡ sets out.old 0 (Request.blank_from s 0 request.now) }
+fn put_head(out: &mut [u8], view: View)
+    requires { length out.old ≡ length view.request.now }
+    ensures { let r = view.entry.request.now in
+        sets out.new 16 (Request.blank_from (Request.shape_of r) 16 (drop 16 r)) ≡ sets out.old 0 (Request.blank r) }
 {
+    let s = view.shape();
     for i in 0..ROTATION {
-        let b = if byte_read(s, i) { request[i] } else { 0 };
+        let b = if byte_read(s, i) { view.request[i] } else { 0 };
         out[i] = b;
     }
 }
 
 // The fields from the rotation to the name, eight bytes each, which are read or not together. What is
 // left to write then is the name.
-fn put_fields(out: &mut [u8], request: &[u8], s: Option<Shape>)
-    requires { (Request.core_size ≤ length request.now) × (length out.old ≡ length request.now) }
-    ensures { sets out.new 264 (Request.blank_from s 264 (drop 264 request.now)) ≡
-        sets out.old 16 (Request.blank_from s 16 (drop 16 request.now)) }
+fn put_fields(out: &mut [u8], view: View)
+    requires { length out.old ≡ length view.request.now }
+    ensures { let r = view.entry.request.now in
+        sets out.new 264 (Request.blank_from (Request.shape_of r) 264 (drop 264 r)) ≡
+        sets out.old 16 (Request.blank_from (Request.shape_of r) 16 (drop 16 r)) }
 {
-    for k in ROTATION / 8..NAME / 8 {
-        let i = 8 * k;
+    let s = view.shape();
+    for i in (ROTATION..NAME).step_by(8) {
         let field = if byte_read(s, i) {
-            bytes_at(request, i)
+            bytes_at(view.request, i)
         } else {
             [0; 8]
         };
@@ -179,9 +183,8 @@ pub(crate) fn put_blank(out: &mut [u8], view: View)
     requires { length out.old ≡ length view.request.now }
     ensures { out.new ≡ Request.blank view.entry.request.now }
 {
-    let s = view.shape();
-    put_head(out, view.request, s);
-    put_fields(out, view.request, s);
+    put_head(out, view);
+    put_fields(out, view);
     out[NAME..].copy_from_slice(&view.request[NAME..]);
 }
 

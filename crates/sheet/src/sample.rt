@@ -11,7 +11,7 @@ ghost use Rattle.sheet.specs.Sampling as Sampling;
 ghost use Rattle.sheet.specs.Promises.Plan as Promise;
 
 use crate::angles::put_lists;
-use crate::bytes::put_float;
+use crate::bytes::float_bytes;
 use crate::edition::Edition;
 use crate::plan::plan_request;
 use crate::refusals::Refusal;
@@ -35,13 +35,15 @@ fn put_angles(output: &mut [u8], planned: &Planned)
     put_stream(output, planned);
 }
 
-// The same, as they come one at a time.
+// The same, as they come one at a time. `put_lists` stands beside it for speed: the cuts of one free joint
+// lie in work as they are written, where each step of `angles` would ask which list it is in.
 fn put_stream(output: &mut [u8], planned: &Planned)
     requires { length output.old ≡ 8 * length (to_come planned.now.plan planned.now.work.now start) }
     ensures { output.new ≡ Floats.floats_bytes (to_come planned.now.plan planned.now.work.now start) }
 {
+    // output by the index: what is written through `chunks_exact_mut` is not known afterwards
     for (i, y) in planned.angles().enumerate() {
-        put_float(&mut output[8 * i..8 * i + 8], y);
+        output[8 * i..8 * i + 8].copy_from_slice(&float_bytes(y));
     }
 }
 

@@ -1,5 +1,5 @@
 // The tests that a request must pass: refusals 1 to 8 and 41.
-ghost use Rattle.std.specs.Prelude.{◌≡◌, ◌≤◌};
+ghost use Rattle.std.specs.Prelude.{◌≡◌, ◌≤◌, ◌||◌, eqb};
 ghost use Rattle.sampling.specs.Pose as Pose;
 ghost use Rattle.sheet.specs.Request as Request;
 ghost use Rattle.sheet.specs.Fields as Fields;
@@ -8,11 +8,11 @@ ghost use Rattle.sheet.specs.Promises.Tested as Promise;
 
 use crate::edition::Edition;
 use crate::refusals::Refusal;
-use crate::request::{Field, NAME, RESERVED, Shape, field_read, place, request_size};
+use crate::request::{Field, NAME, RESERVED, field_read, place, request_size};
 use crate::view::View;
 use float::number::is_finite;
 use float::trig::TWO_PI;
-use sampling::pose::{Degenerate, Quaternion, try_normalize};
+use sampling::pose::{Quaternion, try_normalize};
 
 // Whether the bytes are zero.
 fn all_zero(bytes: &[u8]) -> bool
@@ -58,31 +58,19 @@ fn name_right(view: View) -> bool
     is_name(&view.request[NAME..])
 }
 
-#[tactic(auto, unfolding(crate::specs::Validate::sign_right))]
-fn sign_right(s: Option<Shape>, view: View, j: usize) -> bool
-    requires { (1 ≤ j) × (j ≤ 6) }
-    ensures { result ≡ Validate.sign_right s view.entry.request.now j }
+// Whether a byte is a sign's.
+fn is_sign(b: u8) -> bool
+    ensures { result ≡ (eqb b 1 || eqb b 255) }
 {
-    if field_read(s, Field::Sign, j) {
-        let at = place(Field::Sign, j);
-        let b = view.request[at];
-        return b == 1 || b == 255;
-    }
-    true
+    b == 1 || b == 255
 }
 
 // 3: a read sign is 1 or 255.
-#[tactic(auto, using(crate::proofs::validate::Steps::tests), unfolding(crate::specs::Validate::signs_right))]
 fn signs_right(view: View) -> bool
     ensures { result ≡ Validate.signs_right view.entry.request.now }
 {
     let s = view.shape();
-    for j in 1..7 {
-        if !sign_right(s, view, j) {
-            return false;
-        }
-    }
-    true
+    (1..7).all(|j| !field_read(s, Field::Sign, j) || is_sign(view.request[place(Field::Sign, j)]))
 }
 
 // Whether x lies between minus the bound and the bound; a NaN does not.
@@ -108,30 +96,13 @@ fn passes(f: Field, x: f64) -> bool
     }
 }
 
-#[tactic(auto, unfolding(crate::specs::Validate::field_right))]
-fn field_right(s: Option<Shape>, f: Field, view: View, j: usize) -> bool
-    requires { (1 ≤ j) × (j ≤ 6) }
-    ensures { result ≡ Validate.field_right s f view.entry.request.now j }
-{
-    if field_read(s, f, j) {
-        return passes(f, view.field(f, j));
-    }
-    true
-}
-
 // Whether the read fields of a class, of which there are n, pass.
-#[tactic(auto, using(crate::proofs::validate::Steps::tests))]
 fn fields_right(f: Field, view: View, n: usize) -> bool
     requires { n ≤ 6 }
     ensures { result ≡ Validate.all_from n 1 (Validate.field_right (Request.shape_of view.entry.request.now) f view.entry.request.now) }
 {
     let s = view.shape();
-    for j in 1..n + 1 {
-        if !field_right(s, f, view, j) {
-            return false;
-        }
-    }
-    true
+    (1..n + 1).all(|j| !field_read(s, f, j) || passes(f, view.field(f, j)))
 }
 
 // 6 to 8: arm angles, references, offsets; for a rotation that is normalized to q.
@@ -156,11 +127,8 @@ fn validate_fields(view: View, q: Quaternion) -> Result<Quaternion, Refusal>
 fn validate_rotation(view: View) -> Result<Quaternion, Refusal>
     ensures { result ≡ Promise.tested_rotation view.entry.request.now (Pose.try_normalize (Fields.rotation_of view.entry.request.now)) }
 {
-    match try_normalize(view.rotation()) {
-        Ok(unit) => validate_fields(view, unit),
-        Err(Degenerate::NotFinite) => Err(Refusal::NotFinite),
-        Err(Degenerate::Zero) => Err(Refusal::Zero),
-    }
+    let q = try_normalize(view.rotation())?;
+    validate_fields(view, q)
 }
 
 // The first of refusals 1 to 8 that a request of an edition meets, in order, 41 after 2; where none

@@ -14,6 +14,7 @@ pub struct View<'a> {
 
 impl View<'_> {
     // The shape of a request: its kind and flags, if they are right, on which it depends what is read.
+    // Each who asks takes it anew, of three bytes: as a field it would ask of a view that they are right.
     #[tactic(auto, unfolding(crate::specs::Request::shape_of))]
     pub(crate) fn shape(self) -> Option<Shape>
         ensures { result ≡ Request.shape_of self.entry.request.now }

@@ -18,7 +18,7 @@ use Rattle.sheet.specs.Fields.{field, rotation_of}
 use Rattle.sheet.specs.Refusals.{Answer, accepted, refused, need, number}
 use Rattle.sheet.specs.Validate.{all_from, head_right, name_right, signs_right, rotation_finite, rotation_nonzero, passes, field_right, fields_right}
 use Rattle.sheet.specs.Validate.{within, eight, arm_within, references_finite, offsets_within, validate}
-use Rattle.sheet.specs.Promises.Tested.{tested_fields, tested_rotation, tested, after, Passed}
+use Rattle.sheet.specs.Promises.Tested.{refusal_of, tested_fields, tested_rotation, tested, after, Passed}
 use Rattle.sheet.specs.declared.refusals.Refusal.TheVariants as refusal
 
 pub need_holds : (b : Bool) (k n : ℕ) (v : Answer) → need b k v ≡ accepted n → b ≡ true
@@ -77,7 +77,7 @@ after_fields r q v =
 after_rotation : (r : List ℕ) (n : Normalized) (v : Answer)
     → after (tested_rotation r n) v
     ≡ need (rotation_finite n) 4 (need (rotation_nonzero n) 5 (need (arm_within r) 6 (need (references_finite r) 7 (need (offsets_within r) 8 v))))
-unfolding tested_rotation rotation_finite rotation_nonzero need
+unfolding tested_rotation refusal_of rotation_finite rotation_nonzero need
 after_rotation r (Ok q) v = after_fields r q v
 after_rotation r (Err NotFinite) v = refl
 after_rotation r (Err Zero) v = refl

@@ -2,6 +2,7 @@
 use Rattle.std.specs.Prelude.{ℕ, ◌≡◌, List, true, cond, length, eqb, Result, Ok, Err}
 use Rattle.sampling.specs.Pose.{Normalized, try_normalize}
 use Rattle.sampling.specs.declared.pose.Quaternion.{Quaternion}
+use Rattle.sampling.specs.declared.pose.Degenerate.{Degenerate}
 use Rattle.sampling.specs.declared.pose.Degenerate.TheVariants.{NotFinite, Zero}
 use Rattle.sheet.specs.declared.edition.Edition.{Edition}
 use Rattle.sheet.specs.declared.refusals.Refusal.{Refusal}
@@ -18,11 +19,15 @@ tested_fields r q =
     (cond (references_finite r) (cond (offsets_within r) (Ok q) (Err refusal.Offset)) (Err refusal.Reference))
     (Err refusal.Arm)
 
+-- 4 and 5
+unfoldable pub refusal_of : Degenerate → Refusal
+refusal_of NotFinite = refusal.NotFinite
+refusal_of Zero = refusal.Zero
+
 -- 4 to 8
 unfoldable pub tested_rotation : List ℕ → Normalized → Result Quaternion Refusal
 tested_rotation r (Ok q) = tested_fields r q
-tested_rotation r (Err NotFinite) = Err refusal.NotFinite
-tested_rotation r (Err Zero) = Err refusal.Zero
+tested_rotation r (Err d) = Err (refusal_of d)
 
 -- 1 to 8 and 41
 unfoldable pub tested : Edition → List ℕ → Result Quaternion Refusal

@@ -13,9 +13,10 @@ loop-i-preserved c = let l = c.loop-i in
     let list = c.args.list.now in
     let to : 8 * (l.i + 1) ≡ 8 * l.i + 8 = omega arith in
     let x = get_or list l.i nan in
-    let h = put_next l.output c.put_float.new.out (floats_bytes (drop (l.i + 1) list)) (floats_bytes (drop l.i list)) (8 * l.i) (8 * l.i + 8)
-    (omega (arith, ap length c.put_float.ensures, length_float x)) (omega (arith, l.invariant.1, c.requires, c.loop-i-test.true))
-    (rw c.put_float.ensures (floats_left list l.i c.loop-i-test.true)) in
+    let q = c.copy_from_slice.ensures.after ∙ c.float_bytes.ensures in
+    let h = put_next l.output c.copy_from_slice.new.self (floats_bytes (drop (l.i + 1) list)) (floats_bytes (drop l.i list)) (8 * l.i) (8 * l.i + 8)
+    (omega (arith, ap length q, length_float x)) (omega (arith, l.invariant.1, c.requires, c.loop-i-test.true))
+    (rw q (floats_left list l.i c.loop-i-test.true)) in
     (omega arith, h.0 ∙ l.invariant.1, rw to h.1 ∙ l.invariant.2)
 
 pub returns : goal.returns

@@ -1,9 +1,8 @@
 -- The head, the fields and the name are the whole request.
-use Rattle.std.proofs.Common.{◌≡◌, arith, sym, ap, ◌∙◌, Option, length, drop, length-drop}
+use Rattle.std.proofs.Common.{◌≡◌, arith, sym, ap, ◌∙◌, length, drop, length-drop}
 use Rattle.std.proofs.lemmas.List.Edits.{sets}
 use Rattle.polynomial.specs.Laws.Lists.{tail_part}
-use Rattle.sampling.specs.declared.reads.Shape.{Shape}
-use Rattle.sheet.specs.Request.{blank_from}
+use Rattle.sheet.specs.Request.{blank_from, shape_of}
 use Rattle.sheet.specs.Laws.Bytes.{sets_all}
 use Rattle.sheet.specs.Laws.Blank.{length_blank}
 use Rattle.sheet.proofs.bytes.Same.{put_range}
@@ -13,7 +12,7 @@ use Rattle.sheet.proofs.request.put_blank.Goals as goal
 pub returns : goal.returns
 returns c = let v = c.args.view in
     let r = v.request.now in
-    let s = c.shape-s.result in
+    let s = shape_of r in
     let out = c.put_fields.new.out in
     let n : length out ≡ length r = omega (arith, c.put_fields.auto.out, c.put_head.auto.out, c.requires) in
     let q : c.copy_from_slice.new.self ≡ drop 264 r = c.copy_from_slice.ensures.after ∙ tail_part 264 r in
@@ -22,4 +21,3 @@ returns c = let v = c.args.view in
     ∙ ap (sets out 264) (q ∙ sym kept)
     ∙ c.put_fields.ensures ∙ c.put_head.ensures
     ∙ sets_all c.args.out.now (blank_from s 0 r) (omega (arith, length_blank s 0 r, c.requires))
-    ∙ ap (λ (t : Option Shape). blank_from t 0 r) c.shape-s.ensures

@@ -20,10 +20,11 @@ loop-i-preserved c = let l = c.loop-i in
     let before = l.i-iterator.iter in
     let after = c.next.new.self.iter in
     let others = to_come after.planned.plan after.planned.work.now after.cursor in
-    let h = put_next l.output c.put_float.new.out (floats_bytes others)
+    let q = c.copy_from_slice.ensures.after ∙ c.float_bytes.ensures in
+    let h = put_next l.output c.copy_from_slice.new.self (floats_bytes others)
     (floats_bytes (to_come before.planned.plan before.planned.work.now before.cursor)) (8 * n) (8 * n + 8)
-    (omega (arith, ap length c.put_float.ensures, length_float c.in-Some.y)) (omega (arith, left, k))
-    (rw c.put_float.ensures (ap floats_bytes came ∙ floats_bytes_cons c.in-Some.y others)) in (
+    (omega (arith, ap length q, length_float c.in-Some.y)) (omega (arith, left, k))
+    (rw q (ap floats_bytes came ∙ floats_bytes_cons c.in-Some.y others)) in (
       (tt, tt, inl (omega (arith, s.2, k, left, c.well_formed))),
       tt,
       rw s.1 (h.0 ∙ l.invariant.2),
