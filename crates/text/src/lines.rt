@@ -70,6 +70,7 @@ pub fn held(w: u64, most: usize) -> Option<usize>
 }
 
 // The bytes of k words whose digits stand from `at` on, 17 bytes apart, eight to a word, in out.
+// By the place, as the definition: of the words alone it would say what it says, and `bytes` cut them out.
 fn spell(line: &[u8], at: usize, k: usize, out: &mut [u8])
     requires { (0 < k → at + 17 * k ≤ length line.now) × (length out.old ≤ 8 * k) }
     ensures { out.new ≡ sets out.old 0 (Lines.bytes line.now at 0 (length out.old)) }
