@@ -23,7 +23,7 @@ pub(crate) fn put_based<const BASE: u64>(out: &mut [u8], n: u64)
     ensures { out.new ≡ Based.digits BASE (length out.old) n }
 {
     let mut left = n;
-    // by the index: what is written through `iter_mut().rev()` is not known afterwards, and so in `put_before`
+    // by the index: what is written through `iter_mut().rev()` is not known afterwards
     for i in (0..out.len()).rev() {
         out[i] = figure(left % BASE);
         left /= BASE;

@@ -13,7 +13,8 @@ pub fn put_digits(out: &mut [u8], n: u64)
     put_based::<10>(out, n);
 }
 
-// The byte before the digits that are left.
+// The byte before the digits that are left. The sign and the digits by themselves here and in the next
+// two: from column to column they change apart, and a struct would be made anew for each.
 #[tactic(auto, unfolding(crate::specs::Promises::Columns::mark))]
 fn mark(neg: bool, n: u64) -> u8
     ensures { result ≡ Columns.mark neg n }
@@ -32,6 +33,7 @@ fn put_before(out: &mut [u8], neg: bool, n: u64)
 {
     let mut minus = neg;
     let mut left = n;
+    // by the index: what is written through `iter_mut().rev()` is not known afterwards
     for i in (0..out.len()).rev() {
         out[i] = mark(minus, left);
         minus &= 0 < left;

@@ -12,7 +12,8 @@ fn is_digit(b: u8) -> bool
     matches!(b, b'0'..=b'9' | b'A'..=b'F')
 }
 
-// The value of a digit, and 0 for any other byte.
+// The value of a digit, and 0 for any other byte, as the definition has it: there an Option would be dealt
+// with at each digit, although `is_word` is asked before.
 #[tactic(auto, unfolding(crate::specs::Hex::digit))]
 fn digit(b: u8) -> u64
     ensures { result ≡ Hex.digit b }
@@ -31,7 +32,8 @@ fn are_digits(bytes: &[u8]) -> bool
     bytes.iter().all(|b| is_digit(*b))
 }
 
-// Whether the 16 bytes at `at` are digits.
+// Whether the 16 bytes at `at` are digits. The place is a number here and in `word` and `byte`, as in the
+// definitions: a caller who cut the bytes out would do so under the same clause.
 #[tactic(auto, using(crate::proofs::Spelled::digits_of_part))]
 pub fn is_word(s: &[u8], at: usize) -> bool
     requires { at + 16 ≤ length s.now }

@@ -34,7 +34,8 @@ pub(crate) fn print_refusal(text: &mut [u8], f: Fault) -> Option<usize>
     print_numbered(text, b"refused ", u64::from(f.number()), b"")
 }
 
-// The text, in the first bytes of what is lent; how many bytes it has, where as many are lent.
+// The text, in the first bytes of what is lent; how many bytes it has, where as many are lent. `pages_text`
+// differs in the Ok arm: with that as a closure, one function's clauses would say all three ends over it.
 #[tactic(auto, using(crate::proofs::Ends::checked_texts))]
 pub fn check_text(input: &[u8], text: &mut [u8]) -> Option<usize>
     ensures value { result ≡ Listing.printed (Listing.check_text input.now) (length text.old) }

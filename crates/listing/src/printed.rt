@@ -11,7 +11,8 @@ use text::decimal::put_number;
 // The bytes of a line: 16 digits and the line's end.
 const LINE: usize = 17;
 
-// The 16 digits of w and the line's end.
+// The 16 digits of w and the line's end. The length by clause: an array would be made of the slice by a
+// conversion that can fail.
 fn put_line(line: &mut [u8], w: u64)
     requires { length line.old ≡ 17 }
     ensures { line.new ≡ Hex.spelled 16 w ++ (10 ∷ []) }
@@ -32,7 +33,8 @@ fn put_lines(text: &mut [u8], items: &[u8])
     }
 }
 
-// The first line and those of the items, where they have room; how many bytes they are.
+// The first line and those of the items, where they have room; how many bytes they are. Into a slice, as
+// there is no heap, and no `Write`: where all of it has no room, none is written.
 #[tactic(auto, using(crate::proofs::Lines::fits_both, crate::proofs::Lines::fails, crate::proofs::Lines::length_text))]
 pub(crate) fn print(text: &mut [u8], head: &[u8], items: &[u8]) -> Option<usize>
     requires { (length head.now ≤ 32) × (length items.now ≤ 65536) }

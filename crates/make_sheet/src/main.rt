@@ -11,11 +11,10 @@ use text::report::deliver;
 fn answer(rt: &HostRuntime, request: &[u8]) {
     let mut output = [0u8; 65536];
     let mut error = [0u8; 32];
-    let made = make_text(request, &mut output, &mut error);
-    let sheet = made.output;
-    let line = made.error;
-    deliver(rt, &mut rt.stdout(), &output[..sheet]);
-    deliver(rt, &mut rt.stderr(), &error[..line]);
+    match make_text(request, &mut output, &mut error) {
+        Ok(n) => deliver(rt, &mut rt.stdout(), &output[..n]),
+        Err(n) => deliver(rt, &mut rt.stderr(), &error[..n]),
+    };
 }
 
 // One byte more than a request has, so that a longer one is refused.

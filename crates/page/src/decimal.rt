@@ -58,7 +58,8 @@ fn limit(neg: bool) -> u64
     if neg { MOST / 10 } else { MOST }
 }
 
-// n billionths in 16 columns: six for what stands before the point, the point, nine digits.
+// n billionths in 16 columns: six for what stands before the point, the point, nine digits. The length by
+// clause, as in `put_decimal`: of a part of a slice an array would be made by a conversion that can fail.
 #[tactic(auto, using(crate::proofs::Shown::point))]
 fn put_pointed(out: &mut [u8], b: Fixed)
     requires { length out.old ≡ 16 }

@@ -12,7 +12,8 @@ use sheet::bytes::word;
 // The bytes of a line: 64 characters and a line feed.
 pub const LINE: usize = 65;
 
-// The line of an angle, by its bits.
+// The line of an angle, by its bits. The length by clause, as in `put_head`: of a part of a slice an array
+// would be made by a conversion that can fail.
 #[tactic(auto, using(crate::proofs::Stores::line_is))]
 fn put_line(line: &mut [u8], place: u64, angle: u64)
     requires { (length line.old ≡ 65) × (place < 1000000) }

@@ -6,7 +6,8 @@ ghost use Rattle.text.specs.Numbered as Numbered;
 
 use itoa::Buffer;
 
-// The digits of n, written in the first bytes; how many they are.
+// The digits of n, written in the first bytes; how many they are. Into a slice, here and below: there is
+// no heap, and what is tested for room is how long a slice the caller lends.
 fn put_decimal(out: &mut [u8], n: u64) -> usize
     requires { 20 ≤ length out.old }
     ensures value { result ≡ length (Decimal.whole n) }

@@ -21,11 +21,7 @@ fn are_words(s: &[u8], k: usize) -> bool
     requires { 17 * k + 1 ≤ length s.now }
     ensures { result ≡ Lines.are_words s.now 1 k }
 {
-    let mut good = true;
-    for i in 0..k {
-        good &= s[17 * i + 1] == b' ' && hex::is_word(s, 17 * i + 2);
-    }
-    good
+    (0..k).all(|i| s[17 * i + 1] == b' ' && hex::is_word(s, 17 * i + 2))
 }
 
 // The line of k words with which s begins.
@@ -70,6 +66,7 @@ pub fn held(w: u64, most: usize) -> Option<usize>
 }
 
 // The bytes of k words whose digits stand from `at` on, 17 bytes apart, eight to a word, in out.
+// The place is a number, as in the definition.
 fn spell(line: &[u8], at: usize, k: usize, out: &mut [u8])
     requires { (0 < k → at + 17 * k ≤ length line.now) × (length out.old ≤ 8 * k) }
     ensures { out.new ≡ sets out.old 0 (Lines.bytes line.now at 0 (length out.old)) }

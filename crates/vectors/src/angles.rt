@@ -1,5 +1,4 @@
-// The trigonometry by its letters, on words: a float by its bits. A letter stays a byte and no enum:
-// reading it would be the same match once more.
+// The trigonometry by its letters, on words: a float by its bits. A letter stays a byte, as `marks` says.
 use float::number::{bits, of_bits};
 
 // A function of one operand.

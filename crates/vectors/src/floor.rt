@@ -1,6 +1,5 @@
 // The float floor's functions by their letters, on words: a float by its bits, a test by 1 or 0,
-// and floor's whole number in two's complement. A letter stays a byte and no enum: reading it would
-// be the same match once more.
+// and floor's whole number in two's complement. A letter stays a byte, as `marks` says.
 ghost use Rattle.std.specs.Prelude.{◌≤◌, IfSome};
 
 use float::number::{bits, of_bits};

@@ -1,5 +1,7 @@
 // Which lines a mark has, and who works them out: digits stand for the upper layers, letters for
-// functions on floats. A mark stays a byte and no enum: reading it would be the same match once more.
+// functions on floats. A mark stays a byte: `words` and `agrees` give different things for it, here and in
+// the modules, so an enum would be matched as often, and made of the byte by one match more; a table of
+// what replays each would need a function or closure of its own for each of the 32.
 ghost use Rattle.std.specs.Prelude.{◌≤◌, ◌<◌, IfSome, length};
 
 // The words that the line with which s begins has by its mark and its counts.

@@ -1,5 +1,5 @@
 // A stored call of Page, or a stored decimal, made anew.
-use crate::calls::{is_cleared, number};
+use crate::calls::{number, replays};
 use crate::digest::digest;
 use float::number::of_bits;
 use page::decimal::decimal_text;
@@ -15,18 +15,14 @@ pub(crate) fn decimal_agrees(line: &[u8]) -> Option<bool> {
     Some(found == 16 && text == stored)
 }
 
-// Whether Page answers as a line says, with the digest of the text that it says, and leaves the work
-// as it is to be.
+// Whether Page answers as a line says, with the digest of the text that it says.
 pub(crate) fn agrees(line: &[u8]) -> Option<bool> {
-    let n = held(word(line, 0)?, 4096)?;
-    let places = held(word(line, 2)?, 4096)?;
+    let page = word(line, 1)?;
     let room = held(word(line, 3)?, 8192)?;
-    let mut sheet = [0; 4096];
-    bytes(line, 6, &mut sheet[..n])?;
-    let mut work = [7.5; 4096];
     let mut text = [165; 8192];
-    let lent = &mut work[..places];
-    let found = number(page_text(&sheet[..n], word(line, 1)?, lent, &mut text[..room]));
-    let agrees = found == word(line, 4)? && digest(&text) == word(line, 5)?;
-    Some(agrees && is_cleared(&work, places))
+    let lent = &mut text[..room];
+    let agrees = replays(line, 6, word(line, 2)?, word(line, 4)?, |sheet, work| {
+        page_text(sheet, page, work, lent)
+    })?;
+    Some(agrees && digest(&text) == word(line, 5)?)
 }

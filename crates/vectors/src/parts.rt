@@ -1,6 +1,5 @@
 // A stored sample of module 4, worked out anew: the operands of the function that its mark names, and
-// the numbers of its answer. A mark stays a byte and no enum: reading it would be the same match once
-// more.
+// the numbers of its answer. A mark stays a byte, as `marks` says.
 ghost use Rattle.std.specs.Prelude.{◌+◌, ◌≤◌};
 
 use std::array::from_fn;

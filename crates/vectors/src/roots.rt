@@ -31,82 +31,53 @@ fn rubbish(i: usize) -> u64 {
     0xc3a5_5a3c_0000_0000 ^ i as u64
 }
 
-// Whether each place, by its bits, holds what it is to hold: one of m words of a line, from number
-// `first` on, or what it held before.
-fn hold<T, B: Fn(&T) -> u64, H: Fn(usize) -> u64>(
-    places: &[T],
-    bits: B,
-    line: &[u8],
-    first: usize,
-    m: usize,
-    before: H,
-) -> bool
-    requires words { (first ≤ 65536) × (m ≤ 512) }
+// Whether each place, by its bits, holds what it is to hold.
+fn hold<T, B: Fn(&T) -> u64, W: Fn(usize) -> Option<u64>>(places: &[T], bits: B, wanted: W) -> bool
     requires bits { B.IsAlwaysCallable bits }
-    requires before { H.IsAlwaysCallable before }
+    requires wanted { W.IsAlwaysCallable wanted }
 {
     for (i, place) in places.iter().enumerate() {
-        let wanted = if i < m {
-            word(line, first + i)
-        } else {
-            Some(before(i))
-        };
-        if Some(bits(place)) != wanted {
+        if Some(bits(place)) != wanted(i) {
             return false;
         }
     }
     true
 }
 
-// What a line says of its call beside the coefficients and the roots.
-#[derive(Clone, Copy)]
-struct Stored {
-    lower: u64,
-    upper: u64,
-    places: usize,
-    bytes: usize,
-    answer: u64,
-    ghost places_fit: { places ≤ 512 },
-    ghost bytes_fit: { bytes ≤ 512 },
-}
-
 // Whether the call on these coefficients has the expected answer, and every place of the slices and
-// behind them what it is to hold. The words of m roots begin with number `first`, those of their kinds
-// behind them.
-fn replays(line: &[u8], first: usize, m: usize, c: &[f64], call: Stored) -> bool
-    requires { (first ≤ 128) × (m ≤ 512) }
-{
+// behind them what it is to hold: a word of the line, or what it held before. In the line stand, from word
+// 1 on, the bounds, the places, the bytes, the answer, the roots and their kinds.
+fn replays(c: &[f64], line: &[u8]) -> Option<bool> {
+    let places = held(word(line, 3)?, 512)?;
+    let kept = held(word(line, 4)?, 512)?;
+    let answer = word(line, 5)?;
+    let m = stored_roots(answer)?;
     let mut result: [f64; 512] = from_fn(|i| of_bits(rubbish(i)));
     let mut kinds = [165; 512];
     let found = number(roots(
         c,
-        of_bits(call.lower),
-        of_bits(call.upper),
-        &mut result[..call.places],
-        &mut kinds[..call.bytes],
+        of_bits(word(line, 1)?),
+        of_bits(word(line, 2)?),
+        &mut result[..places],
+        &mut kinds[..kept],
     ));
-    found == call.answer
-        && hold(&result, |x| bits(*x), line, first, m, rubbish)
-        && hold(&kinds, |kind| u64::from(*kind), line, first + m, m, |_| 165)
-}
-
-// The same for a call of n floats.
-fn answers(line: &[u8], n: usize) -> Option<bool>
-    requires { n ≤ 64 }
-{
-    let call = Stored {
-        lower: word(line, n + 1)?,
-        upper: word(line, n + 2)?,
-        places: held(word(line, n + 3)?, 512)?,
-        bytes: held(word(line, n + 4)?, 512)?,
-        answer: word(line, n + 5)?,
+    let root = |i| if i < m {
+        word(line, i + 6)
+    } else {
+        Some(rubbish(i))
     };
-    let m = stored_roots(call.answer)?;
-    let c: [f64; 64] = from_fn(|i| of_bits(word(line, i + 1).unwrap_or(0)));
-    Some(replays(line, n + 6, m, &c[..n], call))
+    let kind = |i| if i < m {
+        word(line, i + m + 6)
+    } else {
+        Some(165)
+    };
+    let hold_roots = hold(&result, |x| bits(*x), root);
+    Some(found == answer && hold_roots && hold(&kinds, |k| u64::from(*k), kind))
 }
 
-// Whether Roots answers as a line says.
+// Whether Roots answers as a line says. From its last coefficient on it is a line again, of what follows.
 pub(crate) fn agrees(line: &[u8]) -> Option<bool> {
-    answers(line, held(word(line, 0)?, 64)?)
+    let n = held(word(line, 0)?, 64)?;
+    let c: [f64; 64] = from_fn(|i| of_bits(word(line, i + 1).unwrap_or(0)));
+    replays(&c[..n], line.get(17 * n..)?)
 }

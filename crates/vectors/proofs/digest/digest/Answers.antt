@@ -8,7 +8,7 @@ pub loop-b-preserved : goal.loop-b-preserved
 unfolding digest_from
 loop-b-preserved c =
     let turn = at_drop_more (digest_from c.loop-b.h) c.args.s.now c.loop-b.b-index 0 c.loop-b-test.true in
-    rw (c.times_prime-h.ensures, c.from.ensures) (sym turn ∙ c.loop-b.invariant)
+    rw c.from.ensures (sym turn ∙ c.loop-b.invariant)
 
 -- at the end none is left
 pub returns : goal.returns
