@@ -145,6 +145,7 @@ fn atan_four(x: [f64; 4]) -> [f64; 4]
     let a = x.map(reduced);
     let b = a.map(half_angle);
     let c = b.map(half_angle);
+    // by index here and below, since more than one array is read
     from_fn(|i| restored(x[i], atan_value(c[i])))
 }
 

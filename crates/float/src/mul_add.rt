@@ -3,6 +3,9 @@
 // A finite float is q * 2^k units, where the unit is the format's smallest value, 2^-1074 (`split`).
 // A number of more than 64 digits is cut to 64 with its last digit set where anything but zeros was
 // cut off (`jam`). Such a number rounds to 53 digits as the whole of it does (`pack`).
+//
+// It is no call of std's `mul_add`, whose definition is the same: the square root, the remainder and the
+// page's decimals share these parts, and the edit `ties_up` needs the rounding written here.
 ghost use Rattle.std.specs.Prelude.{◌≡◌, ◌+◌, ◌-◌, ◌*◌, ◌^◌, ◌<◌, ◌≤◌, T};
 ghost use Rattle.std.specs.Float.{binary64};
 ghost use Rattle.std.specs.Float.Ieee.{units};
@@ -56,6 +59,8 @@ pub fn split(x: f64) -> Parts
     }
 }
 
+// Sign, digits and place go side by side here, in `finish` and in `combine`: the digits have another width and
+// bound in each, so that a struct would be one for each function.
 // w * 2^(k - 11) units, rounded: w's upper 53 digits, moved up by one where the lower 11 say so.
 fn pack(neg: bool, w: u64, k: u64) -> f64
     requires { 0 < k → 2 ^ 63 ≤ w }

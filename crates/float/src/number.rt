@@ -29,7 +29,7 @@ pub fn of_bits(w: u64) -> f64
 }
 
 // Neither infinite nor a NaN. A function of its own, since contracts cite the logic's `finite`, and the
-// clause of the library's `is_finite` has another word for it.
+// clause of the library's `is_finite` has another word for it: each caller would owe the lemma `finite_test`.
 #[tactic(auto, using(crate::specs::Laws::Tests::finite_test))]
 pub fn is_finite(x: f64) -> bool
     ensures { result ≡ finite x }
@@ -53,7 +53,8 @@ pub fn abs(x: f64) -> f64
     if x <= 0.0 { 0.0 - x } else { x }
 }
 
-// Whether x does not come after y in the order of `total_cmp`.
+// Whether x does not come after y in the order of `total_cmp`, which asks that neither is a NaN: lists may
+// hold the one NaN.
 #[tactic(auto, unfolding(crate::specs::Number::total_le))]
 pub fn total_le(x: f64, y: f64) -> bool
     ensures { result ≡ Number.total_le x y }
@@ -67,7 +68,8 @@ pub fn total_le(x: f64, y: f64) -> bool
     x < y || y.is_nan()
 }
 
-// The remainder x % m, plus |m| if it is below zero.
+// The remainder x % m, plus |m| if it is below zero. Not `f64::rem_euclid`: its `%` is a call of C's `fmod`,
+// and the archive asks for `memcpy` and `memset` alone.
 #[tactic(auto, using(crate::specs::Laws::Zero::zero_bits), unfolding(crate::specs::Number::rem_euclid))]
 pub fn rem_euclid(x: f64, m: f64) -> f64
     ensures { result ≡ Number.rem_euclid x m }
@@ -79,7 +81,8 @@ pub fn rem_euclid(x: f64, m: f64) -> f64
     r
 }
 
-// The lesser of two: beside a NaN the other, and of equals the first.
+// The lesser of two: beside a NaN the other, and of equals the first. `f64::min` and `f64::max` leave which
+// of two equals they give, and so the sign of a zero.
 #[tactic(auto, unfolding(crate::specs::Number::minimum))]
 pub fn minimum(x: f64, y: f64) -> f64
     ensures { result ≡ Number.minimum x y }
@@ -112,7 +115,8 @@ pub fn middle(lo: f64, hi: f64) -> f64
     lo + (hi - lo) / 2.0
 }
 
-// The greatest whole number not above x, or the nearest that an `i64` holds; 0 for a NaN.
+// The greatest whole number not above x, or the nearest that an `i64` holds; 0 for a NaN. `x.floor()` would
+// work out a float first, to be converted after; here one conversion and a comparison give the number.
 pub fn floor(x: f64) -> i64
     ensures { result ≡ Number.floor_i64 x }
 {

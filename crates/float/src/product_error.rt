@@ -29,7 +29,8 @@ fn sized(low: f64, m: f64) -> bool
     false
 }
 
-// Whether the magnitude of x is zero or from `low` to 2^400.
+// Whether the magnitude of x is zero or from `low` to 2^400. The test is `in_range` word for word; by `abs`,
+// which gives +0.0 at either zero, a lemma on the two zeros would come in.
 #[tactic(auto, using(crate::specs::Laws::Zero::zero_bits), unfolding(crate::specs::Promises::Halves::in_range))]
 fn within(low: f64, x: f64) -> bool
     ensures { result ≡ Of.in_range low x }

@@ -1,5 +1,8 @@
 // The square root of IEEE 754: a guess in floats, and a test in integers that its digits are the whole
 // number nearest to the root of the operand's digits; where they are not, that number is found.
+//
+// It is no call of `f64::sqrt`, the processor's instruction, whose rounding is taken on trust there; here it
+// is proved.
 ghost use Rattle.std.specs.Prelude.{◌≡◌, ◌+◌, ◌*◌, ◌%◌, ◌^◌, ◌<◌, ◌≤◌, false, not, T, is_nan, nat_lt, IfSome, to_bits};
 ghost use Rattle.std.specs.Float.{binary64};
 ghost use Rattle.std.specs.Float.Ieee.{units};
@@ -51,7 +54,8 @@ struct Operand {
 
 impl Operand {
     // A first guess at the root's digits, from m as a float, whose pattern is made here: nothing is
-    // said of it but its range.
+    // said of it but its range. That is a clause here, in `seek` and in `beside`: a type for it would be taken
+    // apart at each sum and product, and is no plainer.
     fn guess(self) -> u64
         ensures { (2 ^ 52 ≤ result) × (result ≤ 2 ^ 53) }
     {

@@ -76,7 +76,7 @@ fn cosine(r: f64) -> f64
     1.0 + z * u
 }
 
-// k modulo 4, from 0 to 3.
+// k modulo 4, from 0 to 3: a number, since an enum would be made by one match to be read by another.
 fn quadrant(k: i64) -> u64
     ensures { result ≡ Trig.quadrant k }
 {

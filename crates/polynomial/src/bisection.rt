@@ -53,7 +53,8 @@ fn narrowed_once(lo: f64, hi: f64, m: f64, v: f64, positive: bool) -> ControlFlo
 }
 
 impl Polynomial<'_> {
-    // What a step leaves or, where the three values are known, two steps.
+    // What a step leaves or, where the three values are known, two steps. The ends are no `Bounds` here and in
+    // both loops: a step leaves a pair, of which one would be made at each turn.
     #[tactic(auto, using(crate::proofs::bisection::Steps::two_steps))]
     fn narrowed(self, lo: f64, hi: f64, positive: bool) -> ControlFlow<f64, (f64, f64)>
         requires { Span 2 lo hi }

@@ -8,7 +8,8 @@ use arrayvec::ArrayVec;
 use float::trig::sin_cos;
 use std::ops::{Add, Mul};
 
-// Constant, cosine and sine coefficients of a first harmonic in J1.
+// Constant, cosine and sine coefficients of a first harmonic in J1. `Trig` and `TrigVector` of sampling have
+// like operators; the names and fields of each are those of its Rust file, which the definitions keep.
 #[derive(Clone, Copy)]
 pub struct Harmonic {
     pub constant: f64,
@@ -49,7 +50,8 @@ impl Mul<f64> for Harmonic {
 }
 
 // A boundary A(q1) cos(t) + B(q1) sin(t) + C(q1) = 0, with t = q2 + q3: the harmonics a, b and c,
-// each by its constant, cosine and sine coefficient.
+// each by its constant, cosine and sine coefficient: nine floats and no harmonics, since the operations are
+// asked to take a curve so, as a record by value.
 #[derive(Clone, Copy, Default)]
 pub struct Curve {
     pub a0: f64,

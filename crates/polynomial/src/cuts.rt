@@ -13,7 +13,8 @@ fn negative(x: f64) -> bool
     !is_sign_positive(x)
 }
 
-// v goes past w: it comes later, and does not equal it. A NaN goes past every number.
+// v goes past w: it comes later, and does not equal it. A NaN goes past every number. No order of std is
+// this: `total_cmp` tells the zeros apart, and `partial_cmp` has no answer at a NaN.
 #[tactic(auto, using(crate::proofs::cuts::Passed::passed_cases))]
 fn passes(w: f64, v: f64) -> bool
     ensures { result ≡ passed v w }

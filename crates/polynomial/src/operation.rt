@@ -38,7 +38,8 @@ fn parts_hold(s: &[f64]) -> bool
     s.iter().all(|x| part_holds(*x))
 }
 
-// The roots, found elsewhere first: the list may be too long for a slice.
+// The roots, found elsewhere first: the list may be too long for a slice. They and their kinds are two
+// slices, as C lends them.
 fn roots_apart(
     p: Polynomial,
     bounds: Bounds,

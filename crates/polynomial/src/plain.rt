@@ -54,7 +54,8 @@ pub struct Tested<'a> {
 }
 
 impl Polynomial<'_> {
-    // Whether each coefficient has a small residual and is not large.
+    // Whether each coefficient has a small residual and is not large. By a loop: `Tidy` says more than the
+    // test's value, and what `all` gives then has to be led from its calls to the list.
     pub(crate) fn all_tidy(self) -> bool
         ensures { result ≡ true → AllTidy self.entry.terms.now }
     {

@@ -33,8 +33,8 @@ impl Polynomial<'_> {
         sum.value()
     }
 
-    // The values at x, y and z, worked out side by side; none where Dekker's halves do not serve. The
-    // tests stand between the products, so that these are not put into pairs.
+    // The values at x, y and z, worked out side by side for speed, since one does not wait for another; none
+    // where Dekker's halves do not serve. The tests stand between the products, so that these are not put into pairs.
     #[tactic(auto, using(crate::proofs::polynomial::Horner::horner_steps), unfolding(crate::specs::Polynomial::evaluate, crate::specs::Polynomial::horner))]
     pub(crate) fn evaluate_three(self, x: f64, y: f64, z: f64) -> Option<(f64, f64, f64)>
         ensures { IfSome result (λ v. v ≡ (Of.evaluate self.entry.terms.now x, Of.evaluate self.entry.terms.now y, Of.evaluate self.entry.terms.now z)) }

@@ -34,8 +34,9 @@ fn crosses(u: f64, v: f64) -> bool
     is_sign_positive(u) != is_sign_positive(v)
 }
 
-// Puts v into the cuts in the first k places of out, which has a place more. The list stands in the
-// slice that C lends, so its length goes beside it.
+// Puts v into the cuts in the first k places of out, which has a place more. The list may stand in the
+// slice that C lends, so its length goes beside it; partition points and a chart's angles are put by it too,
+// since a list of another type would need a second `insert`.
 #[tactic(auto, using(crate::proofs::roots::Kept::kept_some))]
 pub(crate) fn keep(out: &mut [f64], k: usize, v: f64) -> usize
     requires { k < length out.old }
@@ -47,8 +48,8 @@ pub(crate) fn keep(out: &mut [f64], k: usize, v: f64) -> usize
 
 // Puts the end of the bisection between two points, whose values are u and v, into the cuts in the
 // first k places of out if the values cross zero. Here and in `look` out may be what C lends, so the
-// list is no `ArrayVec`, and its length goes beside it; a struct of both would be made of the parts at
-// each point and taken apart again.
+// list is no `ArrayVec`, and its length goes beside it; a struct of both, made in `scan` and lent on, would be
+// taken apart there again for what `scan` promises of out, and is no plainer.
 fn cross(p: Tested, at: Interval, out: &mut [f64], k: usize) -> usize
     requires { k < length out.old }
     ensures { Front (crossed (Of.evaluate p.entry.p.terms.now) at.ends.lower at.ends.upper at.u at.v (take k out.old)) out.old result out.new }
@@ -150,7 +151,8 @@ fn counting(p: Polynomial) -> Polynomial
     Polynomial { terms: &[] }
 }
 
-// The root of a + b * x, where it lies between the bounds, in the first place of out.
+// The root of a + b * x, where it lies between the bounds, in the first place of out: place and count, as
+// `curve_roots` gives them, since with an `Option` both callers would write the place themselves.
 #[tactic(auto, unfolding(crate::specs::Roots::quotient))]
 fn line_root(a: Compensated, b: Compensated, bounds: Bounds, out: &mut [f64]) -> usize
     requires { 0 < length out.old }
@@ -202,7 +204,8 @@ pub fn roots(p: Polynomial, bounds: Bounds, out: &mut [f64]) -> usize
     }
 }
 
-// As `curve_roots`, with the kinds of the roots in the first places of kinds.
+// As `curve_roots`, with the kinds of the roots in the first places of kinds. Values and kinds are two slices
+// here and below, as C lends them.
 #[tactic(auto, using(crate::proofs::roots::Kept::front_take, crate::proofs::kinds::Marks::marked_as, crate::proofs::roots::Cycle::found_room))]
 fn marked_curve(
     p: Polynomial,
