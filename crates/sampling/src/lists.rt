@@ -5,7 +5,8 @@ ghost use Rattle.sampling.specs.Promises.Plan.{countable};
 
 use crate::samples::sample_at;
 
-// How many cuts each interval has. Fields and no array, since the definitions name each of the three.
+// How many cuts each interval has. Fields and no array: code and theorems take up each of the three in
+// its own place, and no loop goes over them.
 #[derive(Clone, Copy, Default)]
 pub struct Lists {
     pub first: usize,

@@ -99,8 +99,8 @@ impl Iterator for Angles<'_> {
     }
 }
 
-// What counts of a job whose joint 1 is free. The next function differs in the formula of the columns,
-// and a parameter for that would say no less.
+// What counts of a job whose joint 1 is free. What it shares with the next function is `free_of`; each
+// has its own formula of the columns.
 #[tactic(auto, unfolding(crate::specs::Angles::first_free))]
 fn first_free(job: Job) -> Free
     ensures { result ≡ first_free job }
