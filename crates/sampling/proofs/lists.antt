@@ -1,2 +1,2 @@
--- What the proof of `angle_at` goes by.
+-- What the proof of `Laid::sample_at` goes by.
 mod Parts

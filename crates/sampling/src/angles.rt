@@ -5,6 +5,6 @@ use arrayvec::ArrayVec;
 pub(crate) const ANGLES: usize = 300;
 
 // A function that adds some asks for their room, and says how many it adds at most: a fact of each
-// call, which no type of the list has. Where each gave a list of its own, every call would be followed
-// by an extension that can fail.
+// call, which no type of the list has. Where each gave a list of its own, the extension behind every
+// call would ask for the same room, and the angles would be copied once more.
 pub(crate) type Angles = ArrayVec<f64, ANGLES>;

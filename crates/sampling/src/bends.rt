@@ -51,7 +51,8 @@ fn narrow(sine: f64) -> bool
     (0.0 < sine) & (sine < 1.0e-4)
 }
 
-// Where joint 5 is bent by an angle; narrow ranges near the poles are kept.
+// Where joint 5 is bent by an angle; narrow ranges near the poles are kept. Cosine and ray go side by
+// side here and below: the ray is the wrist's, and a struct of both would hold a copy of it, or a loan.
 #[tactic(auto, unfolding(crate::specs::Bends::bend_roots))]
 fn bend_roots(cos5: &Polar, q4: &Ray, angle: f64, out: &mut Angles)
     requires { array_vec_len out.old + 60 ≤ 300 }

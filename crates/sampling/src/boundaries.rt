@@ -146,7 +146,7 @@ pub(crate) fn wrist_limits(limited: bool, j: Joint) -> Range
     if !limited | (P <= c.tolerance) {
         return None;
     }
-    limits_of(c, j.sign, j.offset)
+    limits_of(c, j)
 }
 
 // The curves of both ends of a range. Here a function is told its room, as the lists of `angles` and

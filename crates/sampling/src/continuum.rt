@@ -12,7 +12,9 @@ use std::ops::{Add, Mul};
 // 64 ε.
 pub(crate) const ROOT_ROUNDOFF: f64 = 1.4210854715202004e-14;
 
-// A first-harmonic polynomial of the free model angle.
+// A first-harmonic polynomial of the free model angle. `polynomial::curve::Harmonic` and its sums are the
+// same under the names of the Rust's other file: the definitions keep those of both, and the gate refuses
+// impls that a macro of this repository writes.
 #[derive(Clone, Copy)]
 pub struct Trig {
     pub cosine: f64,

@@ -53,7 +53,8 @@ fn angles(cuts: &mut Cuts, origin: f64, roots: &[f64])
     }
 }
 
-// An inner call of the root finder.
+// An inner call of the root finder. Cuts and chart go side by side here and below, since the same cuts
+// are also given values that come by no chart.
 #[tactic(auto, using(crate::proofs::Lengths::pow_mono), unfolding(crate::specs::CriticalSlices::chart_roots))]
 fn chart_roots(cuts: &mut Cuts, c: Chart, p: Polynomial)
     ensures { Grown (Of.chart_roots (plain c) p.entry.terms.now) cuts.old cuts.new }

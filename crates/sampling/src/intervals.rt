@@ -7,11 +7,11 @@ use float::number::{is_finite, maximum, minimum};
 use float::trig::{P, TWO_PI};
 use polynomial::angle::wrapped_angle;
 
-// A limit interval: none, or a pair of angles.
+// A limit interval: none, or a pair of angles, as the Rust yields them.
 pub type Range = Option<(f64, f64)>;
 
 // Allowed displacements: the range shifted by a turn down, as it is, and by a turn up. Fields and no
-// array, since the definitions name each of the three.
+// array: code and theorems take up each of the three in its own place, and no loop goes over them.
 #[derive(Clone, Copy)]
 pub struct Intervals {
     pub first: Range,

@@ -112,25 +112,25 @@ fn halves_of(reference: f64, first: Option<usize>, second: Option<usize>) -> Opt
 }
 
 // The cuts of both halves, one list after the other in the front of work.
-fn cut_halves(work: &mut [f64], t: &Folded, lower: f64, upper: f64) -> Option<Plan>
-    requires { Charted (Some (lower, upper)) }
-    ensures value { result ≡ granted (length (Of.first_half t.now lower upper) + length (Of.second_half t.now lower upper))
-        (halves_of t.now.reference (Of.first_half t.now lower upper) (Of.second_half t.now lower upper)) (length work.old) }
-    ensures work_after { IfSome result (λ p. work.new ≡ (Of.first_half t.now lower upper ++ Of.second_half t.now lower upper)
-        ++ drop (length (Of.first_half t.now lower upper) + length (Of.second_half t.now lower upper)) work.old) }
+fn cut_halves(work: &mut [f64], t: &Folded, whole: Interval) -> Option<Plan>
+    requires { Charted (Some (whole.lower, whole.upper)) }
+    ensures value { result ≡ granted (length (Of.first_half t.now whole.lower whole.upper) + length (Of.second_half t.now whole.lower whole.upper))
+        (halves_of t.now.reference (Of.first_half t.now whole.lower whole.upper) (Of.second_half t.now whole.lower whole.upper)) (length work.old) }
+    ensures work_after { IfSome result (λ p. work.new ≡ (Of.first_half t.now whole.lower whole.upper ++ Of.second_half t.now whole.lower whole.upper)
+        ++ drop (length (Of.first_half t.now whole.lower whole.upper) + length (Of.second_half t.now whole.lower whole.upper)) work.old) }
 {
     let bends = bend_slices(t);
     let bends = bends.as_slice();
     let curves = boundaries(t);
     let curves = curves.as_slice();
-    let m = middle(lower, upper);
-    let first = half_cuts(work, curves, bends, Interval { lower, upper: m });
+    let m = middle(whole.lower, whole.upper);
+    let first = half_cuts(work, curves, bends, Interval { upper: m, ..whole });
     let start = start_of(first, work.len());
     let second = half_cuts(
         &mut work[start..],
         curves,
         bends,
-        Interval { lower: m, upper },
+        Interval { lower: m, ..whole },
     );
     halves_of(t.reference, first, second)
 }
@@ -143,6 +143,6 @@ pub(crate) fn cut(work: &mut [f64], t: &Folded) -> Option<Plan>
 {
     match t.range1 {
         None => Some(Plan::Lists(Lists::default())),
-        Some((lower, upper)) => cut_halves(work, t, lower, upper),
+        Some((lower, upper)) => cut_halves(work, t, Interval { lower, upper }),
     }
 }

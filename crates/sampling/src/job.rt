@@ -28,7 +28,9 @@ pub enum Kind {
 }
 
 // The job: its kind, whether limits are present and the sixth joint is fixed, the matrix of the
-// target's rotation, the arm and the joints, but for joint 3, which no kind reads.
+// target's rotation, the arm and the joints, but for joint 3, which no kind reads. A joint's limits
+// stand here whether they count or not, and functions take flag and joint: so the definitions of the
+// Rust's functions take them. `Shape` has the three fields that are known before the numbers are read.
 #[derive(Clone, Copy)]
 pub struct Job {
     pub kind: Kind,

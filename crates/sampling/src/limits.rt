@@ -24,15 +24,15 @@ pub(crate) fn centered(limited: bool, j: Joint) -> Center
     }
 }
 
-// The interval around a centre, seen as a model angle.
+// The interval around a centre, seen as a model angle of the joint.
 #[tactic(auto, unfolding(crate::specs::Limits::limits_of, crate::proofs::Literals::of_bits))]
-pub(crate) fn limits_of(c: Center, sign: f64, offset: f64) -> Range
-    ensures { result ≡ Limits.limits_of c sign offset }
+pub(crate) fn limits_of(c: Center, j: Joint) -> Range
+    ensures { result ≡ Limits.limits_of c j.sign j.offset }
 {
     if c.tolerance.is_nan() | (c.tolerance < 0.0) | !is_finite(c.center) {
         return None;
     }
-    let center = wrapped_angle(wrapped_angle(c.center) * sign - offset);
+    let center = wrapped_angle(wrapped_angle(c.center) * j.sign - j.offset);
     let half_width = minimum(c.tolerance, P);
     Some((center - half_width, center + half_width))
 }
@@ -42,5 +42,5 @@ pub(crate) fn limits_of(c: Center, sign: f64, offset: f64) -> Range
 pub fn limits(limited: bool, j: Joint) -> Range
     ensures { result ≡ Limits.limits limited j }
 {
-    limits_of(centered(limited, j), j.sign, j.offset)
+    limits_of(centered(limited, j), j)
 }

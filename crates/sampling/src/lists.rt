@@ -1,11 +1,12 @@
 // How a job's cuts stand in the work slice, and the samples of three intervals that are read off them.
-ghost use Rattle.std.specs.Prelude.{◌≡◌, ◌+◌, ◌≤◌, length, take, drop, slice_get};
+ghost use Rattle.std.specs.Prelude.{◌≡◌, ◌+◌, ◌≤◌, length, slice_get};
 ghost use Rattle.sampling.specs.Samples as Of;
-ghost use Rattle.sampling.specs.Promises.Plan.{countable};
+ghost use Rattle.sampling.specs.Promises.Plan.{countable, all_samples};
 
 use crate::samples::sample_at;
 
-// How many cuts each interval has. Fields and no array, since the definitions name each of the three.
+// How many cuts each interval has. Fields and no array: code and theorems take up each of the three in
+// its own place, and no loop goes over them.
 #[derive(Clone, Copy, Default)]
 pub struct Lists {
     pub first: usize,
@@ -48,22 +49,31 @@ pub(crate) fn angle_count(n: Lists) -> usize
     sample_count(n.first) + sample_count(n.second) + sample_count(n.third)
 }
 
-// The i-th sample of all; behind the last there is none.
-#[tactic(auto, using(crate::proofs::lists::Parts::parts))]
-pub(crate) fn angle_at(work: &[f64], n: Lists, i: usize) -> Option<f64>
-    requires { n.first + n.second + n.third ≤ length work.now }
-    ensures { result ≡ slice_get (Of.three_samples (take n.first work.now)
-        (take n.second (drop n.first work.now))
-        (take n.third (drop (n.first + n.second) work.now))) i }
-{
-    let first = sample_count(n.first);
-    if i < first {
-        return sample_at(&work[..n.first], i);
+// The cuts of three intervals, one list after the other in the front of work.
+#[derive(Clone, Copy)]
+pub struct Laid<'a> {
+    pub work: &'a [f64],
+    pub lists: Lists,
+    ghost room: { lists.first + lists.second + lists.third ≤ length work.now },
+}
+
+impl<'a> Laid<'a> {
+    // The i-th sample of all; behind the last there is none.
+    #[tactic(auto, using(crate::proofs::lists::Parts::parts))]
+    pub(crate) fn sample_at(self, i: usize) -> Option<f64>
+        ensures { result ≡ slice_get (all_samples self.entry.lists self.entry.work.now) i }
+    {
+        let work = self.work;
+        let n = self.lists;
+        let first = sample_count(n.first);
+        if i < first {
+            return sample_at(&work[..n.first], i);
+        }
+        let start = n.first + n.second;
+        let both = first + sample_count(n.second);
+        if i < both {
+            return sample_at(&work[n.first..start], i - first);
+        }
+        sample_at(&work[start..start + n.third], i - both)
     }
-    let start = n.first + n.second;
-    let both = first + sample_count(n.second);
-    if i < both {
-        return sample_at(&work[n.first..start], i - first);
-    }
-    sample_at(&work[start..start + n.third], i - both)
 }

@@ -35,11 +35,11 @@ impl Marks {
 
 // An angle of a joint as a model angle. The offset is wrapped here.
 #[tactic(auto, unfolding(crate::specs::Marks::model_angle))]
-pub(crate) fn model_angle(sign: f64, offset: f64, angle: f64) -> f64
-    ensures { result ≡ Of.model_angle sign offset angle }
+pub(crate) fn model_angle(j: Joint, angle: f64) -> f64
+    ensures { result ≡ Of.model_angle j.sign j.offset angle }
 {
-    let signed = wrapped_angle(angle) * sign;
-    wrapped_angle(signed - wrapped_angle(offset))
+    let signed = wrapped_angle(angle) * j.sign;
+    wrapped_angle(signed - wrapped_angle(j.offset))
 }
 
 // The ends of limits, where there are any.
@@ -58,10 +58,10 @@ fn ends(center: f64, tolerance: f64) -> Range
 pub(crate) fn marks_of(limited: bool, j: Joint) -> Marks
     ensures { result ≡ Of.marks limited j }
 {
-    let reference = model_angle(j.sign, j.offset, j.reference);
+    let reference = model_angle(j, j.reference);
     if limited {
         let c = compute_center(j.from, j.to);
-        let center = model_angle(j.sign, j.offset, c.center);
+        let center = model_angle(j, c.center);
         let range = ends(center, c.tolerance);
         return Marks {
             reference,

@@ -8,7 +8,7 @@ ghost use Rattle.sampling.specs.Promises.Stream.{next, start};
 
 use crate::j1j2free::folded_of;
 use crate::job::{Job, Kind};
-use crate::lists::{Halves, Lists, Plan, angle_at, angle_count};
+use crate::lists::{Halves, Laid, Plan, angle_count};
 use crate::sample_angles::{Free, free_of};
 use crate::stream::{Cursor, Step};
 use crate::work::clear;
@@ -39,7 +39,10 @@ impl<'a> Planned<'a> {
         ensures { result ≡ Of.step self.entry.plan self.entry.work.now c }
     {
         match self.plan {
-            Plan::Lists(n) => next_sample(self.work, n, c),
+            Plan::Lists(lists) => {
+                let work = self.work;
+                next_sample(Laid { work, lists }, c)
+            }
             Plan::Halves(h) => next_slice(self.work, h, c),
         }
     }
@@ -56,12 +59,12 @@ impl<'a> Planned<'a> {
     }
 }
 
+// The sample at a cursor, and the cursor behind it.
 #[tactic(auto, using(crate::proofs::plan::Asked::sample_below), unfolding(crate::specs::Promises::Plan::sample_step))]
-fn next_sample(work: &[f64], n: Lists, c: Cursor) -> Step
-    requires { n.first + n.second + n.third ≤ length work.now }
-    ensures { result ≡ Of.sample_step n work.now c }
+fn next_sample(cuts: Laid<'_>, c: Cursor) -> Step
+    ensures { result ≡ Of.sample_step cuts.entry.lists cuts.entry.work.now c }
 {
-    let y = angle_at(work, n, c.i)?;
+    let y = cuts.sample_at(c.i)?;
     let mut to = c;
     to.i = c.i + 1;
     Some((y, to))
@@ -99,8 +102,8 @@ impl Iterator for Angles<'_> {
     }
 }
 
-// What counts of a job whose joint 1 is free. The next function differs in the formula of the columns,
-// and a parameter for that would say no less.
+// What counts of a job whose joint 1 is free. What it shares with the next function is `free_of`; each
+// has its own formula of the columns.
 #[tactic(auto, unfolding(crate::specs::Angles::first_free))]
 fn first_free(job: Job) -> Free
     ensures { result ≡ first_free job }

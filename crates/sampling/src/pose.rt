@@ -138,7 +138,8 @@ pub fn try_normalize(q: Quaternion) -> Result<Quaternion, Degenerate>
     })
 }
 
-// The rotation matrix of a normalized quaternion.
+// The rotation matrix of a normalized quaternion. It keeps the Rust's name and is
+// no `From`: of other quaternions the matrix is no rotation, and the type does not say which.
 #[tactic(auto, unfolding(crate::specs::Pose::from_quat, crate::proofs::Literals::of_bits))]
 pub fn from_quat(q: Quaternion) -> Matrix
     ensures { result ≡ Pose.from_quat q }

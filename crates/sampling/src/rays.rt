@@ -39,7 +39,8 @@ pub(crate) fn poles(cos5: &Polar, out: &mut Angles)
     roots_at(cos5, -1.0, out);
 }
 
-// Asks for the angles where the vector lies on the boundary line of an angle.
+// Asks for the angles where the vector lies on the boundary line of an angle. Ray and list go side by
+// side here and below: three rays of a wrist add to one list.
 #[tactic(auto, unfolding(crate::specs::Continuum::ray_roots, crate::proofs::Literals::of_bits))]
 fn ray_roots(ray: &Ray, angle: f64, deferred: &mut Deferred)
     requires { array_vec_len deferred.old < 14 }
@@ -76,7 +77,8 @@ fn ray_range(ray: &Ray, range: Range, deferred: &mut Deferred)
     }
 }
 
-// The reference and, with limits, their centre and ends.
+// The reference and, with limits, their centre and ends. `bend_marks` has the same shape, over a
+// list of another type with other room: one function for both would take a closure, as above.
 #[tactic(auto, unfolding(crate::specs::Rays::ray_marks))]
 fn ray_marks(ray: &Ray, marks: &Marks, deferred: &mut Deferred)
     requires { array_vec_len deferred.old + 4 ≤ 14 }
@@ -115,6 +117,8 @@ fn corners(ray: &Ray, sign: f64, fourth: Range, sixth: Range, deferred: &mut Def
     }
 }
 
+// The marks of joints 4 and 6 go side by side: joint 6's are an Option further up, and those of both are
+// ranges in `corners`, so a pair would be of three types.
 #[tactic(auto, unfolding(crate::specs::Rays::phase_roots))]
 fn phase_roots(ray: &Ray, sign: f64, fourth: &Marks, sixth: &Marks, deferred: &mut Deferred)
     requires { array_vec_len deferred.old + 5 ≤ 14 }

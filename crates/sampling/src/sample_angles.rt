@@ -35,7 +35,7 @@ fn free_limits(limited: bool, j: Joint) -> Center
 {
     if limited {
         let c = compute_center(j.from, j.to);
-        let center = model_angle(j.sign, j.offset, c.center);
+        let center = model_angle(j, c.center);
         return Center {
             center,
             tolerance: c.tolerance,
@@ -63,7 +63,7 @@ fn sixth_of(fixed: bool, limited: bool, j: Joint) -> Option<Marks>
 pub(crate) fn free_of(axes: Axes, job: Job, j: Joint) -> Free
     ensures { result ≡ Of.free axes job j }
 {
-    let near = model_angle(j.sign, j.offset, j.reference);
+    let near = model_angle(j, j.reference);
     let limits = free_limits(job.limited, j);
     let wrist = wrist_of(axes, job.matrix);
     let fourth = marks_of(job.limited, job.j4);

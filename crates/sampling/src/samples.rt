@@ -28,7 +28,8 @@ impl Interval {
     }
 }
 
-// An angle counts where it lies in the interval.
+// An angle counts where it lies in the interval. Cuts and interval go side by side here and below,
+// since the same cuts are also given values that no interval bounds.
 #[inline]
 #[tactic(auto, unfolding(crate::specs::Samples::inside))]
 fn inside(cuts: &mut Cuts, interval: Interval, angle: f64)
@@ -76,8 +77,8 @@ fn windings(cuts: &mut Cuts, interval: Interval, root: f64)
     }
 }
 
-// The windings of each root. The loop of `all_copies` with another step: a closure for the step would
-// promise `Grown` of a list that is told by what it answers for each angle, and each caller show which.
+// The windings of each root: the loop of `all_copies`, over the roots that are finite. To be passed
+// `filter(is_finite)` that one would take any iterator, and its contract say what the iterator yields.
 fn all_windings(cuts: &mut Cuts, interval: Interval, roots: &[f64])
     ensures { Grown (Of.all_windings interval.lower interval.upper roots.now) cuts.old cuts.new }
 {
@@ -109,7 +110,8 @@ pub(crate) fn interval_cuts(
     cuts.count
 }
 
-// How far inside a pair of neighbouring cuts the outer samples lie.
+// How far inside a pair of neighbouring cuts the outer samples lie. Two angles and no `Interval`, here
+// and in `between`: callers have them as two places of a list.
 #[tactic(auto, unfolding(crate::specs::Samples::inset, crate::proofs::Literals::of_bits))]
 fn inset(lower: f64, upper: f64) -> f64
     ensures { result ≡ Of.inset lower upper }

@@ -38,7 +38,7 @@ fn woven(list: &[f64], k: usize) -> f64
 }
 
 // How many of each list's cuts and middles came, whether the reference came, and which value was
-// the last.
+// the last: at first a NaN, which equals no value, so that one comparison serves the first as well.
 #[derive(Clone, Copy)]
 pub struct Cursor {
     pub i: usize,

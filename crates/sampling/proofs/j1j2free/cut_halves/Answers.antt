@@ -1,6 +1,5 @@
 -- `sampling::j1j2free::cut_halves` meets its contract: the two lists, by what `half_cuts` says of each.
 use mathlib.Core.Path.{sym, subst, ◌∙◌}
-use lib.Dec.{T}
 use lib.Ieee.{Float}
 use borrow.Author.Rules.{rules}
 use Rattle.sampling.specs.CriticalSlices.{chart}
@@ -10,7 +9,7 @@ use Rattle.sampling.proofs.j1j2free.Both.{starts, laid_halves}
 use Rattle.sampling.proofs.j1j2free.cut_halves.Goals as goal
 
 pub half_cuts-first-requires : goal.half_cuts-first-requires
-half_cuts-first-requires c = (search rules, subst (λ (m : Float). Bounded (chart c.args.lower m)) (sym c.middle-m.ensures) c.requires.0)
+half_cuts-first-requires c = (search rules, subst (λ (m : Float). Bounded (chart c.args.whole.lower m)) (sym c.middle-m.ensures) c.requires.0)
 
 pub offset_bounds-work-start : goal.offset_bounds-work-start
 offset_bounds-work-start c = let h = starts _ _ _ c.half_cuts-first.result _ c.start_of-start.ensures
@@ -20,13 +19,13 @@ pub slice_bounds-half_cuts-count : goal.slice_bounds-half_cuts-count
 slice_bounds-half_cuts-count c = starts _ _ _ c.half_cuts-first.result _ c.start_of-start.ensures c.half_cuts-first.ensures
 
 pub half_cuts-second-requires : goal.half_cuts-second-requires
-half_cuts-second-requires c = (search rules, subst (λ (m : Float). Bounded (chart m c.args.upper)) (sym c.middle-m.ensures) c.requires.1)
+half_cuts-second-requires c = (search rules, subst (λ (m : Float). Bounded (chart m c.args.whole.upper)) (sym c.middle-m.ensures) c.requires.1)
 
 pub returns : goal.returns
 unfolding curves bends
 returns c =
     let a = c.args in
-    let all = laid_halves a.t.now a.lower a.upper _ (subst T (sym c.well_formed.1.1.0.1) tt) (subst T (sym c.well_formed.1.1.1.0.1) tt)
+    let all = laid_halves a.t.now a.whole.lower a.whole.upper _ (search rules) (search rules)
     c.middle-m.ensures
     _ (c.as_slice-curves.ensures.value ∙ c.boundaries-curves.ensures) _ (c.as_slice-bends.ensures.value ∙ c.bend_slices-bends.ensures)
     _ _ _ c.half_cuts-first.result c.half_cuts-second.result _ c.start_of-start.ensures
