@@ -24,8 +24,9 @@ fn put_between(output: &mut [u8], list: &[f64])
     requires { length output.old ≡ 24 * (length list.now - 1) }
     ensures { output.new ≡ Floats.floats_bytes (Samples.all_between list.now) }
 {
-    for i in 0..list.len().saturating_sub(1) {
-        let three = between(list[i], list[i + 1]);
+    // output by the index, as above
+    for (i, pair) in list.windows(2).enumerate() {
+        let three = between(pair[0], pair[1]);
         put_list(&mut output[24 * i..24 * i + 24], &three);
     }
 }
@@ -42,6 +43,8 @@ fn put_samples(output: &mut [u8], list: &[f64])
 }
 
 // The samples of three lists of cuts that stand one after the other in work.
+// Work and n apart: n is what a plan holds in this case alone, and whoever has the plan knows by its ghost
+// field that they fit.
 #[tactic(auto, using(crate::proofs::angles::Runs::lists_bytes, sampling::proofs::Laws::Plan::all_samples_length))]
 pub(crate) fn put_lists(output: &mut [u8], work: &[f64], n: Lists)
     requires in_work { n.first + n.second + n.third ≤ length work.now }

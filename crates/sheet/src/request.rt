@@ -153,6 +153,7 @@ fn put_head(out: &mut [u8], view: View)
         sets out.new 16 (Request.blank_from (Request.shape_of r) 16 (drop 16 r)) ≡ sets out.old 0 (Request.blank r) }
 {
     let s = view.shape();
+    // by the byte's number, which `byte_read` asks for
     for i in 0..ROTATION {
         let b = if byte_read(s, i) { view.request[i] } else { 0 };
         out[i] = b;

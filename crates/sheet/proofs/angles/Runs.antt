@@ -2,7 +2,9 @@
 use Rattle.std.proofs.Common.{ℕ, suc, ◌+◌, ◌-◌, ◌*◌, ◌<◌, ◌≤◌, ◌≡◌, refl, sym, ap, ◌∙◌, arith, List, [], ◌∷◌, ◌++◌, append_assoc, length, get_or, take, drop}
 use Rattle.std.proofs.Common.{drop-cons}
 use lib.Ieee.{Float, nan, to_bits, binary64}
+use Rattle.std.proofs.Math.ListN.{length-append}
 use Rattle.sampling.specs.Samples.{between, all_between, samples, three_samples}
+use Rattle.sampling.proofs.Laws.Samples.{samples_length, sample_count_is}
 use Rattle.sheet.specs.Promises.Floats.{float_bytes, floats_bytes}
 use Rattle.sheet.specs.Laws.Bytes.{length_bytes, floats_bytes_cons, floats_bytes_nil}
 
@@ -36,15 +38,22 @@ pub between_left : (l : List Float) (i : ℕ) → i + 1 < length l → floats_by
 between_left l i h =
     ap floats_bytes (between_next l i h) ∙ floats_append (between (get_or l i nan) (get_or l (i + 1) nan)) (all_between (drop (i + 1) l))
 
+-- the same of a window of two
+pub pair_left : (l p : List Float) (i : ℕ) → i + 1 < length l → p ≡ take 2 (drop i l) → floats_bytes (all_between (drop i l))
+    ≡ floats_bytes (between (get_or p 0 nan) (get_or p 1 nan)) ++ floats_bytes (all_between (drop (i + 1) l))
+pair_left l p i h e =
+    let f : i + 1 ≡ suc i = omega arith in
+    let two : take 2 (drop i l) ≡ get_or l i nan ∷ (get_or l (i + 1) nan ∷ []) =
+    rw (f, drop-cons l i nan (omega arith), drop-cons l (suc i) nan (omega arith)) in
+    rw (e, two) (between_left l i h)
+
 pub length_between : (a b : Float) → length (between a b) ≡ 3
 unfolding between
 length_between a b = refl
 
 pub length_all_between : (l : List Float) → length (all_between l) ≡ 3 * (length l - 1)
-unfolding all_between between
-length_all_between [] = refl
-length_all_between (a ∷ []) = refl
-length_all_between (a ∷ (b ∷ l)) = let h = length_all_between (b ∷ l) in omega (arith, h)
+unfolding samples
+length_all_between l = omega (arith, samples_length l, length-append l (all_between l), sample_count_is (length l))
 
 pub no_pair : (l : List Float) → length l ≤ 1 → all_between l ≡ []
 unfolding all_between
