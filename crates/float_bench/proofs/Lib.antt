@@ -1,3 +1,2 @@
--- The laws on lists that the proofs of the loops cite.
-pub mod Repeated
+-- The law on lists that the proofs of the loops cite.
 pub mod Places

@@ -13,11 +13,12 @@ use listing::check_text::deliver_check;
 use text::input::with_input;
 use text::lines::{bytes, held, line, word};
 
-// The line of a stored input with which s begins: the mark, the size, the count of words and these.
+// The line of a stored input with which s begins: the mark, the size, the count of words and these. A line
+// of more than 8,192 words is longer than the 65,536 bytes that are read.
 fn case(s: &[u8]) -> Option<&[u8]>
     ensures { IfSome result (λ l. (0 < length l.now) × (length l.now ≤ length s.now)) }
 {
-    let stored = held(word(s, 1)?, 8192).unwrap_or(8193);
+    let stored = held(word(s, 1)?, 8192)?;
     line(s, stored + 2)
 }
 
@@ -26,7 +27,7 @@ fn case(s: &[u8]) -> Option<&[u8]>
 fn input_of(line: &[u8], out: &mut [u8; 65537]) -> Option<usize>
     ensures { IfSome result (λ size. size ≤ 65537) }
 {
-    let size = held(word(line, 0)?, 65536).unwrap_or(65537);
+    let size = word(line, 0)?.min(65537) as usize;
     let stored = held(word(line, 1)?, 8192)?;
     bytes(line, 2, &mut out[..8 * stored])?;
     Some(size)

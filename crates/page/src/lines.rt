@@ -49,6 +49,7 @@ fn put_name(out: &mut [u8], name: &[u8])
     requires { length out.old ≡ length name.now }
     ensures { out.new ≡ map Page.letter name.now }
 {
+    // name by the index: what is written through a `zip` with `iter_mut` is not known afterwards
     for (i, b) in out.iter_mut().enumerate() {
         *b = letter(name[i]);
     }
