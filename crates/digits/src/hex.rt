@@ -12,8 +12,8 @@ fn is_digit(b: u8) -> bool
     matches!(b, b'0'..=b'9' | b'A'..=b'F')
 }
 
-// The value of a digit, and 0 for any other byte, as the definition has it: there an Option would be dealt
-// with at each digit, although `is_word` is asked before.
+// The value of a digit, and 0 for any other byte, as the definition has it: a word has a value whatever
+// its bytes are, and `is_word` says whether they are digits.
 #[tactic(auto, unfolding(crate::specs::Hex::digit))]
 fn digit(b: u8) -> u64
     ensures { result ≡ Hex.digit b }
