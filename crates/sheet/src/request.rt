@@ -146,7 +146,7 @@ pub(crate) fn place(f: Field, j: usize) -> usize
 }
 
 // The first sixteen bytes of the request, each zero where it is not read. What is left to write then is
-// what stands behind them.
+// what stands behind them. Here and in the next two what is lent is as long as the request: a fact of both.
 fn put_head(out: &mut [u8], view: View)
     requires { length out.old ≡ length view.request.now }
     ensures { let r = view.entry.request.now in

@@ -20,7 +20,8 @@ loop-i-preserved c =
     record {
       size = s.0.0 ∙ inv.size;
       left = omega arith;
-      stands = rw (s.2, s.1) (lines_turn c.loop-i.out was.iter.rest.now angle rest c.put_line.new.line c.args.place was.count room s.0.1.0 eight w ∙ inv.stands);
+      stands = rw (s.2, s.1) (lines_turn c.loop-i.out was.iter.rest.now angle rest c.put_line.new.line c.args.place was.count
+          room s.0.1.0 eight w ∙ inv.stands);
     }
 
 pub returns : goal.returns

@@ -13,4 +13,6 @@ returns-clause-served c = sym c.if-not-within.false ∙ c.within.ensures
 
 pub invariant_of-result : goal.invariant_of-result
 unfolding of_bits
-invariant_of-result c = record { halved = record { high_is = c.dekker_split-high.ensures.0; low_is = c.dekker_split-high.ensures.1; serve = sym c.within.ensures ∙ c.if-not-within.false } }
+invariant_of-result c =
+    let d = c.dekker_split-high.ensures in
+    record { halved = record { high_is = d.0; low_is = d.1; serve = sym c.within.ensures ∙ c.if-not-within.false } }

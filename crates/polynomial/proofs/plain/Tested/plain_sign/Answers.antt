@@ -7,4 +7,5 @@ use Rattle.polynomial.proofs.plain.Tested.plain_sign.Goals as goal
 pub returns : goal.returns
 returns c =
     let d = down_end c.loop-c.invariant c.in-None.ensures.steps.0 in
-    tells c.args.self.p.terms.now c.args.x c.args.self.p.few (c.args.self.told c.if-not-self.false) (search rules) _ _ _ c.abs-size.ensures d.0 d.1 _ c.sign_of.ensures
+    let s = c.args.self in
+    tells s.p.terms.now c.args.x s.p.few (s.told c.if-not-self.false) (search rules) _ _ _ c.abs-size.ensures d.0 d.1 _ c.sign_of.ensures
