@@ -138,8 +138,8 @@ pub fn asin(x: f64) -> f64
 }
 
 // The arctangents of four numbers. What is worked out of one does not wait for the others, and so four
-// take little longer than one. By index: with `map`, whose items wait in an iterator, the angles of four points
-// took a fifth longer; and more than one array is read at the end, as in `atan2_four`.
+// take little longer than one. By index, since more than one array is read at the end, as in `atan2_four`; a
+// run with `map` took a fifth longer.
 fn atan_four(x: [f64; 4]) -> [f64; 4]
     ensures { result ≡ map Trig.atan x }
 {
