@@ -138,14 +138,14 @@ pub fn asin(x: f64) -> f64
 }
 
 // The arctangents of four numbers. What is worked out of one does not wait for the others, and so four
-// take little longer than one.
+// take little longer than one. By index, since more than one array is read at the end, as in `atan2_four`; a
+// run with `map` took a fifth longer.
 fn atan_four(x: [f64; 4]) -> [f64; 4]
     ensures { result ≡ map Trig.atan x }
 {
-    let a = x.map(reduced);
-    let b = a.map(half_angle);
-    let c = b.map(half_angle);
-    // by index here and below, since more than one array is read
+    let a: [f64; 4] = from_fn(|i| reduced(x[i]));
+    let b: [f64; 4] = from_fn(|i| half_angle(a[i]));
+    let c: [f64; 4] = from_fn(|i| half_angle(b[i]));
     from_fn(|i| restored(x[i], atan_value(c[i])))
 }
 

@@ -1,7 +1,7 @@
 -- The code's literals and NaN, and lists of results, number by number.
-use Rattle.std.proofs.Common.{◌≡◌, ℕ, zero, suc, ◌+◌, ◌<◌, ◌≤◌, List, [], ◌∷◌, length, map, get_or, subst, sym, ap, ◌∙◌, inl, inr, eq-or-lt_of_le, arith, refl}
+use Rattle.std.proofs.Common.{◌≡◌, ℕ, zero, suc, ◌+◌, ◌<◌, ◌≤◌, List, [], ◌∷◌, length, map, get_or, subst, ◌∙◌, inl, inr, eq-or-lt_of_le, arith, refl}
 use denote.Param.Members.{Mut, Called}
-use Rattle.std.specs.Array.{IsFromFnResultFrom, MapsFrom}
+use Rattle.std.specs.Array.{IsFromFnResultFrom}
 use lib.Ieee.{Float}
 use Rattle.float.specs.Trig.{atan, atan2}
 use Rattle.float.specs.Number.{◌⊘◌}
@@ -23,15 +23,6 @@ made g v f step ys d zero i e k l h = absurd (omega arith)
 made g v f step ys d (suc n) i e k l h = elim (eq-or-lt_of_le l) [
   | inl z ↦ subst (λ j. get_or ys j d ≡ v j) z (e.2.1 d ∙ (step i e.1 e.0 e.3).0)
   | inr s ↦ made g v f step ys d n (i + 1) (subst (λ p. IsFromFnResultFrom g p ys (i + 1) n) (step i e.1 e.0 e.3).1 e.4) k (omega arith) (omega arith)
-]
-
--- an array by `map`, whose function stays as it is
-pub mapped : {F A B : Type 0} (g : Mut F (A × Unit {0}) B) (v : A → B) (f : F) → ((x : A) (y : B) (q : F) → Called g f (x, tt) y q → (y ≡ v x) × (q ≡ f))
-    → (xs : List A) (ys : List B) (d : A) (e : B) (n i : ℕ) → MapsFrom g f xs ys i n → (k : ℕ) → i ≤ k → k < i + n → get_or ys k e ≡ v (get_or xs k d)
-mapped g v f step xs ys d e zero i m k l h = absurd (omega arith)
-mapped g v f step xs ys d e (suc n) i m k l h = elim (eq-or-lt_of_le l) [
-  | inl z ↦ subst (λ j. get_or ys j e ≡ v (get_or xs j d)) z (m.4.1 e ∙ (step m.1 m.2 m.0 m.5).0 ∙ ap v (sym (m.3.1 d)))
-  | inr s ↦ mapped g v f step xs ys d e n (i + 1) (subst (λ p. MapsFrom g p xs ys (i + 1) n) (step m.1 m.2 m.0 m.5).1 m.6) k (omega arith) (omega arith)
 ]
 
 -- ---- lists, number by number; d is read beyond the end
