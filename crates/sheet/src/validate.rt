@@ -96,7 +96,8 @@ fn passes(f: Field, x: f64) -> bool
     }
 }
 
-// Whether the read fields of a class, of which there are n, pass.
+// Whether the read fields of a class, of which there are n, pass. Beside `signs_right`, since a sign
+// is a byte, these are floats, and the definitions are two.
 fn fields_right(f: Field, view: View, n: usize) -> bool
     requires { n ≤ 6 }
     ensures { result ≡ Validate.all_from n 1 (Validate.field_right (Request.shape_of view.entry.request.now) f view.entry.request.now) }

@@ -11,7 +11,6 @@ returns c =
     let r = c.args.view.request.now in
     let n = c.args.n in
     let p = field_right c.shape-s.result c.args.f r in
-    let all = (YieldsList-from_range 1 (n + 1) n refl (omega arith)) in
-    let d = cases_from_all _ _ c.all.result (λ j. p j ≡ true) (λ j. p j ≡ false) c.all.ensures.ran all
-    (λ x q h. search rules) (λ x q h. search rules) in
+    let d = cases_from_all _ _ c.all.result (λ j. p j ≡ true) (λ j. p j ≡ false) c.all.ensures.ran
+    (YieldsList-from_range 1 (n + 1) n refl (omega arith)) (λ x q h. search rules) (λ x q h. search rules) in
     rw c.shape-s.ensures at (all_decided p n 1 c.all.result d)

@@ -10,7 +10,6 @@ unfolding signs_right sign_right
 returns c =
     let r = c.args.view.request.now in
     let p = sign_right c.shape-s.result r in
-    let all = (YieldsList-from_range 1 7 6 refl refl) in
-    let d = cases_from_all _ _ c.all.result (λ j. p j ≡ true) (λ j. p j ≡ false) c.all.ensures.ran all
-    (λ x q h. search rules) (λ x q h. search rules) in
+    let d = cases_from_all _ _ c.all.result (λ j. p j ≡ true) (λ j. p j ≡ false) c.all.ensures.ran
+    (YieldsList-from_range 1 7 6 refl refl) (λ x q h. search rules) (λ x q h. search rules) in
     rw c.shape-s.ensures at (all_decided p 6 1 c.all.result d)
