@@ -3,15 +3,15 @@ use Rattle.std.specs.Prelude.{Some, None}
 use mathlib.Core.Path.{◌≡◌, refl, sym, ap, subst, ◌∙◌}
 use mathlib.Core.Bool.{Bool, true, false, ◌||◌}
 use mathlib.Core.List.{List, [], ◌∷◌, ◌++◌}
-use Rattle.std.proofs.Common.{append_assoc}
 use Prim.Native.Nat.{ℕ, zero, suc, ◌+◌, ◌-◌, ◌≤◌, ◌<◌, suc-le-suc}
 use native.Mathlib.Nat.{not-suc-le-zero, le_of_suc-le-suc, zero-lt-suc}
+use native.Mathlib.Numerals.{add-one}
 use native.Mathlib.Decide.{dec_lt}
 use native.Mathlib.Omega.{arith}
 use borrow.Author.Tests.{le-leb, lt-leb, not-true, not-false}
 use lib.Dec.{T}
 use lib.ListN.{length, get_or, set, take, drop, length-append, length-drop, length-set, take-append-drop, drop_of_length-le}
-use lib.Seq.{take-take, take-add, drop_at, drop-drop, drop-cons, set_split, set-append_left, get_or-take, length-take-le}
+use lib.Seq.{paste, take-take, take-add, drop_at, drop-cons, set_split, set-append_left, get_or-take, length-take-le}
 use lib.Ieee.{Float, nan, eq}
 use lib.Ieee.Bits.{is_true}
 use Rattle.float.specs.Number.{total_le}
@@ -147,25 +147,9 @@ module _ (w : List Float) (n : ℕ) (v : Float) (at : ℕ) (le : n ≤ length w)
   pub full : (at < n → eq y v ≡ false) → n ≡ length w → (None ≡ put_answer w n v) × (w ≡ put_room w n v)
   full e h = none w n v G (new e) (omega (arith, new_length))
 
-  -- the places from `at` to the list's end and one more, moved up by one
-  pub moved : (ys : List Float) → n < length w
-      → ys ≡ v ∷ take (length (take (n + 1 - at) (drop at w)) - 1) (take (n + 1 - at) (drop at w)) → ys ≡ v ∷ take (n - at) (drop at w)
-  moved ys h e =
+  pub inserted : (at < n → eq y v ≡ false) → n < length w → (Some (n + 1) ≡ put_answer w n v) × (paste w at (v ∷ drop at w) (n - at + 1) ≡ put_room w n v)
+  inserted e h =
       let i = within in
-      let l = length-drop at w in
-      let b : length (take (n + 1 - at) (drop at w)) ≡ n + 1 - at = length-take-le (n + 1 - at) (drop at w) (omega arith) in
-      let d : length (take (n + 1 - at) (drop at w)) - 1 ≡ n - at = omega arith in
-      e ∙ ap (λ (r : List Float). v ∷ r) (ap (λ (j : ℕ). take j (take (n + 1 - at) (drop at w))) d ∙ take-take (n - at) (n + 1 - at) (drop at w) (omega arith))
-
-  pub inserted : (at < n → eq y v ≡ false) → n < length w → (ys : List Float)
-      → ys ≡ v ∷ take (length (take (n + 1 - at) (drop at w)) - 1) (take (n + 1 - at) (drop at w))
-      → (Some (n + 1) ≡ put_answer w n v) × (take at w ++ (ys ++ drop (n + 1 - at) (drop at w)) ≡ put_room w n v)
-  inserted e h ys m =
-      let i = within in
-      let k : at + (n + 1 - at) ≡ n + 1 = omega arith in
-      let r = fits w n v G (n + 1) (new e) new_length (omega arith) in (
-        r.0,
-        (λ j. take at w ++ (moved ys h m j ++ (drop-drop (n + 1 - at) at w ∙ ap (λ (q : ℕ). drop q w) k) j))
-            ∙ sym (append_assoc (take at w) (v ∷ take (n - at) (drop at w)) (drop (n + 1) w))
-            ∙ r.1,
-      )
+      let k : at + (n - at + 1) ≡ n + 1 = omega arith in
+      let r = fits w n v G (n + 1) (new e) new_length (omega arith) in
+      (r.0, (λ j. take at w ++ take (add-one (n - at) j) (v ∷ drop at w) ++ drop (k j) w) ∙ r.1)

@@ -1,6 +1,7 @@
 // Cuts of an interval: angles in a lent slice, sorted and with no value twice, into which one value
 // at a time is put.
-ghost use Rattle.std.specs.Prelude.{◌≡◌, ◌∷◌, ◌-◌, ◌<◌, ◌≤◌, length, take};
+ghost use Rattle.std.specs.Prelude.{◌≡◌, ◌∷◌, ◌+◌, ◌<◌, ◌≤◌, length, drop};
+ghost use Rattle.std.proofs.Math.Seq.{paste};
 ghost use Rattle.float.specs.Number as Number;
 ghost use Rattle.polynomial.specs.Promises.Insert.{passed, put_answer, put_room, Found};
 
@@ -32,14 +33,14 @@ fn find(list: &[f64], v: f64) -> usize
         .unwrap_or(list.len())
 }
 
-// Moves the values one place up, the last one out, and puts v before them.
-fn shift(places: &mut [f64], v: f64)
-    requires { 0 < length places.old }
-    ensures { places.new ≡ v ∷ take (length places.old - 1) places.old }
+// Moves `many` values from `at` one place up, and puts v before them. By places of the whole slice: where
+// it was lent the part alone, the move became a call of `memmove`, which the archive does not ask for.
+fn shift(room: &mut [f64], at: usize, many: usize, v: f64)
+    requires { at + many < length room.old }
+    ensures { room.new ≡ paste room.old at (v ∷ drop at room.old) (many + 1) }
 {
-    let last = places.len() - 1;
-    places.copy_within(..last, 1);
-    places[0] = v;
+    room.copy_within(at..at + many, at + 1);
+    room[at] = v;
 }
 
 // Puts v into the list in the first `count` places of room: the list's new length, or none where
@@ -67,6 +68,6 @@ pub fn insert(room: &mut [f64], count: usize, v: f64) -> Option<usize>
     if count == room.len() {
         return None;
     }
-    shift(&mut room[at..=count], v);
+    shift(room, at, count - at, v);
     Some(count + 1)
 }

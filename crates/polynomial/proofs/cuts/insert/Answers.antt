@@ -71,4 +71,4 @@ pub returns : goal.returns
 returns c =
     let j = c.before.before.before.before.before.before in
     let p = inserted j.args.room.now j.args.count j.args.v j.find-at.result j.requires j.find-at.ensures (fresh j)
-    (omega (arith, j.requires, c.if-count-room.false)) _ c.shift.ensures in record { value = p.0; room_after = p.1 }
+    (omega (arith, j.requires, c.if-count-room.false)) in record { value = p.0; room_after = c.shift.ensures ∙ p.1 }
