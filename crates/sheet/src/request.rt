@@ -3,6 +3,7 @@
 ghost use Rattle.std.specs.Prelude.{◌≡◌, ◌≤◌, length, drop};
 ghost use Rattle.std.proofs.lemmas.List.Edits.{sets};
 ghost use Rattle.sheet.specs.Bytes as Bytes;
+ghost use Rattle.sheet.specs.Edition.{newest};
 ghost use Rattle.sheet.specs.Request as Request;
 
 use crate::bytes::bytes_at;
@@ -179,14 +180,16 @@ fn put_fields(out: &mut [u8], view: View)
     }
 }
 
-// The request with every unread field zero.
+// The request with every unread field zero. The name is copied as an array: from slice to slice the copy
+// would be a call of `memmove`, which the archive does not ask for.
 pub(crate) fn put_blank(out: &mut [u8], view: View)
-    requires { length out.old ≡ length view.request.now }
+    requires { (length out.old ≡ length view.request.now) × (length view.request.now ≡ Request.request_size newest) }
     ensures { out.new ≡ Request.blank view.entry.request.now }
 {
     put_head(out, view);
     put_fields(out, view);
-    out[NAME..].copy_from_slice(&view.request[NAME..]);
+    let name: [u8; NAME_SIZE] = bytes_at(view.request, NAME);
+    out[NAME..].copy_from_slice(&name);
 }
 
 // Whether every unread field is zero: the request is its own blank.
