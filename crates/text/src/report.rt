@@ -8,7 +8,8 @@ use std::io;
 use std::io::Write;
 
 // Writes all of s, or says on standard error that it was not; whether all of it was written.
-// A bool, since the failure is dealt with here: an error would only be dropped by the callers.
+// A bool, since the failure is said here, and no more is known of it: callers that promise what was
+// written, as `deliver_check` of `listing`, go by the yes, and the others drop the answer.
 pub fn deliver<W: Write>(rt: &impl Eprint, to: &mut W, s: &[u8]) -> bool
     ensures { IsTrue result → Appends (W.contents to.old) (W.contents to.new) s.now }
 {

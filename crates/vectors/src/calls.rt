@@ -8,7 +8,7 @@ use sheet::check::check;
 use sheet::sample::sample;
 use text::lines::{bytes, held, word};
 
-// How many words stand before the bytes.
+// How many words stand before the bytes. A mark stays a byte, for the reason at the head of `marks.rt`.
 fn head(mark: u8) -> usize
     ensures { result ≤ 6 }
 {

@@ -40,6 +40,7 @@ fn number(mark: u8, [a, b, c, d, e, f]: [u64; 6], i: u64) -> u64 {
 pub(crate) fn agrees(mark: u8, line: &[u8]) -> Option<bool> {
     let first = from_fn(|i| word(line, i).unwrap_or(0));
     let (operands, numbers) = shape(mark);
+    // by the number, which tells `number` which of the answer's is wanted
     for i in 0..numbers {
         if number(mark, first, i as u64) != word(line, operands + i)? {
             return Some(false);
