@@ -108,12 +108,18 @@ fn placed(y: f64, x: f64, v: f64) -> f64
     0.0
 }
 
-// The angle of the point (x, y).
-#[tactic(auto, unfolding(crate::specs::Trig::atan2, crate::specs::Promises::Beside::placed))]
+// The angle of the point (x, y). The arctangent is worked out only where the angle is made of it.
+#[tactic(auto, using(crate::proofs::arc::Sides::literals), unfolding(crate::specs::Trig::atan2, crate::specs::Promises::Beside::placed))]
 pub fn atan2(y: f64, x: f64) -> f64
     ensures { result ≡ Trig.atan2 y x }
 {
-    placed(y, x, atan(y / x))
+    if y.is_nan() {
+        return placed(y, x, 0.0);
+    }
+    if x > 0.0 || x < 0.0 {
+        return placed(y, x, atan(y / x));
+    }
+    placed(y, x, 0.0)
 }
 
 // The sine of an angle from 0 to P whose cosine is x.

@@ -41,6 +41,13 @@ fn within(low: f64, x: f64) -> bool
     sized(low, x)
 }
 
+// Whether Dekker's halves serve a first operand.
+pub fn in_range(x: f64) -> bool
+    ensures { result ≡ Of.in_range Of.least x }
+{
+    within(LEAST, x)
+}
+
 // The high and the low half of x, by Dekker's split.
 fn dekker_split(x: f64) -> (f64, f64)
     ensures { (result.0 ≡ Of.high_half x) × (result.1 ≡ Of.low_half x) }
@@ -50,8 +57,30 @@ fn dekker_split(x: f64) -> (f64, f64)
     (high, x - high)
 }
 
-// An operand with its halves, by Dekker's split at 2^27 + 1, where these serve it: for one that
-// meets many others.
+// An operand with its halves, by Dekker's split at 2^27 + 1, and whether these serve it.
+#[derive(Clone, Copy)]
+pub struct HalvedOperand {
+    pub whole: f64,
+    pub high: f64,
+    pub low: f64,
+    pub fine: bool,
+}
+
+// The halves of any x, also where they do not serve.
+pub fn halved_operand(x: f64) -> HalvedOperand
+    ensures { result ≡ Of.halves x }
+{
+    let fine = within(LEAST_HALVED, x);
+    let (high, low) = dekker_split(x);
+    HalvedOperand {
+        whole: x,
+        high,
+        low,
+        fine,
+    }
+}
+
+// An operand with its halves, where these serve it: for one that meets many others.
 #[derive(Clone, Copy)]
 pub struct Halves {
     pub whole: f64,
@@ -83,7 +112,7 @@ pub fn error_by_halves(a: f64, b: Halves) -> Option<f64>
     ensures served { is_some result ≡ Of.in_range Of.least a }
     ensures value { IfSome result (λ e. e ≡ ProductError.product_error a b.whole) }
 {
-    if !within(LEAST, a) {
+    if !in_range(a) {
         return None;
     }
     let p = a * b.whole;
@@ -91,7 +120,9 @@ pub fn error_by_halves(a: f64, b: Halves) -> Option<f64>
     Some((((high * b.high - p) + high * b.low) + low * b.high) + low * b.low)
 }
 
-// a * b - p for the rounded product p = a * b, rounded.
+// a * b - p for the rounded product p = a * b, rounded. As a call it took half as long again in a loop over one b,
+// which makes the halves of b once where the body stands in it.
+#[inline]
 pub fn product_error(a: f64, b: f64) -> f64
     ensures { result ≡ ProductError.product_error a b }
 {

@@ -3,6 +3,7 @@ use Rattle.std.specs.Prelude.{◌≡◌, Bool, true, false, cond, pos, negsuc, F
 use Rattle.std.specs.Float.{fin}
 use Rattle.std.specs.Float.Ieee.{neg, lt, le, eq}
 use Rattle.float.specs.Number.{◌⊖◌, ◌⊗◌, zero_float}
+use Rattle.float.specs.declared.product_error.HalvedOperand.{HalvedOperand}
 
 -- 2 ^ 400, and the least magnitudes, 2 ^ -200 and 2 ^ -768: of an operand, and of one in its halves
 abbrev pub most : Float
@@ -31,6 +32,10 @@ high_half x = splitter ⊗ x ⊖ (splitter ⊗ x ⊖ x)
 
 abbrev pub low_half : Float → Float
 low_half x = x ⊖ high_half x
+
+-- the halves of any operand, and whether they serve it: for one that meets many others
+unfoldable pub halves : Float → HalvedOperand
+halves x = record { whole = x; high = high_half x; low = low_half x; fine = in_range least_halved x }
 
 -- these are the halves of `whole`, and they serve it
 pub record Halved (whole high low : Float) : Type 0 where

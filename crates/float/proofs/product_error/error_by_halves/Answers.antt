@@ -19,17 +19,17 @@ by_halves a g k b h l y z e s t p =
     ap₂ (λ i j. summed a i j b h l) y z ∙ ap₂ (summed a (high_half a) (low_half a) b) e.high_is e.low_is
     ∙ dekker_is_fused a b (lit≤ tt) (ranged 199 (lit≤ tt) a s p) (ranged 767 (lit≤ tt) b t e.serve)
 
-pub returns-then-not-within-clause-served : goal.returns-then-not-within-clause-served
+pub returns-then-not-in_range-clause-served : goal.returns-then-not-in_range-clause-served
 unfolding of_bits
-returns-then-not-within-clause-served c = sym c.if-not-within.true ∙ c.within.ensures
+returns-then-not-in_range-clause-served c = sym c.if-not-in_range.true ∙ c.in_range.ensures
 
 pub returns-clause-served : goal.returns-clause-served
 unfolding of_bits
-returns-clause-served c = sym c.if-not-within.false ∙ c.within.ensures
+returns-clause-served c = sym c.if-not-in_range.false ∙ c.in_range.ensures
 
 pub returns-clause-value : goal.returns-clause-value
 unfolding of_bits summed
 returns-clause-value c =
     let d = c.dekker_split-high.ensures in
     by_halves c.args.a _ _ c.args.b.whole c.args.b.high c.args.b.low d.0 d.1 c.args.b.halved (search rules) (search rules)
-    (sym c.within.ensures ∙ c.if-not-within.false)
+    (sym c.in_range.ensures ∙ c.if-not-in_range.false)
