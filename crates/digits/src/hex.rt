@@ -5,11 +5,12 @@ ghost use Rattle.digits.specs.Hex as Hex;
 
 use crate::based::put_based;
 
-// Whether a byte is a digit: 0 to 9, or A to F.
+// Whether a byte is a digit: 0 to 9, or A to F. One pattern of both ranges would branch at the first, and
+// the 16 digits of a word would not be tested at once.
 fn is_digit(b: u8) -> bool
     ensures { result ≡ Hex.is_digit b }
 {
-    matches!(b, b'0'..=b'9' | b'A'..=b'F')
+    matches!(b, b'0'..=b'9') | matches!(b, b'A'..=b'F')
 }
 
 // The value of a digit, and 0 for any other byte, as the definition has it: a word has a value whatever
@@ -25,11 +26,12 @@ fn digit(b: u8) -> u64
     }
 }
 
-// Whether all bytes are digits.
+// Whether all bytes are digits. Each is tested, so that those of a word are tested at once: `all`, which
+// stops at the first other byte, would test them one by one.
 fn are_digits(bytes: &[u8]) -> bool
     ensures { result ≡ list_all Hex.is_digit bytes.now }
 {
-    bytes.iter().all(|b| is_digit(*b))
+    bytes.iter().fold(true, |good, b| good & is_digit(*b))
 }
 
 // Whether the 16 bytes at `at` are digits. The place is a number here and in `word` and `byte`, as in the
