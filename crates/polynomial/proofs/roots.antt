@@ -3,7 +3,7 @@ mod Linear
 pub mod Kept
 mod Events
 pub mod Cycle
-mod Ways
+pub mod Ways
 mod Gathered
 mod Scanned
 mod Looked

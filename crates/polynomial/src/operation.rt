@@ -1,11 +1,12 @@
 // The operation Roots of document 01, with its refusals in 01's order.
-ghost use Rattle.std.specs.Prelude.{◌≡◌, length};
+ghost use Rattle.std.specs.Prelude.{◌≡◌, ◌≤◌, ◌^◌, length};
 ghost use Rattle.std.specs.List.{list_all};
 ghost use Rattle.polynomial.specs.Operation as Operation;
 ghost use Rattle.polynomial.specs.Roots as Roots;
 ghost use Rattle.polynomial.specs.Kinds as Kinds;
 
 use crate::bounds::Bounds;
+use crate::compensated::Compensated;
 use crate::flat;
 use crate::polynomial::Polynomial;
 use crate::refusals::Refusal;
@@ -39,19 +40,21 @@ fn parts_hold(s: &[f64]) -> bool
 }
 
 // The roots, found elsewhere first: the list may be too long for a slice. They and their kinds are two
-// slices, as C lends them.
-fn roots_apart(
+// slices, as C lends them. Not inlined, so that a call that fits has no room to make.
+#[inline(never)]
+fn roots_apart<const N: usize>(
     p: Polynomial,
     bounds: Bounds,
     res: &mut [f64],
     kinds: &mut [u8],
 ) -> Result<usize, Refusal>
+    requires { (2 ^ length p.terms.now ≤ N) × (N ≤ 512) }
     ensures value { result ≡ Operation.fitted (length (Roots.roots p.entry.terms.now bounds.lower bounds.upper)) (length res.old) (length kinds.old) }
     ensures res_after { res.new ≡ Operation.filled result (Roots.roots p.entry.terms.now bounds.lower bounds.upper) res.old }
     ensures kinds_after { kinds.new ≡ Operation.filled result (Kinds.kinds p.entry.terms.now bounds.lower bounds.upper) kinds.old }
 {
-    let mut found = [0.0; 512];
-    let mut arose = [0; 512];
+    let mut found = [0.0; N];
+    let mut arose = [0; N];
     let count = marked_roots(p, bounds, &mut found, &mut arose);
     if res.len() < count {
         return Err(Refusal::ShortResult);
@@ -62,6 +65,62 @@ fn roots_apart(
     res[..count].copy_from_slice(&found[..count]);
     kinds[..count].copy_from_slice(&arose[..count]);
     Ok(count)
+}
+
+// The roots, found in the two slices themselves where these have places for every list of so many coefficients.
+// Inlined, since as a call it took a tenth of the time of a line's root.
+#[inline(always)]
+fn roots_fitted<const N: usize>(
+    p: Polynomial,
+    bounds: Bounds,
+    res: &mut [f64],
+    kinds: &mut [u8],
+) -> Result<usize, Refusal>
+    requires { (2 ^ length p.terms.now ≤ N) × (N ≤ 512) }
+    ensures value { result ≡ Operation.fitted (length (Roots.roots p.entry.terms.now bounds.lower bounds.upper)) (length res.old) (length kinds.old) }
+    ensures res_after { res.new ≡ Operation.filled result (Roots.roots p.entry.terms.now bounds.lower bounds.upper) res.old }
+    ensures kinds_after { kinds.new ≡ Operation.filled result (Kinds.kinds p.entry.terms.now bounds.lower bounds.upper) kinds.old }
+{
+    let n = p.terms.len();
+    if 1 << n <= res.len() {
+        if 1 << n <= kinds.len() {
+            return Ok(marked_roots(p, bounds, res, kinds));
+        }
+    }
+    roots_apart::<N>(p, bounds, res, kinds)
+}
+
+// The same of coefficients as pairs. One has no root, and two are lent by themselves: a list, which nine places
+// are cleared for, took longer to make than the root to find.
+#[tactic(auto, using(crate::proofs::operation::Answers::no_root, crate::proofs::operation::Answers::no_kind), unfolding(crate::specs::Operation::pairs))]
+fn roots_of(
+    coefficients: &[f64],
+    bounds: Bounds,
+    res: &mut [f64],
+    kinds: &mut [u8],
+) -> Result<usize, Refusal>
+    requires { length coefficients.now ≤ 18 }
+    ensures value { result ≡ Operation.fitted (length (Roots.roots (Operation.pairs coefficients.now) bounds.lower bounds.upper))
+        (length res.old) (length kinds.old) }
+    ensures res_after { res.new ≡ Operation.filled result (Roots.roots (Operation.pairs coefficients.now) bounds.lower bounds.upper) res.old }
+    ensures kinds_after { kinds.new ≡ Operation.filled result (Kinds.kinds (Operation.pairs coefficients.now) bounds.lower bounds.upper) kinds.old }
+{
+    if coefficients.len() < 4 {
+        return Ok(0);
+    }
+    if let [high, low, next_high, next_low] = *coefficients {
+        let next = Compensated {
+            high: next_high,
+            low: next_low,
+        };
+        let terms = [Compensated { high, low }, next];
+        return roots_fitted::<4>(Polynomial { terms: &terms }, bounds, res, kinds);
+    }
+    let list = flat::coefficients(coefficients);
+    let p = Polynomial {
+        terms: list.as_slice(),
+    };
+    roots_fitted::<512>(p, bounds, res, kinds)
 }
 
 // The operation: the number of roots, or the first refusal. Coefficients come as pairs, constant first.
@@ -90,16 +149,5 @@ pub fn roots(
     if !parts_hold(coefficients) {
         return Err(Refusal::BadPart);
     }
-    let bounds = Bounds { lower, upper };
-    let list = flat::coefficients(coefficients);
-    let p = Polynomial {
-        terms: list.as_slice(),
-    };
-    let n = p.terms.len();
-    if 1 << n <= res.len() {
-        if 1 << n <= kinds.len() {
-            return Ok(marked_roots(p, bounds, res, kinds));
-        }
-    }
-    roots_apart(p, bounds, res, kinds)
+    roots_of(coefficients, Bounds { lower, upper }, res, kinds)
 }

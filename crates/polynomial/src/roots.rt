@@ -225,15 +225,25 @@ fn marked_curve(
     counts.roots
 }
 
+// The same with places for the partition points. Apart from `marked_roots`, so that a line's root waits for no
+// room of theirs.
+#[inline(never)]
+fn marked_by_degree(p: Polynomial, bounds: Bounds, out: &mut [f64], kinds: &mut [u8]) -> usize
+    requires { (2 < length p.terms.now) × (2 ^ length p.terms.now ≤ length out.old) × (2 ^ length p.terms.now ≤ length kinds.old) }
+    ensures value { Front (found p.entry.terms.now (points_of p.entry.terms.now bounds.lower bounds.upper)) out.old result out.new }
+    ensures kinds_after { kinds.new ≡ kinds_of (Roots.touches p.entry.terms.now (points_of p.entry.terms.now bounds.lower bounds.upper))
+        (found p.entry.terms.now (points_of p.entry.terms.now bounds.lower bounds.upper)) ++ drop result kinds.old }
+{
+    match p.terms.len() {
+        0..=5 => marked_curve(p, bounds, &mut [0.0; 32], out, kinds),
+        _ => marked_curve(p, bounds, &mut [0.0; 512], out, kinds),
+    }
+}
+
 // As `roots`, with the kinds of the roots in the first places of kinds. A line's root is no partition
 // point, and so a crossing. The arms are those of `roots`, which stands in a cycle of calls: one function
 // for both would need a trait for what is done with the touches, with clauses of its own in that cycle.
-pub(crate) fn marked_roots(
-    p: Polynomial,
-    bounds: Bounds,
-    out: &mut [f64],
-    kinds: &mut [u8],
-) -> usize
+pub fn marked_roots(p: Polynomial, bounds: Bounds, out: &mut [f64], kinds: &mut [u8]) -> usize
     requires { (2 ^ length p.terms.now ≤ length out.old) × (2 ^ length p.terms.now ≤ length kinds.old) }
     ensures value { Front (Roots.roots p.entry.terms.now bounds.lower bounds.upper) out.old result out.new }
     ensures kinds_after { kinds.new ≡ Kinds.kinds p.entry.terms.now bounds.lower bounds.upper ++ drop result kinds.old }
@@ -246,7 +256,6 @@ pub(crate) fn marked_roots(
             mark(&[], &out[..count], kinds);
             count
         }
-        3..=5 => marked_curve(left, bounds, &mut [0.0; 32], out, kinds),
-        _ => marked_curve(left, bounds, &mut [0.0; 512], out, kinds),
+        _ => marked_by_degree(left, bounds, out, kinds),
     }
 }

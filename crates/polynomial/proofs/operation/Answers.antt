@@ -2,14 +2,17 @@
 use Prim.Native.Nat.{ℕ, ◌*◌, ◌%◌, ◌^◌, ◌≤◌, ◌<◌}
 use native.Mathlib.Nat.{le_refl}
 use native.Mathlib.Omega.{arith}
-use mathlib.Core.Path.{◌≡◌, sym}
+use mathlib.Core.Path.{◌≡◌, refl, sym}
 use mathlib.Core.Bool.{true, false}
-use mathlib.Core.List.{List}
+use mathlib.Core.List.{List, [], ◌∷◌}
 use lib.ListN.{length}
 use lib.Pow.{pow_mono}
 use lib.Ieee.{Float}
 use borrow.Author.Tests.{lt-ltb, le-ltb, le-leb, eq-eqb, ne_eqb}
 use Rattle.polynomial.specs.Roots.{roots}
+use Rattle.polynomial.specs.Kinds.{kinds}
+use Rattle.polynomial.specs.Promises.Inside.{counting_of}
+use Rattle.polynomial.proofs.roots.Ways.{no_longer, none, no_kinds}
 use Rattle.polynomial.specs.Laws.Enclosed.{all_most}
 use Rattle.polynomial.specs.declared.compensated.Compensated.{Compensated}
 use Rattle.polynomial.specs.Operation.{pairs, bounds_hold, parts_hold, fitted, answer}
@@ -51,3 +54,22 @@ enough_room p lo hi k room h t e =
 -- an answer for k roots, by the two tests
 pub counted : (k room bytes : ℕ) → k ≤ room → k ≤ bytes → Ok k ≡ fitted k room bytes
 counted k room bytes g h = sym (simp (le-leb k room g, le-leb k bytes h))
+
+-- fewer than four numbers are one coefficient at most, which has no root
+few_pairs : (s : List Float) → length s < 4 → length (pairs s) < 2
+unfolding pairs
+few_pairs [] h = omega arith
+few_pairs (a ∷ []) h = omega arith
+few_pairs (a ∷ (b ∷ [])) h = omega arith
+few_pairs (a ∷ (b ∷ (c ∷ []))) h = omega arith
+few_pairs (a ∷ (b ∷ (c ∷ (d ∷ s)))) h = absurd (omega (arith, h))
+
+module _ (s : List Float) (lo hi : Float) (h : length s < 4) where
+  few : length (counting_of (pairs s)) < 2
+  few = omega (arith, no_longer (pairs s) (counting_of (pairs s)) lo hi refl, few_pairs s h)
+
+  pub no_root : roots (pairs s) lo hi ≡ []
+  no_root = none (pairs s) (counting_of (pairs s)) lo hi refl few
+
+  pub no_kind : kinds (pairs s) lo hi ≡ []
+  no_kind = no_kinds (pairs s) (counting_of (pairs s)) lo hi refl few

@@ -1,10 +1,9 @@
 -- `polynomial::roots::marked_roots` meets its contract.
-use Rattle.std.proofs.Common.{◌^◌, ◌≤◌, ◌++◌, drop, length, arith, le_refl, refl, sym, ap, ◌∙◌}
-use lib.Pow.{pow_mono}
+use Rattle.std.proofs.Common.{◌++◌, drop, length, arith, le_refl, refl, sym, ap, ◌∙◌}
 use Rattle.polynomial.specs.Laws.Enclosed.{all_most}
 use Rattle.polynomial.proofs.kinds.Marks.{marked_as}
 use Rattle.polynomial.proofs.roots.Kept.{front_take}
-use Rattle.polynomial.proofs.roots.Ways.{no_longer, fits, none_front, no_kinds, line_front, line_kinds, more_front, more_kinds}
+use Rattle.polynomial.proofs.roots.Ways.{fits, none_front, no_kinds, line_front, line_kinds, more_front, more_kinds}
 use Rattle.polynomial.proofs.roots.marked_roots.Goals as goal
 
 pub returns-in-0 : goal.returns-in-0
@@ -38,36 +37,13 @@ returns-in-2 c =
           (sym (line_kinds p _ b.lower b.upper c.counting-left.ensures (omega arith) c.in-2.is));
     }
 
-pub marked_curve-requires : goal.marked_curve-requires
-marked_curve-requires c =
+pub marked_by_degree-requires : goal.marked_by_degree-requires
+marked_by_degree-requires c =
     let p = c.args.p.terms.now in
     let q = c.counting-left.result.terms.now in
     let b = c.args.bounds in
     let e = c.counting-left.ensures in
-    let l = no_longer p q b.lower b.upper e in
-    let w : 2 ^ length q ≤ 2 ^ 5 = pow_mono {i = length q} {j = 5} (omega arith) in
-    (omega arith, omega arith, fits p q b.lower b.upper e _ c.requires.0, fits p q b.lower b.upper e _ c.requires.1)
-
-pub returns-in-3-to-5 : goal.returns-in-3-to-5
-returns-in-3-to-5 c =
-    let p = c.args.p.terms.now in
-    let b = c.args.bounds in
-    let e = c.counting-left.ensures in
-    record {
-      value = more_front p _ b.lower b.upper e (omega arith) (omega arith) _ _ _ c.marked_curve.ensures.value;
-      kinds_after = c.marked_curve.ensures.kinds_after
-          ∙ ap (λ l. l ++ drop c.marked_curve.result c.args.kinds.now) (sym (more_kinds p _ b.lower b.upper e (omega arith) (omega arith)));
-    }
-
-pub marked_curve-requires-in_default : goal.marked_curve-requires-in_default
-marked_curve-requires-in_default c =
-    let p = c.args.p.terms.now in
-    let q = c.counting-left.result.terms.now in
-    let b = c.args.bounds in
-    let e = c.counting-left.ensures in
-    let l = no_longer p q b.lower b.upper e in
-    let w : 2 ^ length q ≤ 2 ^ 9 = pow_mono {i = length q} {j = 9} (omega arith) in
-    (omega arith, omega arith, fits p q b.lower b.upper e _ c.requires.0, fits p q b.lower b.upper e _ c.requires.1)
+    (omega arith, fits p q b.lower b.upper e _ c.requires.0, fits p q b.lower b.upper e _ c.requires.1)
 
 pub returns-in_default : goal.returns-in_default
 returns-in_default c =
@@ -75,7 +51,7 @@ returns-in_default c =
     let b = c.args.bounds in
     let e = c.counting-left.ensures in
     record {
-      value = more_front p _ b.lower b.upper e (omega arith) (omega arith) _ _ _ c.marked_curve-in_default.ensures.value;
-      kinds_after = c.marked_curve-in_default.ensures.kinds_after
-          ∙ ap (λ l. l ++ drop c.marked_curve-in_default.result c.args.kinds.now) (sym (more_kinds p _ b.lower b.upper e (omega arith) (omega arith)));
+      value = more_front p _ b.lower b.upper e (omega arith) (omega arith) _ _ _ c.marked_by_degree.ensures.value;
+      kinds_after = c.marked_by_degree.ensures.kinds_after
+          ∙ ap (λ l. l ++ drop c.marked_by_degree.result c.args.kinds.now) (sym (more_kinds p _ b.lower b.upper e (omega arith) (omega arith)));
     }
