@@ -28,7 +28,8 @@ pub struct Pending {
     pub ratio: f64,
 }
 
-// Defers where the polynomial equals the target.
+// Defers where the polynomial equals the target. What is needed is written in any case, and counted where
+// there is an answer: nothing that is written waits for the test.
 pub(crate) fn defer(t: Trig, target: f64, deferred: &mut Deferred)
     requires { array_vec_len deferred.old < CROSSINGS }
     ensures items { Of.Defers deferred.old (Continuum.roots t target) deferred.new }
@@ -36,12 +37,13 @@ pub(crate) fn defer(t: Trig, target: f64, deferred: &mut Deferred)
 {
     let radius = hypot(t.cosine, t.sine);
     let ratio = clamp(-(t.constant - target) / radius);
-    if t.meets(radius, target) {
-        deferred.push(Pending {
-            sine: t.sine,
-            cosine: t.cosine,
-            ratio,
-        });
+    deferred.push(Pending {
+        sine: t.sine,
+        cosine: t.cosine,
+        ratio,
+    });
+    if !t.meets(radius, target) {
+        deferred.pop();
     }
 }
 

@@ -29,7 +29,7 @@ impl<'a> Planned<'a> {
     {
         Angles {
             planned: self,
-            cursor: stream::start(),
+            cursor: start(),
         }
     }
 
@@ -78,6 +78,22 @@ fn next_slice(work: &[f64], h: Halves, c: Cursor) -> Step
     let first = h.first;
     let end = first + h.second;
     stream::next(&work[..first], &work[first..end], h.reference, c)
+}
+
+// The cursor before the first angle of a plan.
+pub fn start() -> Cursor
+    ensures { result ≡ start }
+{
+    stream::start()
+}
+
+// The angle of a plan at any cursor, read off the cuts in work, and the cursor behind it: for one who kept a
+// cursor and goes on there. `Angles` does the same from the first on.
+pub fn next(work: &[f64], plan: Plan, c: Cursor) -> Step
+    requires { Ready plan work.now }
+    ensures { result ≡ Of.step plan work.now c }
+{
+    Planned { work, plan }.step(c)
 }
 
 // The angles that are still to come, one at a time, read off the cuts in work.

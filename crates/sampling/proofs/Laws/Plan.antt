@@ -1,8 +1,8 @@
 -- Laws of a job's plan, for upper crates: where it is laid, the angles that are read off work are the job's, and
 -- they depend on its front alone; how many samples three lists give; a step is the next of them.
-use Rattle.std.specs.Prelude.{Option, None, Some, ◌≡◌, Bool, not, ℕ, zero, suc, ◌+◌, ◌≤◌, ◌<◌, T, leb, take, drop, get_or, slice_get, Float}
+use Rattle.std.specs.Prelude.{Option, None, Some, IfSome, ◌≡◌, Bool, not, ℕ, zero, suc, ◌+◌, ◌≤◌, ◌<◌, T, leb, take, drop, get_or, slice_get, Float}
 use Rattle.std.proofs.Math.Path.{refl}
-use Rattle.std.proofs.Common.{sym, ap, ap₂, subst, ◌∙◌, add-zero, zero-add, suc-add, add-one, arith, length-append}
+use Rattle.std.proofs.Common.{sym, ap, ap₂, subst, ◌∙◌, add-zero, zero-add, suc-add, add-one, arith, le-leb, length-append}
 use Rattle.std.proofs.Common.{length-drop, drop_of_length-le, length-take-le, drop-cons, take_at, drop_at, take-take}
 use Rattle.std.proofs.Math.Bool.{true, false, cond}
 use mathlib.Core.List.{List, [], ◌∷◌, ◌++◌, append_assoc}
@@ -239,6 +239,21 @@ module _ (w : List Float) where
       pub plan_yields : to_come p (work_after job w) start ≡ angles job
       plan_yields = let h = laid_of job w p e in rw (h.0, h.1) job_drawn.yields
 
+    -- THEOREM: Whatever came of the cuts, its angles can be asked.
+    pub places_ready : IfSome (plan job (length w)) (λ p. Ready p (work_after job w))
+    unfolding plan work_after
+    places_ready = go (leb (cut_count job) (length w))
+      where
+        go : (t : Bool) → IfSome (cond t (Some (laid job)) None)
+            (λ p. Ready p (where_laid (cond t (Some (laid job)) None) (all_cuts job ++ drop (cut_count job) w) (zeros (length w))))
+        go false = tt
+        go true = job_drawn.ready
+
+    -- THEOREM: Where there are places, there is a plan, and the angles read off work are the job's.
+    pub places_yield : cut_count job ≤ length w → option_map (λ p. to_come p (work_after job w) start) (plan job (length w)) ≡ Some (angles job)
+    unfolding plan work_after
+    places_yield room = rw (le-leb (cut_count job) (length w) room) (ap Some job_drawn.yields)
+
 -- ---- how many places the cuts take
 
 folded_filled : (t : Folded) → filled (folded_plan t) ≡ J1j2free.cut_count t
@@ -273,6 +288,11 @@ plan_filled job places p e = go (leb (cut_count job) places) e
     go : (t : Bool) → cond t (Some (laid job)) None ≡ Some p → filled p ≡ cut_count job
     go false e = absurd (none-some p e)
     go true e = ap filled (same_plan e) ∙ laid_filled job
+
+-- THEOREM: Where there are places, the plan takes as many as the cuts counted.
+pub places_filled : (job : Job) (places : ℕ) → cut_count job ≤ places → option_map filled (plan job places) ≡ Some (cut_count job)
+unfolding plan
+places_filled job places room = rw (le-leb (cut_count job) places room) (ap Some (laid_filled job))
 
 -- ---- the front alone counts
 
