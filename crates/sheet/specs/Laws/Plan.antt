@@ -4,6 +4,7 @@ use Rattle.std.proofs.Common.{arith, sym, subst, ◌∙◌, inl, inr, leb-true, 
 use Rattle.std.proofs.Math.Path.{ap}
 use Rattle.std.proofs.Math.Bool.{true, false}
 use Rattle.std.proofs.lemmas.Bool.{false≢true}
+use Rattle.std.specs.Option.{option_map}
 use Rattle.std.specs.Float.Ieee.{neg, le, fits, binary64}
 use Rattle.std.specs.Float.Ieee.Scale.{finite}
 use Rattle.std.specs.Float.Ieee.Bits.{of_bits-fits}
@@ -18,7 +19,7 @@ use Rattle.sampling.specs.Reads.{joint_read, reference_read}
 use Rattle.sampling.specs.Promises.Stream.{Step, start}
 use Rattle.sampling.specs.Promises.Plan.{Moderate, Drawable, by_plan, plan, work_after, to_come, Ready, Gives, step}
 use Rattle.sampling.proofs.Laws.Charts.{moderate_drawable}
-use Rattle.sampling.proofs.Laws.Plan.{plan_by, plan_ready, plan_yields, step_gives}
+use Rattle.sampling.proofs.Laws.Plan.{plan_by, plan_ready, plan_yields, places_ready, places_yield, step_gives}
 use Rattle.sampling.specs.declared.stream.Cursor.{Cursor}
 use Rattle.sampling.specs.declared.lists.Plan.{Plan}
 use Rattle.sampling.specs.Angles as Angles
@@ -39,7 +40,7 @@ use Rattle.sheet.specs.Sampling.{angles, items, cut_count, by_work, answer}
 use Rattle.sheet.specs.Check.{is_accepted, meets_none}
 use Rattle.sheet.specs.Promises.Floats.{floats_bytes}
 use Rattle.sheet.specs.Promises.Tested.{tested, Passed}
-use Rattle.sheet.specs.Promises.Plan.{PlannedFor, work_tested, work_left, planned_answer}
+use Rattle.sheet.specs.Promises.Plan.{PlannedFor, CameOf, work_tested, work_left, planned_answer}
 use Rattle.sheet.specs.Laws.Bytes.{floats_words}
 use Rattle.sheet.specs.Laws.Sampling.{length_items}
 use Rattle.sheet.specs.Laws.Tested.{passed_validate, tested_refused, passed_reference, passed_offset}
@@ -118,6 +119,47 @@ module _ {e : Edition} (r : List ℕ) (g : Passed e r) where
             room = leb-true (cut_count r) (length w) (fits_by true (ap (λ (o : Option Plan). by_plan o false true) f));
             yields = rw b (plan_yields v (job_of r) reference_fits passed_moderate p (sym a ∙ f));
           }
+
+    -- THEOREM: Of a request that passed its tests comes its plan, or none where there are too few places.
+    pub came_of : CameOf r s w
+    unfolding cut_count angles
+    came_of =
+        record {
+          made = a ∙ ap (plan (job_of r)) (sym l);
+          ready = rw (a, b) (places_ready v (job_of r) reference_fits passed_moderate);
+          yields = λ k. rw (a, b) (places_yield v (job_of r) reference_fits passed_moderate (omega (arith, l)));
+        }
+
+-- ---- 10, by what came
+
+module _ (r : List ℕ) (s : Option Plan) (w : List Float) (g : CameOf r s w) where
+  -- THEOREM: There is no plan exactly where there are fewer places than cuts.
+  pub came_short : by_plan s true false ≡ cond (leb (cut_count r) (length w)) false true
+  unfolding cut_count
+  came_short = ap (λ (o : Option Plan). by_plan o true false) g.made ∙ plan_by true false (job_of r) (length w)
+
+  short_by : (t : Bool) → by_plan s true false ≡ t → leb (cut_count r) (length w) ≡ cond t false true
+  short_by t e = go (leb (cut_count r) (length w)) (sym came_short ∙ e)
+    where
+      go : (u : Bool) → cond u false true ≡ t → u ≡ cond t false true
+      go true h = ap (λ (k : Bool). cond k false true) h
+      go false h = ap (λ (k : Bool). cond k false true) h
+
+  pub came_none : s ≡ None → leb (cut_count r) (length w) ≡ false
+  came_none e = short_by true (ap (λ (o : Option Plan). by_plan o true false) e)
+
+  module _ (p : Plan) (f : s ≡ Some p) where
+    pub came_some : leb (cut_count r) (length w) ≡ true
+    came_some = short_by false (ap (λ (o : Option Plan). by_plan o true false) f)
+
+    pub came_angles : to_come p w start ≡ angles r
+    came_angles = same (ap (option_map (λ q. to_come q w start)) (sym f) ∙ g.yields (leb-true (cut_count r) (length w) came_some))
+      where
+        same : {x y : List Float} → ◌≡◌ {A = Option (List Float)} (Some x) (Some y) → x ≡ y
+        same h = cc
+
+    pub came_planned : PlannedFor r p w
+    came_planned = record { room = leb-true (cut_count r) (length w) came_some; yields = came_angles }
 
 -- ---- 10
 

@@ -1,7 +1,8 @@
 -- What inner functions of Sampling and Check promise one another of a request's plan. Definitions only; `Laws.Plan` joins them to `Sampling` and `Check`.
-use Rattle.std.specs.Prelude.{ℕ, ◌+◌, ◌≤◌, ◌≡◌, cond, List, length, leb, Float, Result, Ok, Err, Option, Some, None}
+use Rattle.std.specs.Prelude.{ℕ, ◌+◌, ◌≤◌, ◌≡◌, cond, List, length, leb, Float, Result, Ok, Err, Option, Some, None, IfSome}
+use Rattle.std.specs.Option.{option_map}
 use Rattle.sampling.specs.Promises.Stream.{start}
-use Rattle.sampling.specs.Promises.Plan.{work_after, to_come}
+use Rattle.sampling.specs.Promises.Plan.{plan, work_after, Ready, to_come}
 use Rattle.sampling.specs.declared.lists.Plan.{Plan}
 use Rattle.sheet.specs.Bytes.{words_bytes, same_bytes}
 use Rattle.sheet.specs.Fields.{job_of}
@@ -20,6 +21,12 @@ use Rattle.sampling.specs.declared.pose.Quaternion.{Quaternion}
 pub record PlannedFor (r : List ℕ) (p : Plan) (w : List Float) : Type 0 where
   pub room : cut_count r ≤ length w
   pub yields : to_come p w start ≡ angles r
+
+-- what comes of a request that passed its tests, a plan or none: it is the job's, its angles can be asked, and where there are places they are the request's
+pub record CameOf (r : List ℕ) (s : Option Plan) (w : List Float) : Type 0 where
+  pub made : s ≡ plan (job_of r) (length w)
+  pub ready : IfSome s (λ p. Ready p w)
+  pub yields : cut_count r ≤ length w → option_map (λ p. to_come p w start) s ≡ Some (angles r)
 
 -- what work holds before it is cleared: what the plan leaves of a request that passed its tests, else what it held
 abbrev pub work_tested : Result Quaternion Refusal → List ℕ → List Float → List Float
