@@ -1,5 +1,6 @@
 // The operation Page: a page of a checked sheet's angles as text.
 ghost use Rattle.std.specs.Prelude.{◌≡◌, ◌&&◌, ◌+◌, ◌*◌, ◌≤◌, leb, length};
+ghost use Rattle.std.proofs.lemmas.List.Edits.{sets};
 ghost use Rattle.sheet.specs.Bytes as Bytes;
 ghost use Rattle.page.specs.Page as Page;
 ghost use Rattle.page.specs.Operation as Operation;
@@ -14,6 +15,13 @@ use sheet::trailer::TRAILER;
 // The angles of a page; on the last stand those that remain.
 pub const PER_PAGE: usize = 60;
 
+// How many pages n angles take; without angles there is one.
+pub fn pages(n: usize) -> usize
+    ensures { result ≡ Page.pages n }
+{
+    n.div_ceil(PER_PAGE).max(1)
+}
+
 // A checked sheet, and how many angles it lists.
 #[derive(Clone, Copy)]
 pub struct Paged<'a> {
@@ -27,7 +35,7 @@ impl<'a> Paged<'a> {
     pub fn pages(self) -> usize
         ensures { result ≡ Page.pages self.entry.n }
     {
-        self.n.div_ceil(PER_PAGE).max(1)
+        pages(self.n)
     }
 
     // Whether there is a page of this number.
@@ -81,6 +89,18 @@ impl<'a> Paged<'a> {
         self.put_page(&mut text[..size], k);
         Ok(size)
     }
+}
+
+// Page k of a checked sheet with n angles, from `at` on in a text that may be longer.
+#[tactic(auto, using(crate::proofs::Answers::text_placed))]
+pub fn put_page(text: &mut [u8], at: usize, sheet: &[u8], n: usize, k: usize)
+    requires paged { Sheets.Paged sheet.now n }
+    requires le_k { (1 ≤ k) × (k ≤ Page.pages n) × (at + (65 + 65 * Sheets.angles_on n k) ≤ length text.old) }
+    ensures { text.new ≡ sets text.old at (Operation.text sheet.now k) }
+{
+    let paged = Paged { sheet, n };
+    let end = at + (LINE + LINE * paged.angles_on(k));
+    paged.put_page(&mut text[at..end], k);
 }
 
 // The operation Page: how many bytes the text has, or the first refusal. After every answer each work place is +0.0.
