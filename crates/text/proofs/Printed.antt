@@ -4,6 +4,7 @@ use Rattle.std.specs.Prelude.{List, ◌++◌, Ok, Err, OnOk}
 use Rattle.std.specs.declared.option.Option.{Option}
 use Rattle.std.specs.declared.result.Result.{Result}
 use Rattle.std.specs.Fmt.{decimal}
+use Rattle.std.specs.Result.{result_and}
 use Rattle.std.specs.Io.KnownBytes.{Appends}
 use Rattle.std.proofs.KnownBytes.{Appends-trans}
 use Rattle.std.proofs.lemmas.Fmt.{decimal_digit, decimal_step}
@@ -21,8 +22,9 @@ figures_are (suc most) n l h =
 pub whole_is_decimal : (n : ℕ) → n < 2 ^ 64 → whole n ≡ decimal n
 whole_is_decimal n h = figures_are n n (omega arith) h
 
--- a last write behind what was written
-pub written : {T E : Type 0} (a b c : Option (List ℕ)) (r : Result T E) (front rest all : List ℕ)
-    → Appends a b front → all ≡ front ++ rest → OnOk r (Appends b c rest) → OnOk r (Appends a c all)
-written a b c (Ok x) front rest all h e w = rw e (Appends-trans a b c front rest h w)
-written a b c (Err x) front rest all h e w = tt
+-- two writes, one after the other, of which the answer is yes where both were made
+pub chained : {T U E : Type 0} (a b c : Option (List ℕ)) (r : Result T E) (s : Result U E) (front rest all : List ℕ)
+    → OnOk r (Appends a b front) → OnOk s (Appends b c rest) → all ≡ front ++ rest → OnOk (result_and r s) (Appends a c all)
+chained a b c (Ok x) (Ok y) front rest all h w e = rw e (Appends-trans a b c front rest h w)
+chained a b c (Ok x) (Err y) front rest all h w e = tt
+chained a b c (Err x) s front rest all h w e = tt

@@ -66,8 +66,8 @@ pub fn held(w: u64, most: usize) -> Option<usize>
 }
 
 // The bytes of k words whose digits stand from `at` on, 17 bytes apart, eight to a word, in out.
-// The place is a number, as in the definition.
-fn spell(line: &[u8], at: usize, k: usize, out: &mut [u8])
+// The place is a number, as in the definition. It answers always; `bytes` asks whether the words are there.
+pub fn spell(line: &[u8], at: usize, k: usize, out: &mut [u8])
     requires { (0 < k → at + 17 * k ≤ length line.now) × (length out.old ≤ 8 * k) }
     ensures { out.new ≡ sets out.old 0 (Lines.bytes line.now at 0 (length out.old)) }
 {

@@ -29,12 +29,16 @@ pub struct Tally {
     pub unread: usize,
 }
 
-// A name, a space and a number in decimal, and the line's end.
+// A name, a space and a number in decimal, and the line's end. Where a part is not written, those behind it
+// are tried all the same.
 pub fn number<W: Write>(to: &mut W, name: &[u8], n: u64) -> io::Result<()>
     ensures { OnOk result (Appends (W.contents to.old) (W.contents to.new) (Numbered.numbered (name.now ++ (32 ∷ [])) n)) }
 {
-    to.write_all(name)?;
-    writeln!(to, " {n}")
+    let named = to.write_all(name);
+    let parted = to.write_all(b" ");
+    let counted = write!(to, "{n}");
+    let ended = to.write_all(b"\n");
+    named.and(parted).and(counted).and(ended)
 }
 
 // A name, its samples and how many of them differ, in a line.
@@ -42,14 +46,18 @@ pub fn samples<W: Write>(to: &mut W, name: &[u8], t: Tally) -> io::Result<()>
     ensures { OnOk result (Appends (W.contents to.old) (W.contents to.new)
         (Numbered.numbered (name.now ++ (32 ∷ []) ++ Decimal.whole t.samples ++ (32 ∷ [])) t.differing)) }
 {
-    to.write_all(name)?;
-    writeln!(to, " {} {}", t.samples, t.differing)
+    let named = to.write_all(name);
+    let parted = to.write_all(b" ");
+    let counted = write!(to, "{}", t.samples);
+    named
+        .and(parted)
+        .and(counted)
+        .and(number(to, b"", t.differing))
 }
 
 // The bytes of the input that are no sample, in a line.
-#[tactic(auto, using(crate::proofs::Printed::whole_is_decimal))]
 pub fn unread<W: Write>(to: &mut W, n: usize) -> io::Result<()>
     ensures { OnOk result (Appends (W.contents to.old) (W.contents to.new) (Numbered.numbered (codes "unread ") n)) }
 {
-    writeln!(to, "unread {n}")
+    number(to, b"unread", n as u64)
 }

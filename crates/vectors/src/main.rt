@@ -105,21 +105,23 @@ fn counted(s: &[u8], mark: u8) -> Tally {
     }
 }
 
-// Prints a line for each mark, and the bytes from the first line on that is no sample.
+// Prints a line for each mark, and the bytes from the first line on that is no sample. Where one is not
+// written, those behind it are tried all the same.
 fn replay<W: Write>(to: &mut W, s: &[u8]) -> io::Result<()> {
     let mut rest = s.len();
+    let mut written = Ok(());
     for (mark, name) in &NAMES {
         let tally = counted(s, *mark);
-        text::report::samples(to, name.as_bytes(), tally)?;
+        written = written.and(text::report::samples(to, name.as_bytes(), tally));
         rest = tally.unread;
     }
-    text::report::unread(to, rest)
+    written.and(text::report::unread(to, rest))
 }
 
 fn main(rt: HostRuntime) {
     let mut text = text::lines::room();
     with_input(&rt, &mut text, |input| {
-        // Output that cannot be written is cut short, which its reader sees.
+        // Output that cannot be written has gaps, which its reader sees.
         let _ = replay(&mut rt.stdout(), input);
     });
 }

@@ -6,13 +6,13 @@ use page::decimal::decimal_text;
 use page::page::page_text;
 use text::lines::{bytes, held, word};
 
-// Whether the float of a line shows the 16 bytes of its two other words.
+// Whether the float of a line shows the 16 bytes of its two other words, by their digests, as a page does.
 pub(crate) fn decimal_agrees(line: &[u8]) -> Option<bool> {
     let mut stored = [0; 16];
     bytes(line, 1, &mut stored)?;
     let mut text = [165; 16];
     let found = number(decimal_text(of_bits(word(line, 0)?), &mut text));
-    Some(found == 16 && text == stored)
+    Some(found == 16 && digest(&text) == digest(&stored))
 }
 
 // Whether Page answers as a line says, with the digest of the text that it says.

@@ -1,7 +1,11 @@
-use Rattle.std.proofs.Common.{append_assoc, arith}
-use Rattle.text.proofs.Printed.{whole_is_decimal, written}
+use Rattle.std.proofs.Common.{append_assoc, arith, refl, ◌∙◌, sym}
+use Rattle.text.proofs.Printed.{whole_is_decimal, chained}
 use Rattle.text.proofs.report.number.Goals as goal
 
 pub returns : goal.returns
-returns g c = written _ _ _ c.writeln.result c.args.name.now _ _ c.in_ok-write_all.ensures.bytes
-    (rw (whole_is_decimal c.args.n (omega arith)) (simp append_assoc)) c.writeln.ensures.bytes
+returns g c =
+    rw (c.and-3.ensures, c.and-2.ensures, c.and.ensures, whole_is_decimal c.args.n (omega arith))
+    (chained _ _ _ _ _ _ _ _
+    (chained _ _ _ _ _ _ _ _ (chained _ _ _ _ _ _ _ _ c.write_all-named.ensures.bytes c.write_all-parted.ensures.bytes refl)
+    c.write-counted.ensures.bytes refl)
+    c.write_all-ended.ensures.bytes (simp append_assoc))
