@@ -1,9 +1,9 @@
 -- A line that begins at a place of s is a line with which what stands from there on begins.
-use Rattle.std.specs.Prelude.{ℕ, zero, suc, ◌+◌, ◌*◌, ◌≤◌, ◌≡◌, refl, Bool, true, false, ◌&&◌, List, leb, eqb, drop, length, get_or}
-use Rattle.std.proofs.Common.{arith, ap, ap₂, sym, ◌∙◌, length-drop, leb-true, leb-false, le-leb}
+use Rattle.std.specs.Prelude.{ℕ, zero, suc, ◌+◌, ◌*◌, ◌≤◌, ◌≡◌, refl, Bool, true, false, List, leb, drop, length, get_or}
+use Rattle.std.proofs.Common.{arith, ap, ◌∙◌, length-drop, leb-true, leb-false, le-leb}
 use Rattle.std.proofs.lemmas.Bool.{lt-leb}
 use Rattle.std.proofs.lemmas.List.{get_or-drop}
-use Rattle.digits.specs.Hex.{digits, is_digit}
+use Rattle.digits.specs.Hex.{digits}
 use Rattle.text.specs.Lines.{are_words, is_line}
 
 byte_from : (s : List ℕ) (at i j : ℕ) → at + i ≡ j → get_or (drop at s) i 0 ≡ get_or s j 0

@@ -1,4 +1,4 @@
-use Rattle.std.proofs.Common.{append_assoc, arith, refl, ◌∙◌, sym}
+use Rattle.std.proofs.Common.{append_assoc, arith, refl}
 use Rattle.text.proofs.Printed.{whole_is_decimal, chained}
 use Rattle.text.proofs.report.number.Goals as goal
 
